@@ -1,0 +1,2 @@
+mod Digit
+mod Exponent
