@@ -1,8 +1,7 @@
 -- The ground operations, in the order of the rules. Each + - * / rounds once, in the written order, left to right; the format is the first argument of each.
-use Prim.Native.Nat.{ℕ, _-_}
+use Prim.Native.Nat.{ℕ}
 use mathlib.Core.Bool.{Bool, true, false, _&&_, _||_, cond}
-use lib.IntN.{negsuc}
-use lib.Ieee.{Float, nan, inf, fin, Format, binary32, binary64, prec, hid, ones, ofBits, add, sub, mul, div, neg, lt, le, isNan}
+use lib.Ieee.{Float, nan, inf, fin, Format, binary32, binary64, ofBits, add, sub, mul, div, neg, lt, le, isNan}
 use Rattle.model.specs.declared.Vector.{Vector}
 use Rattle.model.specs.declared.Rotation.{Rotation}
 use Rattle.model.specs.declared.Pose.{Pose}
@@ -53,7 +52,7 @@ module _ (f : Format) where
 
   -- one step of the format at 1: 2 ^ -23, or 2 ^ -52
   abbrev pub epsilon : Float
-  epsilon = fin false 1 (negsuc (prec f - 2))
+  epsilon = constant f 0x3400_0000 0x3cb0_0000_0000_0000
 
   abbrev pub origin : Vector
   origin = vector zero zero

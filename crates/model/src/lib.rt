@@ -26,3 +26,93 @@ pub struct Sweep {
     pub q1: Rotation,
     pub q2: Rotation,
 }
+
+// One corner pair of a simplex: the corner of A, the posed corner of B, their difference, its weight and the two indices.
+pub struct SimplexVertex {
+    pub wa: Vector,
+    pub wb: Vector,
+    pub w: Vector,
+    pub a: f32,
+    pub index_a: u32,
+    pub index_b: u32,
+}
+
+// What a solver leaves: the simplex, how many of its slots count, and the direction to search next.
+pub struct Solved {
+    pub simplex: [SimplexVertex; 3],
+    pub count: usize,
+    pub direction: Vector,
+}
+
+// The corner pairs from which the next distance call starts: the first count entries.
+pub struct SimplexCache {
+    pub count: u8,
+    pub index_a: [u32; 3],
+    pub index_b: [u32; 3],
+}
+
+// How a distance call ends.
+pub enum Ending {
+    Touching,
+    Settled,
+    RoundLimit,
+}
+
+// The state in which the rounds of a distance call end.
+pub struct Rounds {
+    pub ending: Ending,
+    pub simplex: [SimplexVertex; 3],
+    pub count: usize,
+    pub direction: Vector,
+    pub iterations: u32,
+}
+
+// The two points that a simplex names, by its weights.
+pub struct WitnessPoints {
+    pub a: Vector,
+    pub b: Vector,
+}
+
+// What a distance call measures, in the frame of A.
+pub struct ProxyDistanceOutput {
+    pub point_a: Vector,
+    pub point_b: Vector,
+    pub normal: Vector,
+    pub distance: f32,
+    pub iterations: u32,
+    pub ending: Ending,
+}
+
+// A measurement, and the cache as it leaves it.
+pub struct Measurement {
+    pub output: ProxyDistanceOutput,
+    pub cache: SimplexCache,
+}
+
+pub enum DistanceAnswer {
+    Measured(ProxyDistanceOutput),
+    Refused(u32),
+}
+
+// A distance call's answer, and the cache as it leaves it.
+pub struct Distance {
+    pub answer: DistanceAnswer,
+    pub cache: SimplexCache,
+}
+
+// Two outlines and their radii that passed their checks, by their numbers of points; or the number of the refusal.
+pub enum CheckedPair {
+    Points(usize, usize),
+    Refused(u32),
+}
+
+// A pose that passed its checks, or the number of its refusal.
+pub enum CheckedPose {
+    Good(Pose),
+    Refused(u32),
+}
+
+pub enum SupportAnswer {
+    At(u32),
+    Refused(u32),
+}

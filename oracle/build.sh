@@ -1,0 +1,39 @@
+#!/usr/bin/env bash
+# build.sh SRC OUT [RUSTC]: compiles the sweep_toi module of parry2d 0.31.1 over our prelude into OUT/oracle, in release mode.
+# SRC is the folder that holds query/sweep_toi/*.rs as published. Nothing of it is kept here: OUT gets a working copy.
+# Mechanical edits, and no others, each of which must fit as often as it says:
+#   1. `.max(` on a number becomes `.max_of(`, the prelude's rule, which the two files then import.
+#   2. in proxy_distance.rs the way a call ends is noted: round limit at its start, touching and settled where it leaves the loop.
+#   3. in sweep_toi.rs distance calls, separation searches and root steps are counted where they are made.
+set -eu
+here="$(cd "$(dirname "$0")" && pwd)"
+src="$1/query/sweep_toi"; out="$2"; rustc="${3:-rustc}"
+mkdir -p "$out/sweep_toi"
+for f in sweep toi_proxy proxy_distance separation sweep_toi; do cat "$src/$f.rs" > "$out/sweep_toi/$f.rs"; done
+edit() { # edit FILE TIMES OLD NEW
+  python3 - "$out/sweep_toi/$1.rs" "$2" "$3" "$4" <<'PY'
+import sys
+path, times, old, new = sys.argv[1], int(sys.argv[2]), sys.argv[3], sys.argv[4]
+text = open(path, encoding="utf-8").read()
+if text.count(old) != times:
+    sys.exit(f"{path}: {old!r} stands {text.count(old)} times, not {times}")
+open(path, "w", encoding="utf-8").write(text.replace(old, new))
+PY
+}
+edit sweep_toi 1 'linear_slop.max(' 'linear_slop.max_of('
+edit proxy_distance 1 '- radius_b).max(' '- radius_b).max_of('
+for f in sweep_toi proxy_distance; do
+  edit $f 1 'use super::toi_proxy::ToiProxy;' 'use super::toi_proxy::ToiProxy; use crate::math::MaxOf;'
+done
+noted='crate::counts::ending(crate::counts'
+edit proxy_distance 2 'let mut output = ProxyDistanceOutput::default();' "let mut output = ProxyDistanceOutput::default(); $noted::ROUND_LIMIT);"
+edit proxy_distance 1 'corresponding triangle.
+        if count == 3 {' "corresponding triangle.
+        if count == 3 { $noted::TOUCHING);"
+edit proxy_distance 1 'if d.dot(d) < Real::EPSILON * Real::EPSILON {' "if d.dot(d) < Real::EPSILON * Real::EPSILON { $noted::TOUCHING);"
+edit proxy_distance 2 'if duplicate {' "if duplicate { $noted::SETTLED);"
+edit sweep_toi 1 'distance_iterations += 1;' 'distance_iterations += 1; crate::counts::distance_call();'
+edit sweep_toi 1 'fcn.find_min_separation(t2);' '{ crate::counts::search(); fcn.find_min_separation(t2) };'
+edit sweep_toi 1 'root_iteration_count += 1;' 'root_iteration_count += 1; crate::counts::root_step();'
+cp "$here"/*.rs "$out/"
+"$rustc" --edition 2021 -C opt-level=3 --cfg 'feature="dim2"' --cfg 'feature="f32"' -A warnings -o "$out/oracle" "$out/main.rs"

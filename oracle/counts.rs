@@ -1,0 +1,44 @@
+//! What the module's text is made to tell while it runs (see build.sh): three counters, and how the last distance call ended.
+use core::sync::atomic::{AtomicU32, Ordering::Relaxed};
+
+static DISTANCE_CALLS: AtomicU32 = AtomicU32::new(0);
+static SEARCHES: AtomicU32 = AtomicU32::new(0);
+static ROOT_STEPS: AtomicU32 = AtomicU32::new(0);
+static ENDING: AtomicU32 = AtomicU32::new(0);
+
+fn raise(n: &AtomicU32) {
+    n.store(n.load(Relaxed) + 1, Relaxed)
+}
+
+pub fn distance_call() {
+    raise(&DISTANCE_CALLS)
+}
+
+pub fn search() {
+    raise(&SEARCHES)
+}
+
+pub fn root_step() {
+    raise(&ROOT_STEPS)
+}
+
+pub const TOUCHING: u32 = 0;
+pub const SETTLED: u32 = 1;
+pub const ROUND_LIMIT: u32 = 2;
+
+pub fn ending(e: u32) {
+    ENDING.store(e, Relaxed)
+}
+
+pub fn last_ending() -> u32 {
+    ENDING.load(Relaxed)
+}
+
+/// Distance calls, searches and root steps since this was last asked.
+pub fn take() -> [u32; 3] {
+    [
+        DISTANCE_CALLS.swap(0, Relaxed),
+        SEARCHES.swap(0, Relaxed),
+        ROOT_STEPS.swap(0, Relaxed),
+    ]
+}
