@@ -1,4 +1,4 @@
-//! Rows of the ground operations: 16 words each, little-endian: the operation's number, its inputs, its answers, zeros.
+//! Rows of the ground operations: 16 words each, little-endian: the operation's number, up to 8 inputs, up to 4 answers, the rest zero.
 //! Every NaN in an answer is written 7FC00000; inputs are written as they are.
 use crate::math::{MaxOf, Pose, Rotation, Vector};
 use crate::random::Random;
@@ -78,6 +78,7 @@ pub fn rows() {
                 .collect();
             let mut words = vec![i as u32 + 1];
             words.extend(x.iter().map(|x| x.to_bits()));
+            words.resize(9, 0);
             words.extend(answer(i + 1, &x).iter().map(|&y| bits(y)));
             words.resize(16, 0);
             for w in words {

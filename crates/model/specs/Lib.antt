@@ -5,4 +5,5 @@ pub mod Domain
 pub mod Support
 pub mod Simplex
 pub mod Distance
+pub mod Wire
 pub mod Table
