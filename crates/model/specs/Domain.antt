@@ -8,6 +8,11 @@ use lib.Ieee.{Float, Format, add, mul, lt, le}
 use Rattle.model.specs.declared.Vector.{Vector}
 use Rattle.model.specs.declared.Rotation.{Rotation}
 use Rattle.model.specs.declared.Pose.{Pose}
+use Rattle.model.specs.declared.Sweep.{Sweep}
+use Rattle.model.specs.declared.CheckedSweeps.{CheckedSweeps}
+use Rattle.model.specs.declared.CheckedSweeps.the-variants as CheckedSweeps
+use Rattle.model.specs.declared.CheckedNumber.{CheckedNumber}
+use Rattle.model.specs.declared.CheckedNumber.the-variants as CheckedNumber
 use Rattle.model.specs.declared.CheckedPair.{CheckedPair}
 use Rattle.model.specs.declared.CheckedPair.the-variants as CheckedPair
 use Rattle.model.specs.declared.CheckedPose.{CheckedPose}
@@ -47,6 +52,9 @@ module _ (f : Format) where
       not (le (abs (q .c)) (one f) && le (abs (q .s)) (one f)
       && le (constant f 0x3f7c_0000 0x3fef_8000_0000_0000) (squared q) && le (squared q) (constant f 0x3f82_0000 0x3ff0_4000_0000_0000))
 
+  abbrev pub badCentres : Sweep → Bool
+  badCentres w = badVector (w .«local_center») || badVector (w .c1) || badVector (w .c2)
+
   -- ---- the numbers
   abbrev pub supportRefusal : List Float → ℕ
   supportRefusal s = cond (badOutline s) 1 (cond (badParts s) 3 0)
@@ -61,6 +69,18 @@ module _ (f : Format) where
 
   abbrev pub poseRefusal : Pose → ℕ
   poseRefusal p = cond (badRotation (p .rotation)) 5 (cond (badVector (p .translation)) 6 0)
+
+  -- of the two moves: all rotations, then all centres
+  abbrev pub sweepsRefusal : Sweep → Sweep → ℕ
+  sweepsRefusal a b =
+      cond (badRotation (a .q1) || badRotation (a .q2) || badRotation (b .q1) || badRotation (b .q2)) 5
+      (cond (badCentres a || badCentres b) 6 0)
+
+  abbrev pub fractionRefusal : Float → ℕ
+  fractionRefusal t = cond (le (Ground.zero f) t && le t (one f)) 0 7
+
+  abbrev pub slopRefusal : Float → ℕ
+  slopRefusal x = cond (lt (Ground.zero f) x && le x limit) 0 8
 
 -- the first refusal of two
 abbrev pub orElse : ℕ → ℕ → ℕ
@@ -81,3 +101,20 @@ poseBy (suc n) p = CheckedPose.Refused (suc n)
 
 unfoldable pub checkedPose : Format → Pose → CheckedPose
 checkedPose f p = poseBy (poseRefusal f p) p
+
+abbrev pub sweepsBy : ℕ → Sweep → Sweep → CheckedSweeps
+sweepsBy zero a b = CheckedSweeps.Good a b
+sweepsBy (suc n) a b = CheckedSweeps.Refused (suc n)
+
+unfoldable pub checkedSweeps : Format → Sweep → Sweep → CheckedSweeps
+checkedSweeps f a b = sweepsBy (sweepsRefusal f a b) a b
+
+abbrev pub numberBy : ℕ → Float → CheckedNumber
+numberBy zero x = CheckedNumber.Good x
+numberBy (suc n) x = CheckedNumber.Refused (suc n)
+
+unfoldable pub checkedFraction : Format → Float → CheckedNumber
+checkedFraction f t = numberBy (fractionRefusal f t) t
+
+unfoldable pub checkedSlop : Format → Float → CheckedNumber
+checkedSlop f x = numberBy (slopRefusal f x) x

@@ -5,5 +5,8 @@ pub mod Domain
 pub mod Support
 pub mod Simplex
 pub mod Distance
+pub mod Sweep
+pub mod Separation
+pub mod SweepToi
 pub mod Wire
 pub mod Table

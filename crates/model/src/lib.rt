@@ -116,3 +116,86 @@ pub enum SupportAnswer {
     At(u32),
     Refused(u32),
 }
+
+// What a separation is measured along: an axis between two points, or the normal of an edge of A or of B.
+pub enum SeparationType {
+    Points,
+    FaceA,
+    FaceB,
+}
+
+// A separation function: two moves, and an axis with the point that it passes through.
+pub struct SeparationFunction {
+    pub sweep_a: Sweep,
+    pub sweep_b: Sweep,
+    pub local_point: Vector,
+    pub axis: Vector,
+    pub ty: SeparationType,
+}
+
+// The least separation at a time, and the corners that have it.
+pub struct MinSeparation {
+    pub separation: f32,
+    pub index_a: u32,
+    pub index_b: u32,
+}
+
+// What a sweep keeps throughout: both moves and the origin that they were shifted by, the radii, the last time, and the target with its tolerance.
+pub struct SweepTask {
+    pub sweep_a: Sweep,
+    pub sweep_b: Sweep,
+    pub origin: Vector,
+    pub radius_a: f32,
+    pub radius_b: f32,
+    pub t_max: f32,
+    pub target: f32,
+    pub tolerance: f32,
+}
+
+// A distance call at some time, in the world: the distance, the averaged hit point, the normal, and the cache as the call left it.
+pub struct Closest {
+    pub distance: f32,
+    pub point: Vector,
+    pub normal: Vector,
+    pub cache: SimplexCache,
+}
+
+// Where a root search ends, and after how many steps.
+pub struct RootSearch {
+    pub t: f32,
+    pub steps: u32,
+}
+
+// How many distance calls, separation searches and root steps a sweep made.
+pub struct Counts {
+    pub distance_calls: u32,
+    pub searches: u32,
+    pub root_steps: u32,
+}
+
+pub struct Contact {
+    pub fraction: f32,
+    pub point: Vector,
+    pub normal: Vector,
+}
+
+// How a sweep ends.
+pub enum SweepAnswer {
+    Overlapped(Counts),
+    Hit(Contact, Counts),
+    Separated(Contact, Counts),
+    Failed(Contact, Counts),
+    Refused(u32),
+}
+
+// Two moves that passed their checks, or the number of the refusal.
+pub enum CheckedSweeps {
+    Good(Sweep, Sweep),
+    Refused(u32),
+}
+
+// A number that passed its check, or the number of the refusal.
+pub enum CheckedNumber {
+    Good(f32),
+    Refused(u32),
+}
