@@ -5,21 +5,40 @@ static DISTANCE_CALLS: AtomicU32 = AtomicU32::new(0);
 static SEARCHES: AtomicU32 = AtomicU32::new(0);
 static ROOT_STEPS: AtomicU32 = AtomicU32::new(0);
 static ENDING: AtomicU32 = AtomicU32::new(0);
+// since the last distance call, since the last search, and the most of each
+static PUSHES: AtomicU32 = AtomicU32::new(0);
+static STEPS: AtomicU32 = AtomicU32::new(0);
+static MOST_PUSHES: AtomicU32 = AtomicU32::new(0);
+static MOST_STEPS: AtomicU32 = AtomicU32::new(0);
 
 fn raise(n: &AtomicU32) {
     n.store(n.load(Relaxed) + 1, Relaxed)
 }
 
+fn raise_most(n: &AtomicU32, most: &AtomicU32) {
+    raise(n);
+    most.store(most.load(Relaxed).max(n.load(Relaxed)), Relaxed)
+}
+
 pub fn distance_call() {
-    raise(&DISTANCE_CALLS)
+    raise(&DISTANCE_CALLS);
+    PUSHES.store(0, Relaxed)
 }
 
 pub fn search() {
-    raise(&SEARCHES)
+    raise(&SEARCHES);
+    raise_most(&PUSHES, &MOST_PUSHES);
+    STEPS.store(0, Relaxed)
 }
 
 pub fn root_step() {
-    raise(&ROOT_STEPS)
+    raise(&ROOT_STEPS);
+    raise_most(&STEPS, &MOST_STEPS)
+}
+
+/// The most searches after one distance call, and the most root steps after one search, since this was last asked.
+pub fn take_most() -> [u32; 2] {
+    [MOST_PUSHES.swap(0, Relaxed), MOST_STEPS.swap(0, Relaxed)]
 }
 
 pub const TOUCHING: u32 = 0;

@@ -1,9 +1,16 @@
 //! The oracle: the module's own text over our prelude, asked from the command line.
-//!   oracle ground            rows of every ground operation with their answers (see rows.rs)
+//!   oracle ground                rows of every ground operation with their answers (ground.rs)
+//!   oracle distance SEED COUNT   a pool and rows of distance calls with their answers (distance.rs)
+//!   oracle sweep SEED COUNT      a pool and rows of sweeps with their answers (sweep.rs)
 mod counts;
+mod distance;
+mod domain;
+mod ground;
+mod pool;
 mod prelude;
 mod random;
-mod ground;
+mod sweep;
+mod words;
 /// The module's text, as build.sh lays it out.
 mod sweep_toi {
     pub mod proxy_distance;
@@ -19,8 +26,11 @@ pub use prelude::{bounding_volume, math, shape};
 fn main() {
     let args: Vec<String> = std::env::args().collect();
     let word = |i: usize| args.get(i).map(String::as_str).unwrap_or("");
+    let number = |i: usize| word(i).parse::<u64>().unwrap_or_else(|_| panic!("argument {i} is no number"));
     match word(1) {
         "ground" => ground::rows(),
+        "sweep" => sweep::rows(number(2), number(3) as usize),
+        "distance" => distance::rows(number(2), number(3) as usize),
         other => {
             eprintln!("oracle: no such job: {other:?}");
             std::process::exit(2)

@@ -1,47 +1,32 @@
--- `replay_ground::main` is safe and ends: the operations that are left fall, and each has its place in the counts. Assumes nothing.
-use Prim.Native.Nat.{_≤_, _-_}
+-- `replay_ground::main` is safe and ends: the turns that are left fall. Nothing has to hold from turn to turn. Assumes nothing.
+use Prim.Native.Nat.{_-_}
 use borrow.Author.Needs.{needs}
 use Rattle.replay_ground.proofs.main.Statement.{statement}
 use Rattle.replay_ground.proofs.main.Tie as tie
 
 abbrev Inv-loop : tie.InvT-loop
-Inv-loop rows differ noticed op₀ op = op ≤ 20
+Inv-loop t₀ turn₀ t turn = Unit {0}
 
 abbrev μ-loop : tie.MeasureT-loop
-μ-loop rows differ noticed op₀ op = 20 - op
+μ-loop t₀ turn₀ t turn = 18446744073709551615 - turn
 
-all-parts-requires : tie.Need-all-parts-requires Inv-loop μ-loop
-all-parts-requires c κs = search needs
+nothing-requires : tie.Need-nothing-requires Inv-loop μ-loop
+nothing-requires c κs = search needs
 
 loop-holds : tie.Need-loop-holds Inv-loop μ-loop
 loop-holds c = search needs
 
-cast-line : tie.Need-cast-line Inv-loop μ-loop
-cast-line c = search needs
+next-part-requires : tie.Need-next-part-requires Inv-loop μ-loop
+next-part-requires c κs = search needs
 
-mul-line : tie.Need-mul-line Inv-loop μ-loop
-mul-line c = search needs
+print-requires : tie.Need-print-requires Inv-loop μ-loop
+print-requires c κs = search needs
 
-array-read-line : tie.Need-array-read-line Inv-loop μ-loop
-array-read-line c = search needs
+returns : tie.Need-returns Inv-loop μ-loop
+returns c = search needs
 
-mul-line-2 : tie.Need-mul-line-2 Inv-loop μ-loop
-mul-line-2 c = search needs
-
-array-read-line-2 : tie.Need-array-read-line-2 Inv-loop μ-loop
-array-read-line-2 c = search needs
-
-mul-line-3 : tie.Need-mul-line-3 Inv-loop μ-loop
-mul-line-3 c = search needs
-
-array-read-line-3 : tie.Need-array-read-line-3 Inv-loop μ-loop
-array-read-line-3 c = search needs
-
-line-requires : tie.Need-line-requires Inv-loop μ-loop
-line-requires c κs = search needs
-
-add-op : tie.Need-add-op Inv-loop μ-loop
-add-op c = search needs
+add-turn : tie.Need-add-turn Inv-loop μ-loop
+add-turn c = search needs
 
 loop-less : tie.Need-loop-less Inv-loop μ-loop
 loop-less c = search needs
@@ -49,8 +34,8 @@ loop-less c = search needs
 loop-again : tie.Need-loop-again Inv-loop μ-loop
 loop-again c = search needs
 
-returns : tie.Need-returns Inv-loop μ-loop
-returns c = search needs
+returns-2 : tie.Need-returns-2 Inv-loop μ-loop
+returns-2 c = search needs
 
 pub main-spec : {M : Type 1} → statement M
 main-spec =
@@ -58,17 +43,12 @@ main-spec =
     (tie.spec
     Inv-loop
     μ-loop
-    all-parts-requires
+    nothing-requires
     loop-holds
-    cast-line
-    mul-line
-    array-read-line
-    mul-line-2
-    array-read-line-2
-    mul-line-3
-    array-read-line-3
-    line-requires
-    add-op
+    next-part-requires
+    print-requires
+    returns
+    add-turn
     loop-less
     loop-again
-    returns)
+    returns-2)

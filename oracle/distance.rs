@@ -1,0 +1,124 @@
+//! Stored distance calls: a pool of 16,384 words, then rows of 18 words, 910 to each 16,384 (see docs/REPLAYS.md).
+use crate::counts;
+use crate::domain;
+use crate::ground::bits;
+use crate::math::{Pose, Vector};
+use crate::pool::{self, points, Pool, GOOD};
+use crate::random::Random;
+use crate::sweep_toi::proxy_distance::{proxy_distance, SimplexCache};
+use crate::sweep_toi::toi_proxy::ToiProxy;
+use crate::words;
+
+fn pool_words(p: &Pool) -> Vec<u32> {
+    let mut w = vec![0; 1024];
+    for (i, s) in p.outlines.iter().enumerate() {
+        w[2 * i] = w.len() as u32;
+        w[2 * i + 1] = s.len() as u32;
+        w.extend(s.iter().map(|x| x.to_bits()));
+    }
+    for (i, x) in p.poses.iter().enumerate() {
+        let v = [x.rotation.c, x.rotation.s, x.translation.x, x.translation.y];
+        for k in 0..4 {
+            w[256 + 4 * i + k] = v[k].to_bits();
+        }
+    }
+    for (i, c) in p.caches.iter().enumerate() {
+        w[512 + 7 * i..519 + 7 * i].copy_from_slice(&cache_words(c));
+    }
+    for (i, x) in p.radii.iter().enumerate() {
+        w[960 + 2 * i] = x.0.to_bits();
+        w[961 + 2 * i] = x.1.to_bits();
+    }
+    w
+}
+
+fn cache_words(c: &SimplexCache) -> [u32; 7] {
+    [c.count as u32, c.index_a[0], c.index_a[1], c.index_a[2], c.index_b[0], c.index_b[1], c.index_b[2]]
+}
+
+#[derive(Copy, Clone)]
+pub struct Call {
+    pub a: usize,
+    pub b: usize,
+    pub pose: usize,
+    pub cache: usize,
+    pub radii: usize,
+    pub use_radii: bool,
+}
+
+/// The number of refusal or 16 + the ending, the rounds, seven floats, and the cache afterwards.
+pub fn answer(p: &Pool, k: Call) -> [u32; 16] {
+    let (a, b, pose, mut cache, (ra, rb)) = (&p.outlines[k.a], &p.outlines[k.b], p.poses[k.pose], p.caches[k.cache], p.radii[k.radii]);
+    let mut w = [0; 16];
+    w[0] = domain::or(domain::pair(a, b, ra, rb), || domain::pose(&pose));
+    if w[0] == 0 {
+        let (pa, pb) = (points(a), points(b));
+        let o = proxy_distance(&pose, &ToiProxy::from_points(&pa, ra), &ToiProxy::from_points(&pb, rb), k.use_radii, &mut cache);
+        w[0] = 16 + counts::last_ending();
+        w[1] = o.iterations;
+        let v = |v: Vector| [v.x, v.y];
+        let floats = [v(o.point_a), v(o.point_b), v(o.normal)].concat().into_iter().chain([o.distance]);
+        for (i, x) in floats.enumerate() {
+            w[2 + i] = bits(x);
+        }
+    }
+    w[9..].copy_from_slice(&cache_words(&cache));
+    w
+}
+
+/// Looks for the k-th call that runs into the round limit, among points that lie nearly on one line, and leaves its parts in the pool:
+/// outlines `slot(k)` and the next, pose k and cache k.
+fn slow_call(r: &mut Random, p: &mut Pool, k: usize) -> bool {
+    for _ in 0..2_000_000 {
+        let size = r.pick(&[1.0f32, 100.0, 2048.0, 1e5, 1e6]);
+        let noise = r.pick(&[0.0f32, 1e-7, 1e-6, 1e-5, 1e-3]) * size;
+        let (x, y) = (r.unit(), r.unit());
+        let near_line = |r: &mut Random, n: u64| -> Vec<f32> {
+            (0..n).flat_map(|_| { let t = r.unit(); [size * x * t + noise * r.unit(), size * y * t + noise * r.unit()] }).collect()
+        };
+        let (na, nb) = (2 + r.below(20), 1 + r.below(20));
+        p.outlines[slot(k)] = near_line(r, na);
+        p.outlines[slot(k) + 1] = near_line(r, nb);
+        let off = r.pick(&[0.0f32, 1e-6, 1e-3, 1.0]) * size;
+        p.poses[k] = Pose::from_parts(Vector::new(off * r.unit(), off * r.unit()), pool::angle(r));
+        let mut index = |n: u64| [r.below(n) as u32, r.below(n) as u32, r.below(n) as u32];
+        p.caches[k] = SimplexCache { index_a: index(na), index_b: index(nb), count: (k % 4) as u8 };
+        if answer(p, slow(k))[0] == 16 + counts::ROUND_LIMIT {
+            return true;
+        }
+    }
+    false
+}
+
+fn slot(k: usize) -> usize {
+    GOOD.outlines - 20 + 2 * k
+}
+
+fn slow(k: usize) -> Call {
+    Call { a: slot(k), b: slot(k) + 1, pose: k, cache: k, radii: 0, use_radii: false }
+}
+
+pub fn rows(seed: u64, count: usize) {
+    let mut r = Random(seed);
+    let mut p = pool::pool(&mut r);
+    let found: Vec<usize> = (0..8).filter(|&k| slow_call(&mut r, &mut p, k)).collect();
+    let mut out = words::Chunks::new();
+    out.chunk(&pool_words(&p));
+    let mut seen = [0u32; 19];
+    for i in 0..count {
+        let mut below = |good: usize, all: usize| {
+            let bad = good < all && i % 8 >= 6 && r.below(3) == 0;
+            (if bad { good as u64 + r.below((all - good) as u64) } else { r.below(good as u64) }) as usize
+        };
+        let mut k = Call { a: below(GOOD.outlines, 128), b: below(GOOD.outlines, 128), pose: below(GOOD.poses, 64), cache: below(64, 64), radii: below(GOOD.radii, 32), use_radii: i % 2 == 1 };
+        if i % 100 == 5 && !found.is_empty() {
+            k = Call { radii: k.radii, use_radii: k.use_radii, ..slow(found[i / 100 % found.len()]) };
+        }
+        let w = answer(&p, k);
+        seen[w[0] as usize] += 1;
+        let input = [k.a as u32 | (k.b as u32) << 8 | (k.pose as u32) << 16 | (k.cache as u32) << 24, k.radii as u32 | (k.use_radii as u32) << 8];
+        out.row(&[&input[..], &w[..]].concat());
+    }
+    out.end();
+    eprintln!("refused 1 to 6: {:?}; touching {}, settled {}, round limit {}", &seen[1..7], seen[16], seen[17], seen[18]);
+}

@@ -1,0 +1,208 @@
+//! Outlines, poses, caches, radii and moves from which test calls are put together. The first of each kind are in the domain (`GOOD` says how
+//! many), the rest is outside of it or on its edge.
+use crate::domain::LIMIT;
+use crate::math::{Pose, Rotation, Vector};
+use crate::random::Random;
+use crate::sweep_toi::proxy_distance::SimplexCache;
+use crate::sweep_toi::sweep::Sweep;
+
+pub const ABOVE_LIMIT: f32 = 1_048_576.125;
+
+/// A list of numbers x0 y0 x1 y1 ..
+pub type Outline = Vec<f32>;
+
+pub fn points(outline: &[f32]) -> Vec<Vector> {
+    outline.chunks_exact(2).map(|p| Vector::new(p[0], p[1])).collect()
+}
+
+fn polygon(r: &mut Random, n: usize) -> Outline {
+    let (size, turn) = (0.25 + 4.0 * r.unit().abs(), 3.2 * r.unit());
+    let (x, y) = (2.0 * r.unit(), 2.0 * r.unit());
+    (0..n)
+        .flat_map(|i| {
+            let t = turn + i as f32 / n as f32 * 6.2831855;
+            [x + size * t.cos(), y + size * t.sin()]
+        })
+        .collect()
+}
+
+fn rectangle(r: &mut Random) -> Outline {
+    let (x, y) = (0.25 + 4.0 * r.unit().abs(), 0.25 + 2.0 * r.unit().abs());
+    vec![-x, -y, x, -y, x, y, -x, y]
+}
+
+fn of(n: usize, mut number: impl FnMut() -> f32) -> Outline {
+    (0..2 * n).map(|_| number()).collect()
+}
+
+/// An outline in the domain, of one of eight kinds.
+pub fn outline(r: &mut Random) -> Outline {
+    let n = 1 + r.below(7) as usize;
+    match r.below(12) {
+        0 | 1 => of(n, || r.whole(6)),
+        2 => of(n, || r.whole(200) * 0.25),
+        3 | 4 => polygon(r, 3 + n),
+        5 | 6 => rectangle(r),
+        7 => {
+            // repeated and collinear points
+            let (u, v, w) = (r.whole(4), r.whole(4), r.whole(3));
+            (0..n).flat_map(|_| { let k = r.whole(2); [u + k * v, w + k * v] }).collect()
+        }
+        8 => { let scale = r.pick(&[1e-3, 1e-20, 1e-38, 1e-44]); of(n, || r.unit() * scale) }
+        9 => { let scale = r.pick(&[1e3, 1e5, LIMIT]); of(n, || r.unit() * scale) }
+        10 => of(n, || r.pick(&[0.0, -0.0, 1.0, -1.0, 1e-45, LIMIT, -LIMIT])),
+        _ => of(1, || r.whole(8) * 0.5),
+    }
+}
+
+pub fn angle(r: &mut Random) -> Rotation {
+    let t = 3.1415927 * r.unit();
+    match r.below(3) {
+        0 => { let (c, s) = r.pick(&[(1.0, 0.0), (0.0, 1.0), (-1.0, 0.0), (0.0, -1.0)]); Rotation { c, s } }
+        _ => Rotation { c: t.cos(), s: t.sin() },
+    }
+}
+
+/// A pair of the largest s with 1 + s * s at most 1.015625 and the next; likewise for c * c at least 0.984375.
+pub fn edge_rotations() -> Vec<Rotation> {
+    let step = |x: f32, d: i32| f32::from_bits((x.to_bits() as i32 + d) as u32);
+    let mut s = 0.125f32;
+    while 1.0 + step(s, 1) * step(s, 1) <= 1.015625 { s = step(s, 1); }
+    let mut c = 1.0f32;
+    while step(c, -1) * step(c, -1) >= 0.984375 { c = step(c, -1); }
+    vec![
+        Rotation { c: 1.0, s },
+        Rotation { c, s: 0.0 },
+        Rotation { c: 1.0, s: step(s, 1) },
+        Rotation { c: step(c, -1), s: -0.0 },
+    ]
+}
+
+fn bad_numbers(good: f32) -> [f32; 6] {
+    [f32::NAN, f32::INFINITY, f32::NEG_INFINITY, ABOVE_LIMIT, -ABOVE_LIMIT, good]
+}
+
+pub struct Pool {
+    pub outlines: Vec<Outline>,
+    pub poses: Vec<Pose>,
+    pub caches: Vec<SimplexCache>,
+    pub radii: Vec<(f32, f32)>,
+    pub moves: Vec<Sweep>,
+    pub fractions: Vec<f32>,
+    pub slops: Vec<f32>,
+}
+
+/// How many of each kind are in the domain, of 128 outlines, 64 poses, 32 radii, 128 moves, 16 fractions and 32 slops.
+pub struct Good {
+    pub outlines: usize,
+    pub poses: usize,
+    pub radii: usize,
+    pub moves: usize,
+    pub fractions: usize,
+    pub slops: usize,
+}
+
+pub const GOOD: Good = Good { outlines: 108, poses: 52, radii: 24, moves: 112, fractions: 10, slops: 24 };
+
+fn vector(r: &mut Random, size: f32) -> Vector {
+    match r.below(3) {
+        0 => Vector::new(r.whole(8), r.whole(8)),
+        _ => Vector::new(size * r.unit(), size * r.unit()),
+    }
+}
+
+pub fn movement(r: &mut Random) -> Sweep {
+    let size = r.pick(&[4.0, 12.0, 12.0, 100.0, 1e5]);
+    let q1 = angle(r);
+    let turns = r.below(2) == 1;
+    Sweep {
+        local_center: if r.below(2) == 0 { Vector::ZERO } else { vector(r, 1.0) },
+        c1: vector(r, size),
+        c2: vector(r, size),
+        q1,
+        q2: if turns { angle(r) } else { q1 },
+    }
+}
+
+pub fn pool(r: &mut Random) -> Pool {
+    let mut outlines: Vec<Outline> = (0..GOOD.outlines - 4).map(|_| outline(r)).collect();
+    outlines.push(polygon(r, 64));
+    outlines.push(of(64, || r.whole(1000)));
+    outlines.push(of(64, || 50.0 * r.unit()));
+    outlines.push(vec![LIMIT, -LIMIT, -LIMIT, LIMIT]);
+    // outside: no points, odd lengths, 65 points, and single bad numbers at either end
+    outlines.push(vec![]);
+    outlines.push(vec![1.0]);
+    outlines.push(vec![0.0, 1.0, 2.0]);
+    outlines.push(of(65, || r.whole(9)));
+    outlines.push(of(64, || r.whole(9)).into_iter().chain([1.0]).collect());
+    while outlines.len() < 128 {
+        let mut s = outline(r);
+        let at = if outlines.len() % 2 == 0 { 0 } else { s.len() - 1 };
+        s[at] = bad_numbers(f32::NAN)[outlines.len() % 6];
+        outlines.push(s);
+    }
+
+    let edges = edge_rotations();
+    let mut poses: Vec<Pose> = (0..GOOD.poses - 4).map(|_| { let size = r.pick(&[3.0, 10.0, 10.0, 1000.0]); Pose::from_parts(vector(r, size), angle(r)) }).collect();
+    poses.push(Pose::from_parts(Vector::new(1.0, 2.0), edges[0]));
+    poses.push(Pose::from_parts(Vector::new(-3.0, 0.5), edges[1]));
+    poses.push(Pose::from_parts(Vector::new(LIMIT, -LIMIT), Rotation { c: 1.0, s: -0.0 }));
+    poses.push(Pose::from_parts(Vector::new(-0.0, 1e-45), Rotation { c: -1.0, s: 1e-45 }));
+    poses.push(Pose::from_parts(Vector::ZERO, edges[2]));
+    poses.push(Pose::from_parts(Vector::ZERO, edges[3]));
+    for (c, s) in [(f32::NAN, 0.0), (1.0, f32::NAN), (1.0000001, 0.0), (0.0, -1.0000001), (0.0, 0.0), (f32::INFINITY, 0.0)] {
+        poses.push(Pose::from_parts(vector(r, 4.0), Rotation { c, s }));
+    }
+    while poses.len() < 64 {
+        let bad = bad_numbers(f32::NAN)[poses.len() % 6];
+        let v = if poses.len() % 2 == 0 { Vector::new(bad, 0.0) } else { Vector::new(1.0, bad) };
+        poses.push(Pose::from_parts(v, angle(r)));
+    }
+
+    let caches = (0..64)
+        .map(|i| {
+            let mut c = SimplexCache { count: if i < 52 { (i % 4) as u8 } else { r.pick(&[4, 5, 17, 255]) }, ..Default::default() };
+            let most = if i % 3 == 0 { 2 } else if i % 3 == 1 { 6 } else { 70 };
+            for k in 0..3 {
+                c.index_a[k] = r.below(most) as u32;
+                c.index_b[k] = r.below(most) as u32;
+            }
+            if i % 13 == 12 { c.index_b[(i % 3) as usize] = u32::MAX; }
+            c
+        })
+        .collect();
+
+    let mut radii: Vec<(f32, f32)> = vec![(0.0, 0.0), (-0.0, 0.0), (0.0, -0.0), (LIMIT, LIMIT), (LIMIT, 0.0), (1e-45, 1e-30), (1.0, 1.0), (0.25, 0.0)];
+    while radii.len() < GOOD.radii { radii.push((r.unit().abs() * 2.0, r.unit().abs())); }
+    for x in [f32::NAN, f32::INFINITY, ABOVE_LIMIT, -1.0] { radii.push((x, 1.0)); radii.push((0.5, if x == -1.0 { -1e-45 } else { x })); }
+
+    let mut moves: Vec<Sweep> = (0..GOOD.moves - 4).map(|_| movement(r)).collect();
+    for k in 0..4 {
+        let mut w = movement(r);
+        match k { 0 => w.q2 = edges[0], 1 => w.q1 = edges[1], 2 => w.c2 = Vector::new(LIMIT, -LIMIT), _ => w.local_center = Vector::new(-0.0, LIMIT) }
+        moves.push(w);
+    }
+    while moves.len() < 128 {
+        let mut w = movement(r);
+        let bad = bad_numbers(f32::NAN)[moves.len() % 6];
+        match moves.len() % 8 {
+            0 => w.q1.c = f32::NAN,
+            1 => w.q2 = edges[2],
+            2 => w.q1 = edges[3],
+            3 => w.q2.s = 1.5,
+            4 => w.c1.x = bad,
+            5 => w.c2.y = bad,
+            6 => w.local_center.x = bad,
+            _ => { w.local_center.y = bad; w.q1 = edges[2] }
+        }
+        moves.push(w);
+    }
+
+    let fractions = vec![1.0, 1.0, 1.0, 1.0, 0.5, 0.0, -0.0, 1e-45, f32::from_bits(0x3f7f_ffff), 0.21619e0,
+        f32::from_bits(0x3f80_0001), -1e-45, f32::NAN, f32::INFINITY, f32::NEG_INFINITY, 2.0];
+    let mut slops: Vec<f32> = vec![0.005, 0.005, 0.005, 0.005, 0.01, 0.5, 0.5, 1e-3, 1e-6, 1e-45, 1e-38, 1e-20, LIMIT, 100.0, 10.0, 1.0, 0.25];
+    while slops.len() < GOOD.slops { slops.push(r.unit().abs() * 0.1 + 1e-6); }
+    slops.extend([0.0, -0.0, -1.0, f32::NAN, f32::INFINITY, ABOVE_LIMIT, -1e-45, f32::NEG_INFINITY]);
+    Pool { outlines, poses, caches, radii, moves, fractions, slops }
+}
