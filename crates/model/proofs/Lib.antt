@@ -1,2 +1,5 @@
 pub mod Bits
 pub mod Root
+pub mod Support
+pub mod Simplex
+pub mod DistanceCall
