@@ -1,5 +1,6 @@
 pub mod Bits
 pub mod Root
 pub mod Support
-pub mod Distance
+pub mod Simplex
+pub mod DistanceCall
 pub mod Wire
