@@ -78,7 +78,14 @@ pub fn numbers(pool: &[u8]) -> [f32; 16384] {
     n
 }
 
-fn wide(x: u32) -> usize
+// A byte as a number of the pool.
+pub fn wide(x: u8) -> usize
+    ensures { λ r. ⌜ r < 256 ⌝ }
+{
+    x as usize
+}
+
+fn wide_word(x: u32) -> usize
     ensures { λ r. ⌜ r < 4294967296 ⌝ }
 {
     x as usize
@@ -86,9 +93,9 @@ fn wide(x: u32) -> usize
 
 // Outline i of a pool: the pool's words 2 * i and 2 * i + 1 say where it starts among the numbers, and how many it has.
 pub fn outline<'a>(numbers: &'a [f32], pool: &[u8], i: u8) -> &'a [f32] {
-    let at = 8 * (i as usize);
-    let start = wide(wire::word(pool, at));
-    let end = start + wide(wire::word(pool, at + 4));
+    let at = 8 * wide(i);
+    let start = wide_word(wire::word(pool, at));
+    let end = start + wide_word(wire::word(pool, at + 4));
     if end <= numbers.len() {
         &numbers[start..end]
     } else {
