@@ -4,7 +4,8 @@ use Prim.Native.Nat.{ℕ}
 use mathlib.Core.Bool.{Bool, true, false}
 use mathlib.Core.List.{List, [], _∷_, map}
 use lib.ListN.{take}
-use lib.Ieee.{binary32, binary64, Float, nan, Format, ofBits, toBits, add, sub, mul, div, neg, lt, le}
+use lib.IntN.{pos, negsuc}
+use lib.Ieee.{binary32, binary64, Float, nan, fin, Format, ofBits, toBits, add, sub, mul, div, neg, lt, le}
 use Rattle.model.specs.declared.Vector.{Vector}
 use Rattle.model.specs.declared.Pose.{Pose}
 use Rattle.model.specs.declared.SimplexVertex.{SimplexVertex}
@@ -16,11 +17,27 @@ use Rattle.model.specs.declared.DistanceAnswer.the-variants.{Measured}
 use Rattle.model.specs.declared.Distance.{Distance}
 use Rattle.model.specs.Root.{root}
 use Rattle.model.specs.Nearest.{nearer}
-use Rattle.model.specs.Ground.{vector, rotation, pose, abs}
-use Rattle.model.specs.Domain.{badParts}
+use Rattle.model.specs.Ground.{vector, rotation, pose, zero, one, half, quarter, largest, epsilon, abs}
+use Rattle.model.specs.Domain.{limit, leastSquare, mostSquare, badParts}
 use Rattle.model.specs.Support.{supportFrom, support}
 use Rattle.model.specs.Simplex.{slot, region2, region3, kept, solveSimplex2, solveSimplex3, solve}
 use Rattle.model.specs.Distance.{cache, allBelow, replaced, held, vertex, startSimplex, roundsFrom, witness, witnessPoints, output, measure, proxyDistance}
+
+-- ---- the constants as numbers, at either format: 0, 1, 1/2, 1/4, 1,048,576 and the bounds of a rotation's square, 63/64 and 65/64
+pub constants : (f : Format) → (zero f ∷ one f ∷ half f ∷ quarter f ∷ limit f ∷ leastSquare f ∷ mostSquare f ∷ [])
+    ≡ (fin false 0 (pos 0) ∷ fin false 1 (pos 0) ∷ fin false 1 (negsuc 0) ∷ fin false 1 (negsuc 1) ∷ fin false 1 (pos 20) ∷ fin false 63 (negsuc 5) ∷ fin false 65 (negsuc 5) ∷ [])
+unfolding ofBits
+constants binary32 = refl
+constants binary64 = refl
+
+-- EPSILON is one step of the format at 1, and the largest value the last before infinity
+pub epsilons : map epsilon (binary32 ∷ binary64 ∷ []) ≡ (fin false 1 (negsuc 22) ∷ fin false 1 (negsuc 51) ∷ [])
+unfolding ofBits
+epsilons = refl
+
+pub largests : map largest (binary32 ∷ binary64 ∷ []) ≡ (fin false 16777215 (pos 104) ∷ fin false 9007199254740991 (pos 971) ∷ [])
+unfolding ofBits
+largests = refl
 
 -- ---- roots, by their bit patterns
 abbrev rootBits : Format → ℕ → ℕ
