@@ -2,6 +2,8 @@
 //!   oracle ground                rows of every ground operation with their answers (ground.rs)
 //!   oracle distance SEED COUNT   a pool and rows of distance calls with their answers (distance.rs)
 //!   oracle sweep SEED COUNT      a pool and rows of sweeps with their answers (sweep.rs)
+//!   oracle sheet                 the sheet of the batch on standard input (sheet.rs)
+//!   oracle batch SEED COUNT      a batch of COUNT blocks
 mod counts;
 mod distance;
 mod domain;
@@ -9,6 +11,7 @@ mod ground;
 mod pool;
 mod prelude;
 mod random;
+mod sheet;
 mod sweep;
 mod words;
 /// The module's text, as build.sh lays it out.
@@ -29,6 +32,8 @@ fn main() {
     let number = |i: usize| word(i).parse::<u64>().unwrap_or_else(|_| panic!("argument {i} is no number"));
     match word(1) {
         "ground" => ground::rows(),
+        "sheet" => sheet::sheet(),
+        "batch" => sheet::batch(number(2), number(3)),
         "sweep" => sweep::rows(number(2), number(3) as usize),
         "distance" => distance::rows(number(2), number(3) as usize),
         other => {

@@ -1,0 +1,232 @@
+//! The sheet of a batch by the oracle, and seeded batches.
+use crate::math::{Rotation, Vector};
+use crate::pool::{self, angle, edge_rotations, movement, outline, ABOVE_LIMIT};
+use crate::random::{Random, SPECIAL};
+use crate::sweep;
+use crate::sweep_toi::sweep::Sweep;
+use std::io::{Read, Write};
+
+const SIZE: usize = 512;
+
+fn word(b: &[u8], at: usize) -> u32 {
+    u32::from_le_bytes(b[at..at + 4].try_into().unwrap())
+}
+
+fn float(b: &[u8], at: usize) -> f32 {
+    f32::from_bits(word(b, at))
+}
+
+fn vector(b: &[u8], at: usize) -> Vector {
+    Vector::new(float(b, at), float(b, at + 4))
+}
+
+fn rotation(b: &[u8], at: usize) -> Rotation {
+    Rotation { c: float(b, at), s: float(b, at + 4) }
+}
+
+fn movement_at(b: &[u8], at: usize) -> Sweep {
+    Sweep { local_center: vector(b, at), c1: vector(b, at + 8), c2: vector(b, at + 16), q1: rotation(b, at + 24), q2: rotation(b, at + 32) }
+}
+
+/// Refusal 10 or 11, or 0.
+fn fields(b: &[u8]) -> u32 {
+    let sum = (0..128).fold(0u32, |s, i| s.wrapping_add(word(b, 4 * i)));
+    if sum != u32::MAX {
+        return 10;
+    }
+    let (na, nb) = (b[4] as usize, b[5] as usize);
+    let count_bad = |n: usize| n < 1 || n > 16;
+    if word(b, 0) == 0 || count_bad(na) || count_bad(nb) {
+        return 11;
+    }
+    let zero = |from: usize, to: usize| b[from..to].iter().all(|&x| x == 0);
+    if zero(6, 8) && zero(104 + 8 * na, 232) && zero(232 + 8 * nb, 360) && zero(360, 508) {
+        0
+    } else {
+        11
+    }
+}
+
+pub fn sheet() {
+    let mut input = std::io::stdin().lock();
+    let mut out = std::io::BufWriter::new(std::io::stdout().lock());
+    let mut totals = [0u64; 4];
+    let mut b = [0u8; SIZE];
+    loop {
+        let mut n = 0;
+        while n < SIZE {
+            match input.read(&mut b[n..]).expect("standard input can be read") {
+                0 => break,
+                k => n += k,
+            }
+        }
+        if n == 0 {
+            break;
+        }
+        totals[0] += 1;
+        let refused = if n < SIZE { 9 } else { fields(&b) };
+        if refused != 0 {
+            totals[3] += 1;
+            let job = if refused == 11 { word(&b, 0) } else { 0 };
+            writeln!(out, "{} {job} {refused}", totals[0]).unwrap();
+            if refused == 9 {
+                break;
+            }
+            continue;
+        }
+        let numbers = |at: usize, n: usize| (0..2 * n).map(|i| float(&b, at + 4 * i)).collect::<Vec<f32>>();
+        let x = sweep::answer(&numbers(104, b[4] as usize), float(&b, 8), &movement_at(&b, 24), &numbers(232, b[5] as usize), float(&b, 12), &movement_at(&b, 64), float(&b, 16), float(&b, 20));
+        if x.refused != 0 {
+            totals[3] += 1;
+            writeln!(out, "{} {} {}", totals[0], word(&b, 0), x.refused).unwrap();
+            continue;
+        }
+        totals[if x.status == 2 { 1 } else { 2 }] += 1;
+        write!(out, "{} {} 0 {}", totals[0], word(&b, 0), ["O", "H", "S", "F"][x.status as usize]).unwrap();
+        for f in x.floats {
+            write!(out, " {:08X}", crate::ground::bits(f)).unwrap();
+        }
+        writeln!(out, " {} {} {}", x.counts[0], x.counts[1], x.counts[2]).unwrap();
+    }
+    writeln!(out, "TOTAL {} {} {} {}", totals[0], totals[1], totals[2], totals[3]).unwrap();
+}
+
+struct Job {
+    a: Vec<f32>,
+    b: Vec<f32>,
+    head: [f32; 4],
+    moves: [Sweep; 2],
+}
+
+fn block(job: u32, j: &Job) -> [u8; SIZE] {
+    let mut b = [0u8; SIZE];
+    let mut put = |at: usize, w: u32| b[at..at + 4].copy_from_slice(&w.to_le_bytes());
+    put(0, job);
+    put(4, (j.a.len() / 2) as u32 | ((j.b.len() / 2) as u32) << 8);
+    for (i, x) in j.head.iter().enumerate() {
+        put(8 + 4 * i, x.to_bits());
+    }
+    for (k, m) in j.moves.iter().enumerate() {
+        let w = [m.local_center.x, m.local_center.y, m.c1.x, m.c1.y, m.c2.x, m.c2.y, m.q1.c, m.q1.s, m.q2.c, m.q2.s];
+        for (i, x) in w.iter().enumerate() {
+            put(24 + 40 * k + 4 * i, x.to_bits());
+        }
+    }
+    for (at, s) in [(104, &j.a), (232, &j.b)] {
+        for (i, x) in s.iter().enumerate() {
+            put(at + 4 * i, x.to_bits());
+        }
+    }
+    seal(&mut b);
+    b
+}
+
+/// The check that fits.
+fn seal(b: &mut [u8; SIZE]) {
+    let sum = (0..127).fold(0u32, |s, i| s.wrapping_add(word(b, 4 * i)));
+    b[508..].copy_from_slice(&(!sum).to_le_bytes());
+}
+
+fn short(r: &mut Random) -> Vec<f32> {
+    let mut s = outline(r);
+    s.truncate(32);
+    s
+}
+
+/// One job of one of ten families.
+fn job(r: &mut Random, family: u64) -> Job {
+    let radius = |r: &mut Random| if r.below(2) == 0 { 0.0 } else { r.unit().abs() };
+    let slop = r.pick(&[0.005, 0.005, 0.01, 0.5, 1e-3, 1e-4]);
+    let fraction = r.pick(&[1.0, 1.0, 1.0, 0.5, 0.75, 0.0]);
+    let mut j = Job { a: short(r), b: short(r), head: [radius(r), radius(r), fraction, slop], moves: [movement(r), movement(r)] };
+    let still = |v: Vector| Sweep { local_center: Vector::ZERO, c1: v, c2: v, q1: Rotation { c: 1.0, s: 0.0 }, q2: Rotation { c: 1.0, s: 0.0 } };
+    match family {
+        // small grid, straight moves
+        1 => {
+            let mut grid = |n: u64| (0..2 * n).map(|_| r.whole(3)).collect::<Vec<f32>>();
+            j.a = grid(3);
+            j.b = grid(4);
+            j.moves = [still(Vector::ZERO), Sweep { c2: Vector::new(r.whole(2), r.whole(2)), ..still(Vector::new(r.whole(12), r.whole(12))) }];
+        }
+        // repeated and collinear points
+        2 => {
+            let p = [r.whole(3), r.whole(3)];
+            j.a = p.repeat(1 + r.below(16) as usize);
+            let n = 1 + r.below(16);
+            j.b = (0..n).flat_map(|i| [i as f32, 2.0 * i as f32]).collect();
+        }
+        // touching or overlapping starts
+        3 => {
+            let c = j.moves[0].c1;
+            j.moves[1].c1 = c;
+            j.moves[1].local_center = Vector::ZERO;
+            j.moves[0].local_center = Vector::ZERO;
+        }
+        // rotations of every kind
+        4 => {
+            for m in &mut j.moves {
+                m.q1 = angle(r);
+                m.q2 = angle(r);
+                m.local_center = Vector::new(5.0 * r.unit(), 5.0 * r.unit());
+            }
+        }
+        // edges of the domain, in and out
+        5 => {
+            let edges = edge_rotations();
+            let odd = [1_048_576.0, ABOVE_LIMIT, -0.0, 1e-45, -1e-45, 1.0];
+            for _ in 0..1 + r.below(3) {
+                match r.below(7) {
+                    0 => j.head[r.below(2) as usize] = r.pick(&odd),
+                    1 => j.head[2] = r.pick(&[f32::from_bits(0x3f80_0000), f32::from_bits(0x3f80_0001), -0.0, -1e-45]),
+                    2 => j.head[3] = r.pick(&[f32::from_bits(1), 0.0, -0.0, 1_048_576.0, ABOVE_LIMIT]),
+                    3 => j.moves[r.below(2) as usize].q1 = edges[r.below(4) as usize],
+                    4 => j.moves[r.below(2) as usize].c2.x = r.pick(&odd),
+                    5 => { let i = r.below(j.a.len() as u64) as usize; j.a[i] = r.pick(&odd) }
+                    _ => { let i = r.below(j.b.len() as u64) as usize; j.b[i] = r.pick(&odd) }
+                }
+            }
+        }
+        // special values anywhere
+        6 => {
+            for _ in 0..1 + r.below(4) {
+                let x = r.pick(&SPECIAL);
+                match r.below(6) {
+                    0 => j.head[r.below(4) as usize] = x,
+                    1 => j.moves[r.below(2) as usize].c1.y = x,
+                    2 => j.moves[r.below(2) as usize].local_center.x = x,
+                    3 => j.moves[r.below(2) as usize].q2.s = x,
+                    4 => { let i = r.below(j.a.len() as u64) as usize; j.a[i] = x }
+                    _ => { let i = r.below(j.b.len() as u64) as usize; j.b[i] = x }
+                }
+            }
+        }
+        // small slops, long searches
+        7 => j.head[3] = r.pick(&[1e-6, 1e-7, 1e-20, 1e-45]),
+        _ => {}
+    }
+    j
+}
+
+/// COUNT blocks: ten families in turn; the last two are damaged blocks, sealed again or not.
+pub fn batch(seed: u64, count: u64) {
+    let mut r = Random(seed);
+    let mut out = std::io::BufWriter::new(std::io::stdout().lock());
+    for i in 0..count {
+        let family = i % 10;
+        let number = if family == 8 && r.below(8) == 0 { 0 } else { r.next() as u32 | 1 };
+        let mut b = block(number, &job(&mut r, family));
+        if family >= 8 {
+            for _ in 0..1 + r.below(3) {
+                let any = r.below(508) as usize;
+                let at = r.pick(&[4, 5, 6, 7, 103, 230, 231, 358, 359, 360, 400, 507, any]);
+                b[at] = r.pick(&[0, 1, 16, 17, 128, 255]);
+            }
+            if family == 8 || r.below(2) == 0 {
+                seal(&mut b);
+            } else {
+                b[r.below(512) as usize] ^= 1 << r.below(8);
+            }
+        }
+        out.write_all(&b).unwrap();
+    }
+}
