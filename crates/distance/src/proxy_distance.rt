@@ -285,8 +285,11 @@ pub fn measure(
         Measurement { output, cache }
     } else {
         let output = apart(use_radii, radius_a, radius_b, w, ended);
-        let cache = write_cache(cache, simplex, count);
-        Measurement { output, cache }
+        let written = write_cache(cache, simplex, count);
+        Measurement {
+            output,
+            cache: written,
+        }
     }
 }
 
@@ -304,15 +307,17 @@ pub fn proxy_distance(
 {
     let pair = check_pair(points_a, points_b, radius_a, radius_b);
     let CheckedPair::Points(_, _) = pair else {
+        let number = pair_refusal(pair);
         return Distance {
-            answer: DistanceAnswer::Refused(pair_refusal(pair)),
+            answer: DistanceAnswer::Refused(number),
             cache,
         };
     };
     let pose = check_pose(pos12);
     let CheckedPose::Good(good) = pose else {
+        let number = pose_refusal(pose);
         return Distance {
-            answer: DistanceAnswer::Refused(pose_refusal(pose)),
+            answer: DistanceAnswer::Refused(number),
             cache,
         };
     };

@@ -70,10 +70,12 @@ pub fn check_pair(points_a: &[f32], points_b: &[f32], radius_a: f32, radius_b: f
     if bad_outline(points_b) {
         return CheckedPair::Refused(2);
     }
-    if bad_parts(points_a) | bad_parts(points_b) {
+    let parts = bad_parts(points_a) | bad_parts(points_b);
+    let radii = bad_radius(radius_a) | bad_radius(radius_b);
+    if parts {
         return CheckedPair::Refused(3);
     }
-    if bad_radius(radius_a) | bad_radius(radius_b) {
+    if radii {
         return CheckedPair::Refused(4);
     }
     CheckedPair::Points(points_a.len() / 2, points_b.len() / 2)

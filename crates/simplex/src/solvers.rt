@@ -166,12 +166,12 @@ pub fn solve_simplex3(simplex: [SimplexVertex; 3]) -> Solved
         };
     }
 
-    // e23: vertex 3 comes first
+    // e23
     if (d23_1 > 0.0) & (d23_2 > 0.0) & (d123_1 <= 0.0) {
         let inv_d23 = 1.0 / (d23_1 + d23_2);
         simplex[1].a = d23_1 * inv_d23;
         simplex[2].a = d23_2 * inv_d23;
-        simplex[0] = simplex[2];
+        simplex[0] = simplex[2]; // vertex 3 comes first
         let direction = off_edge(w2, w3);
         return Solved {
             simplex,

@@ -27,47 +27,47 @@ bad-parts-requires c κs = search needs
 bad-parts-requires-2 : tie.Need-bad-parts-requires-2
 bad-parts-requires-2 c κs = search needs
 
-returns-3 : tie.Need-returns-3
-unfolding checkedPair
-returns-3 c =
-    let u = c .before .before .before in
-    let t = u .before .before in
-    simp (
-      sym (t .before .bad-outline .ensures) ∙ t .if1 .left,
-      sym (u .before .bad-outline2 .ensures) ∙ u .if2 .left,
-      rw (c .before .before .bad-parts .ensures, c .before .bad-parts2 .ensures) at (c .if3 .taken),
-    )
-
 bad-radius-requires : tie.Need-bad-radius-requires
 bad-radius-requires c κs = search needs
 
 bad-radius-requires-2 : tie.Need-bad-radius-requires-2
 bad-radius-requires-2 c κs = search needs
 
+returns-3 : tie.Need-returns-3
+unfolding checkedPair
+returns-3 c =
+    let t = c .before .before .before .before .before in
+    let u = t .before .before in
+    simp (
+      sym (u .before .bad-outline .ensures) ∙ u .if1 .left,
+      sym (t .before .bad-outline2 .ensures) ∙ t .if2 .left,
+      rw (c .before .before .before .before .bad-parts .ensures, c .before .before .before .bad-parts2 .ensures) at (c .if3 .taken),
+    )
+
 returns-4 : tie.Need-returns-4
 unfolding checkedPair
 returns-4 c =
-    let w = c .before .before .before in
-    let u = w .before .before .before in
-    let t = u .before .before in
+    let n = c .before in
+    let t = n .before .before .before .before .before in
+    let u = t .before .before in
     simp (
-      sym (t .before .bad-outline .ensures) ∙ t .if1 .left,
-      sym (u .before .bad-outline2 .ensures) ∙ u .if2 .left,
-      rw (w .before .before .bad-parts .ensures, w .before .bad-parts2 .ensures) at (w .if3 .left),
-      rw (c .before .before .bad-radius .ensures, c .before .bad-radius2 .ensures) at (c .if4 .taken),
+      sym (u .before .bad-outline .ensures) ∙ u .if1 .left,
+      sym (t .before .bad-outline2 .ensures) ∙ t .if2 .left,
+      rw (n .before .before .before .before .bad-parts .ensures, n .before .before .before .bad-parts2 .ensures) at (n .if3 .left),
+      rw (n .before .before .bad-radius .ensures, n .before .bad-radius2 .ensures) at (c .if4 .taken),
     )
 
 returns-5 : tie.Need-returns-5
 unfolding checkedPair
 returns-5 c =
-    let w = c .before .before .before in
-    let u = w .before .before .before in
-    let t = u .before .before in
+    let n = c .before in
+    let t = n .before .before .before .before .before in
+    let u = t .before .before in
     simp (
-      sym (t .before .bad-outline .ensures) ∙ t .if1 .left,
-      sym (u .before .bad-outline2 .ensures) ∙ u .if2 .left,
-      rw (w .before .before .bad-parts .ensures, w .before .bad-parts2 .ensures) at (w .if3 .left),
-      rw (c .before .before .bad-radius .ensures, c .before .bad-radius2 .ensures) at (c .if4 .left),
+      sym (u .before .bad-outline .ensures) ∙ u .if1 .left,
+      sym (t .before .bad-outline2 .ensures) ∙ t .if2 .left,
+      rw (n .before .before .before .before .bad-parts .ensures, n .before .before .before .bad-parts2 .ensures) at (n .if3 .left),
+      rw (n .before .before .bad-radius .ensures, n .before .bad-radius2 .ensures) at (c .if4 .left),
     )
 
 pub check-pair-spec : {M : Type 1} → statement M
@@ -80,8 +80,8 @@ check-pair-spec =
     returns-2
     bad-parts-requires
     bad-parts-requires-2
-    returns-3
     bad-radius-requires
     bad-radius-requires-2
+    returns-3
     returns-4
     returns-5)
