@@ -1,0 +1,4 @@
+pub mod Plane
+pub mod Outline
+pub mod SquaredPaper
+pub mod Regions
