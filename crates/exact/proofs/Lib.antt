@@ -6,3 +6,9 @@ mod Kept
 mod Solved
 mod Furthest
 mod Paper
+mod Weights
+mod Nearest
+mod Entries
+mod Rounds
+mod Answered
+pub mod Demand3
