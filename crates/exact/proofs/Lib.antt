@@ -12,3 +12,5 @@ mod Entries
 mod Rounds
 mod Answered
 pub mod Demand3
+mod Sheets
+mod Instances

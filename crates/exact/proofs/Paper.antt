@@ -26,7 +26,7 @@ use Rattle.exact.proofs.Vectors.{SizedPoint, weaken-point, negate-sized
 use Rattle.exact.proofs.Furthest.{Furthest, support-furthest}
 
 -- ---- a cosine and a sine are at most 1 in size
-unit-root : (c : Int) → c ⊠ c ≼ ofNat 1 → Within 1 c
+pub unit-root : (c : Int) → c ⊠ c ≼ ofNat 1 → Within 1 c
 unit-root c h = record {
   upper = le-of-suc-le-suc (lt-of-not-le (λ (n : suc (c .minus + 1) ≤ c .plus). no-upper n));
   lower = le-of-suc-le-suc (lt-of-not-le (λ (n : suc (c .plus + 1) ≤ c .minus). no-lower n));
@@ -43,21 +43,19 @@ pub record Small (n : ℕ) (x : Float) (z : Int) : Type 0 where
   pub whole : IsWhole x z
   pub within : Within n z
 
-module _ (f : Format) where
-  wide : 4194304 ≤ 2 ^ prec f
-  wide = wide-at f
-    where
-      wide-at : (f : Format) → 4194304 ≤ 2 ^ prec f
-      wide-at binary32 = lit≤ tt
-      wide-at binary64 = lit≤ tt
+-- four times the domain's largest number has room in either format
+pub wide : (f : Format) → 4194304 ≤ 2 ^ prec f
+wide binary32 = lit≤ tt
+wide binary64 = lit≤ tt
 
+module _ (f : Format) where
   module _ {n : ℕ} {x y : Float} {a b : Int} where
     turn-small : T (leb n 4194304) → Small 1 x a → Small n y b → Small n (I.mul f x y) (a ⊠ b)
     turn-small h i j =
         let p = within-product 1 n a b (i .within) (j .within) in
         let e : 1 * n ≡ n = one-mul n in
         let l = leb→le n 4194304 h in
-        let w = wide in
+        let w = wide f in
         record {
           whole = mul-exact f x y a b (i .whole) (j .whole) (record { upper = omega (arith, p .upper); lower = omega (arith, p .lower) });
           within = record { upper = omega (arith, p .upper); lower = omega (arith, p .lower) };
@@ -67,7 +65,7 @@ module _ (f : Format) where
       add-small : Small (n + m) (I.add f x y) (a ⊞ b)
       add-small =
           let l = leb→le (n + m) 4194304 h in
-          let w = wide in
+          let w = wide f in
           record {
             whole = add-exact f x y a b (i .whole) (j .whole) (record { upper = omega (arith, i .within .upper, j .within .upper); lower = omega (arith, i .within .lower, j .within .lower) });
             within = record { upper = omega (arith, i .within .upper, j .within .upper); lower = omega (arith, i .within .lower, j .within .lower) };
@@ -76,7 +74,7 @@ module _ (f : Format) where
       sub-small : Small (n + m) (I.sub f x y) (a ⊟ b)
       sub-small =
           let l = leb→le (n + m) 4194304 h in
-          let w = wide in
+          let w = wide f in
           record {
             whole = sub-exact f x y a b (i .whole) (j .whole) (record { upper = omega (arith, i .within .upper, j .within .lower); lower = omega (arith, i .within .lower, j .within .upper) });
             within = record { upper = omega (arith, i .within .upper, j .within .lower); lower = omega (arith, i .within .lower, j .within .upper) };

@@ -2,3 +2,4 @@ pub mod Plane
 pub mod Outline
 pub mod SquaredPaper
 pub mod Regions
+pub mod Sheet
