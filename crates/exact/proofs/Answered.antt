@@ -54,13 +54,13 @@ good-outline s h =
     sized (suc (suc n)) h k l = (omega arith, l)
 
 -- ---- a part
-limit-whole : (f : Format) → IsWhole (limit f) (ofNat 1048576)
+pub limit-whole : (f : Format) → IsWhole (limit f) (ofNat 1048576)
 unfolding ofBits
 limit-whole binary32 = record { sign = false; size = 1048576; value = (refl, refl); same = refl }
 limit-whole binary64 = record { sign = false; size = 1048576; value = (refl, refl); same = refl }
 
 module _ (f : Format) where
-  abs-whole : (x : Float) (z : Int) (i : IsWhole x z) → IsWhole (abs x) (ofNat (i .size))
+  pub abs-whole : (x : Float) (z : Int) (i : IsWhole x z) → IsWhole (abs x) (ofNat (i .size))
   unfolding abs
   abs-whole nan z i = absurd (i .value)
   abs-whole (inf s) z i = absurd (i .value)

@@ -1,9 +1,9 @@
 -- Demand 3 is not empty: calls with real outlines, computed by the checker, and what the theorem says of each. Assumes nothing.
--- No call on squared paper within 16 is known to end at the round limit; the last instance, with parts of 1 in 64, shows that ending.
+-- No call on squared paper within 16 is known to end at the round limit (nine rounds are the most that were met), so that ending is shown off the paper.
 use mathlib.Core.Path.{_≡_, refl, sym, _∙_, subst}
 use native.Mathlib.Omega.{arith}
 use mathlib.Core.Bool.{Bool, true, false}
-use mathlib.Core.List.{List, [], _∷_}
+use mathlib.Core.List.{List, [], _∷_, map}
 use Prim.Native.Nat.{ℕ}
 use lib.ListN.{length}
 use lib.IntN.{ℤ, pos, negsuc}
@@ -70,6 +70,14 @@ pub joined-on-paper : OnPaper joined 16
 unfolding every _⊠_
 joined-on-paper = record { numbersA = tt; numbersB = tt; quarterTurn = tt; shifted = tt; near = tt }
 
+-- ---- a call off the paper, by bit patterns: six corners and one
+abbrev pub turning : Distance
+turning =
+    let points : List ℕ → List Float = map (ofBits binary32) in
+    proxyDistance binary32 (Ground.pose (Ground.rotation (Ground.one binary32) (Ground.zero binary32)) (Ground.origin binary32))
+    (points (0xc5ac_70da ∷ 0xc604_2da4 ∷ 0x445d_2f0c ∷ 0xc306_bbe0 ∷ 0x445d_302e ∷ 0xc306_b385 ∷ 0xc56b_a61c ∷ 0xc5c2_c875 ∷ 0xc56b_a615 ∷ 0xc5c2_c873 ∷ 0x445d_2f6c ∷ 0xc306_b9ff ∷ [])) (Ground.zero binary32)
+    (points (0x445d_2f4e ∷ 0xc306_bc0f ∷ [])) (Ground.zero binary32) false none
+
 -- ---- the calls, computed: apart, from no cache and from a stale one, and joined. The edge from (2, 2) to (2, 0) is nearest to the triangle's corner 0
 abbrev pub stale : SimplexCache
 stale = cache 3 (3 ∷ 0 ∷ 3 ∷ []) (1 ∷ 2 ∷ 2 ∷ [])
@@ -87,10 +95,11 @@ pub record Computed : Type 0 where
   pub staleCache : call apart stale .cache ≡ fromStale
   pub joinedEnds : endings (call joined none .answer) ≡ (Touching ∷ [])
   pub joinedCache : call joined none .cache ≡ none
+  pub turningEnds : endings (turning .answer) ≡ (RoundLimit ∷ [])
 
 pub computed : Computed
 unfolding proxyDistance measure roundsFrom startSimplex vertex held solve solveSimplex2 solveSimplex3 region2 region3 kept supportFrom witnessPoints allBelow replaced badParts abs ofBits ofInt round add sub mul div neg lt le eq root
-computed = record { apartEnds = refl; apartCache = refl; staleEnds = refl; staleCache = refl; joinedEnds = refl; joinedCache = refl }
+computed = record { apartEnds = refl; apartCache = refl; staleEnds = refl; staleCache = refl; joinedEnds = refl; joinedCache = refl; turningEnds = refl }
 
 -- what the theorem says of a computed call
 tells : (s : Sheet) (paper : OnPaper s 16) (c : SimplexCache) → IsCache c → (e : Ending) → endings (call s c .answer) ≡ (e ∷ []) → (e ≡ RoundLimit → ⊥)

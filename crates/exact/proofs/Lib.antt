@@ -11,6 +11,7 @@ mod Nearest
 mod Entries
 mod Rounds
 mod Answered
+pub mod Accepted
 pub mod Demand3
 mod Sheets
 mod Instances

@@ -50,7 +50,7 @@ wide binary64 = lit≤ tt
 
 module _ (f : Format) where
   module _ {n : ℕ} {x y : Float} {a b : Int} where
-    turn-small : T (leb n 4194304) → Small 1 x a → Small n y b → Small n (I.mul f x y) (a ⊠ b)
+    pub turn-small : T (leb n 4194304) → Small 1 x a → Small n y b → Small n (I.mul f x y) (a ⊠ b)
     turn-small h i j =
         let p = within-product 1 n a b (i .within) (j .within) in
         let e : 1 * n ≡ n = one-mul n in
@@ -62,7 +62,7 @@ module _ (f : Format) where
         }
 
     module _ {m : ℕ} (h : T (leb (n + m) 4194304)) (i : Small n x a) (j : Small m y b) where
-      add-small : Small (n + m) (I.add f x y) (a ⊞ b)
+      pub add-small : Small (n + m) (I.add f x y) (a ⊞ b)
       add-small =
           let l = leb→le (n + m) 4194304 h in
           let w = wide f in
@@ -79,6 +79,14 @@ module _ (f : Format) where
             whole = sub-exact f x y a b (i .whole) (j .whole) (record { upper = omega (arith, i .within .upper, j .within .lower); lower = omega (arith, i .within .lower, j .within .upper) });
             within = record { upper = omega (arith, i .within .upper, j .within .lower); lower = omega (arith, i .within .lower, j .within .upper) };
           }
+
+-- ---- a quarter-turn
+module _ {bound : ℕ} {p : Pose} {a b : List Float} (paper : SquaredPaper bound p a b) where
+  pub cosine-is : Small 1 (p .rotation .c) (paper .cosine)
+  cosine-is = record { whole = paper .wholeCosine; within = unit-root (paper .cosine) (omega (arith, paper .quarterTurn, ⊠-square (paper .sine))) }
+
+  pub sine-is : Small 1 (p .rotation .s) (paper .sine)
+  sine-is = record { whole = paper .wholeSine; within = unit-root (paper .sine) (omega (arith, paper .quarterTurn, ⊠-square (paper .cosine))) }
 
 -- ---- what an answered call tells of its inputs
 pub record InDomain {bound : ℕ} {p : Pose} {a b : List Float} (paper : SquaredPaper bound p a b) : Type 0 where
@@ -103,12 +111,6 @@ module _ (f : Format) {bound : ℕ} (room : Room f bound) {p : Pose} {a b : List
   abbrev posed : ℕ → Point
   posed = posedB paper .corner
 
-  cosine-small : Small 1 (p .rotation .c) c
-  cosine-small = record { whole = paper .wholeCosine; within = unit-root c (omega (arith, paper .quarterTurn, ⊠-square s)) }
-
-  sine-small : Small 1 (p .rotation .s) s
-  sine-small = record { whole = paper .wholeSine; within = unit-root s (omega (arith, paper .quarterTurn, ⊠-square c)) }
-
   posed-is : (j : ℕ) → j < length b / 2 → IsPoint (onPoint f p (point b j)) (posed j)
   posed-is j h =
       let x : Small 1048576 (point b j .x) (paper .cornerB j .x) = record { whole = paper .wholeB j h .x; within = domain .smallB j h .x } in
@@ -116,8 +118,8 @@ module _ (f : Format) {bound : ℕ} (room : Room f bound) {p : Pose} {a b : List
       let tx : Small 1048576 (p .translation .x) (paper .shift .x) = record { whole = paper .wholeShift .x; within = domain .smallShift .x } in
       let ty : Small 1048576 (p .translation .y) (paper .shift .y) = record { whole = paper .wholeShift .y; within = domain .smallShift .y } in
       record {
-        x = add-small f tt (sub-small f tt (turn-small f tt cosine-small x) (turn-small f tt sine-small y)) tx .whole;
-        y = add-small f tt (add-small f tt (turn-small f tt sine-small x) (turn-small f tt cosine-small y)) ty .whole;
+        x = add-small f tt (sub-small f tt (turn-small f tt (cosine-is paper) x) (turn-small f tt (sine-is paper) y)) tx .whole;
+        y = add-small f tt (add-small f tt (turn-small f tt (sine-is paper) x) (turn-small f tt (cosine-is paper) y)) ty .whole;
       }
 
   -- ---- differences of corners
@@ -165,10 +167,10 @@ module _ (f : Format) {bound : ℕ} (room : Room f bound) {p : Pose} {a b : List
       let D = difference (posed j) (posed 0) in
       let dx : Within (2 * bound) (D .x) = record { upper = omega (arith, n .x .lower, m .x .upper); lower = omega (arith, n .x .upper, m .x .lower) } in
       let dy : Within (2 * bound) (D .y) = record { upper = omega (arith, n .y .lower, m .y .upper); lower = omega (arith, n .y .upper, m .y .lower) } in
-      let cx = within-product 1 (2 * bound) c (D .x) (cosine-small .within) dx in
-      let cy = within-product 1 (2 * bound) c (D .y) (cosine-small .within) dy in
-      let sx = within-product 1 (2 * bound) s (D .x) (sine-small .within) dx in
-      let sy = within-product 1 (2 * bound) s (D .y) (sine-small .within) dy in
+      let cx = within-product 1 (2 * bound) c (D .x) ((cosine-is paper) .within) dx in
+      let cy = within-product 1 (2 * bound) c (D .y) ((cosine-is paper) .within) dy in
+      let sx = within-product 1 (2 * bound) s (D .x) ((sine-is paper) .within) dx in
+      let sy = within-product 1 (2 * bound) s (D .y) ((sine-is paper) .within) dy in
       let ρ : List Int = c ∷ s ∷ q .x ∷ q .y ∷ o .x ∷ o .y ∷ paper .shift .x ∷ paper .shift .y ∷ [] in
       let X = var 0 :* var 2 :- var 1 :* var 3 :+ var 6 :- (var 0 :* var 4 :- var 1 :* var 5 :+ var 6) in
       let Y = var 1 :* var 2 :+ var 0 :* var 3 :+ var 7 :- (var 1 :* var 4 :+ var 0 :* var 5 :+ var 7) in
@@ -190,8 +192,8 @@ module _ (f : Format) {bound : ℕ} (room : Room f bound) {p : Pose} {a b : List
   turned-back : {d : Vector} {e : Point} → SizedPoint bound d e 16 3 → SizedPoint bound (inverseRotate f (p .rotation) (negate d)) (unturned c s (opposite e)) 32 3
   turned-back i =
       let n = negate-sized f bound room i in
-      let ic = unit-sized cosine-small in
-      let is = unit-sized sine-small in
+      let ic = unit-sized (cosine-is paper) in
+      let is = unit-sized (sine-is paper) in
       record {
         x = add-sized f bound (room .0) (room .1) (mul-sized f bound (room .0) (room .1) ic (n .x) tt tt) (mul-sized f bound (room .0) (room .1) is (n .y) tt tt) tt tt;
         y = sub-sized f bound (room .0) (room .1) (mul-sized f bound (room .0) (room .1) ic (n .y) tt tt) (mul-sized f bound (room .0) (room .1) is (n .x) tt tt) tt tt;

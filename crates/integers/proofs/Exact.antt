@@ -43,9 +43,9 @@ signed-mul false true q r = omega arith
 signed-mul true false q r = omega arith
 signed-mul true true q r = omega arith
 
-size-le : (B : ℕ) (s : Bool) (q : ℕ) (z : Int) → signed s q ≃ z → Within B z → q ≤ B
-size-le B false q z h w = omega (arith, w .upper, w .lower)
-size-le B true q z h w = omega (arith, w .upper, w .lower)
+pub size-within : (B : ℕ) (s : Bool) (q : ℕ) (z : Int) → signed s q ≃ z → Within B z → q ≤ B
+size-within B false q z h w = omega (arith, w .upper, w .lower)
+size-within B true q z h w = omega (arith, w .upper, w .lower)
 
 pub mul-exact : (f : Format) (x y : Float) (a b : Int) → IsWhole x a → IsWhole y b → Within (2 ^ prec f) (a ⊠ b) → IsWhole (I.mul f x y) (a ⊠ b)
 unfolding I.mul
@@ -63,7 +63,7 @@ mul-exact f (fin s m e) (fin t n d) a b i j w =
       sign = sg;
       size = q * r;
       value = subst (λ (z : Bool). HasValue (round f z (m * up e * (n * up d)) (down e * down d)) sg (q * r) 1) (ap (λ (z : Bool). unlike z (j .sign)) (sym (i .value .0)) ∙ ap (λ (z : Bool). unlike s z) (sym (j .value .0)))
-          (round-exact f sg (m * up e * (n * up d)) (down e * down d) (q * r) (mul-pos (down-pos e) (down-pos d)) k (size-le (2 ^ prec f) sg (q * r) (a ⊠ b) c w));
+          (round-exact f sg (m * up e * (n * up d)) (down e * down d) (q * r) (mul-pos (down-pos e) (down-pos d)) k (size-within (2 ^ prec f) sg (q * r) (a ⊠ b) c w));
       same = c;
     }
 
@@ -73,7 +73,7 @@ less-by q r c = ap (λ (z : ℕ). z - q * c) (mul-comm r c) ∙ ap (λ (z : ℕ)
 
 module _ (f : Format) (c : ℕ) (C : 0 < c) where
   at : (s : Bool) (num q : ℕ) (z : Int) → num ≡ q * c → signed s q ≃ z → Within (2 ^ prec f) z → IsWhole (round f s num c) z
-  at s num q z e h w = record { sign = s; size = q; value = round-exact f s num c q C e (size-le (2 ^ prec f) s q z h w); same = h }
+  at s num q z e h w = record { sign = s; size = q; value = round-exact f s num c q C e (size-within (2 ^ prec f) s q z h w); same = h }
 
   minus : (s t u : Bool) (q r : ℕ) (z : Int) → signed s q ⊞ signed t r ≃ z → Within (2 ^ prec f) z
       → (q * c < r * c → signed t (r - q) ≃ z) → (r * c ≤ q * c → signed u (q - r) ≃ z)
