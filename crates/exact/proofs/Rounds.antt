@@ -205,4 +205,4 @@ module _ (f : Format) {bound : ℕ} (room : Room f bound) {p : Pose} {a b : List
       go t m d (covers c) ih = shares h c
 
   pub call-right : (c : SimplexCache) → Right (rounds f a b p c)
-  call-right c = rounds-right 20 (startSimplex f a b p c) (startCount f a b p c) (origin f) 0 (start-slots c)
+  call-right c = rounds-right _ (startSimplex f a b p c) (startCount f a b p c) (origin f) 0 (start-slots c)
