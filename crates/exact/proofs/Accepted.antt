@@ -1,32 +1,26 @@
 -- A call on squared paper with its inputs in the domain is answered: no check refuses it. Assumes nothing.
 use mathlib.Core.Path.{_≡_, refl, sym, ap, _∙_, subst}
-use mathlib.Core.Bool.{Bool, true, false, not, _&&_, _||_, cond, true≢false}
+use mathlib.Core.Bool.{Bool, true, false, not}
 use mathlib.Core.List.{List, [], _∷_}
-use Prim.Native.Nat.{ℕ, zero, suc, _+_, _*_, _/_, _%_, _^_, _≤_, _<_, suc-le-suc}
+use Prim.Native.Nat.{ℕ, zero, suc, _*_, _/_, _%_, _≤_, _<_, suc-le-suc}
 use native.Mathlib.Nat.{zero-lt-suc, one-mul}
 use native.Mathlib.Omega.{arith}
 use lib.Dec.{T, eqb, ltb, eqb→eq, ltb→lt, nltb→le}
-use lib.IntN.{negsuc}
 use lib.ListN.{length, getD}
-use lib.Ieee.{Float, nan, inf, fin, Format, binary32, binary64, ofBits, up, down, below, level}
+use lib.Ieee.{Float, nan, inf, fin, Format, binary32, binary64, ofBits, up, down}
 use lib.Ieee as I
 use lib.Ieee.Fits.{down-pos}
-use lib.Ieee.Exact.{HasValue}
-use Rattle.integers.specs.Signed.{Int, ofNat, _⊞_, _⊠_, _≼_, _≺_, _≃_}
+use Rattle.integers.specs.Signed.{Int, ofNat, _≼_, _≺_, _≃_}
 use Rattle.integers.specs.Whole.{signed, IsWhole, Within, Test}
 use Rattle.integers.proofs.Exact.{size-of, size-within}
 use Rattle.integers.proofs.Compare.{le-exact}
 use Rattle.model.specs.declared.Pose.{Pose}
-use Rattle.model.specs.declared.SimplexCache.{SimplexCache}
-use Rattle.model.specs.declared.ProxyDistanceOutput.{ProxyDistanceOutput}
-use Rattle.model.specs.declared.DistanceAnswer.the-variants.{Measured}
 use Rattle.model.specs.Ground.{constant, one, abs}
-use Rattle.model.specs.Domain.{badOutline, limit, badPart, badParts, badVector, badRadius, squared, badRotation, pairRefusal, poseRefusal, orElse}
+use Rattle.model.specs.Domain.{badOutline, limit, badPart, badParts, squared, badRotation}
 use Rattle.model.specs.Distance.{measure, distanceRefusal, distanceBy, proxyDistance}
 use Rattle.model.specs.Support.{point}
 use Rattle.exact.specs.Plane.{Point}
-use Rattle.exact.specs.SquaredPaper.{IsPoint, Near, SquaredPaper, Fits, InTheDomain, Answered}
-use Rattle.exact.proofs.Vectors.{whole-of-equal}
+use Rattle.exact.specs.SquaredPaper.{IsPoint, Near, SquaredPaper, Fits, Answered}
 use Rattle.exact.proofs.Paper.{Small, cosine-is, sine-is, turn-small, add-small}
 use Rattle.exact.proofs.Answered.{abs-whole, limit-whole}
 

@@ -1,11 +1,11 @@
 -- A call that is answered has its inputs in the domain: the outlines have 1 to 64 points, and whole-number parts are at most 1,048,576 in size. Assumes nothing.
 use mathlib.Core.Path.{_≡_, refl, sym, subst}
-use mathlib.Core.Bool.{Bool, true, false, not, _&&_, _||_, cond, true≢false}
+use mathlib.Core.Bool.{Bool, true, false, not, _||_, cond, true≢false}
 use mathlib.Core.List.{List, [], _∷_}
 use Prim.Native.Nat.{ℕ, zero, suc, _+_, _*_, _/_, _%_, _≤_, _<_}
 use native.Mathlib.Nat.{not-suc-le-zero, le-of-suc-le-suc}
 use native.Mathlib.Omega.{arith}
-use lib.Dec.{T, eqb, ltb, eqb→eq, nltb→le, eqb-refl}
+use lib.Dec.{T, eqb, ltb, nltb→le, eqb-refl}
 use lib.ListN.{length, getD}
 use lib.Ieee.{Float, nan, inf, fin, Format, binary32, binary64, ofBits}
 use lib.Ieee as I
@@ -14,9 +14,8 @@ use Rattle.integers.specs.Whole.{signed, IsWhole, Within, Test}
 use Rattle.integers.proofs.Compare.{le-exact}
 use Rattle.model.specs.declared.Pose.{Pose}
 use Rattle.model.specs.Ground.{abs}
-use Rattle.model.specs.Domain.{badOutline, limit, badPart, badParts, badRadius, badRotation, badVector, pairRefusal, poseRefusal, orElse}
-use Rattle.model.specs.Distance.{distanceRefusal}
-use Rattle.exact.specs.SquaredPaper.{Near, SquaredPaper}
+use Rattle.model.specs.Domain.{badOutline, limit, badPart, badParts, badRotation, badVector, pairRefusal, poseRefusal, orElse}
+use Rattle.exact.specs.SquaredPaper.{SquaredPaper}
 use Rattle.exact.proofs.Paper.{InDomain}
 
 -- ---- nothing is refused

@@ -1,11 +1,11 @@
--- Demand 3, over either format and every bound that leaves the room, and at the bound of each format. Assumes nothing.
+-- Demand 3, over either format and every bound that leaves the room, and at the bound of each format: 16 for f32, 2,048 for f64. Assumes nothing.
 use mathlib.Core.Path.{_≡_, refl, sym, ap, _∙_, subst}
-use mathlib.Core.Bool.{Bool, true, false, _&&_}
+use mathlib.Core.Bool.{Bool, true, false}
 use mathlib.Core.List.{List, [], _∷_}
-use Prim.Native.Nat.{ℕ, zero, suc, _+_, _*_, _/_, _≤_, _<_}
+use Prim.Native.Nat.{ℕ, zero, suc, _/_, _≤_}
 use native.Mathlib.Omega.{arith}
 use lib.Dec.{lit≤}
-use lib.ListN.{length, getD}
+use lib.ListN.{length}
 use lib.Ieee.{Float, Format, binary32, binary64}
 use Rattle.model.specs.declared.Pose.{Pose}
 use Rattle.model.specs.declared.SimplexVertex.{SimplexVertex}
@@ -17,13 +17,14 @@ use Rattle.model.specs.declared.ProxyDistanceOutput.{ProxyDistanceOutput}
 use Rattle.model.specs.declared.DistanceAnswer.the-variants.{Measured, Refused}
 use Rattle.model.specs.declared.WitnessPoints.{WitnessPoints}
 use Rattle.model.specs.Distance.{cache, replaced, written, measuredBy, cacheBy, measure, rounds, witnessPoints, distanceBy, distanceRefusal, proxyDistance}
-use Rattle.exact.specs.Outline.{Outline, SharesPoint, SpansNearestPlace}
-use Rattle.exact.specs.SquaredPaper.{SquaredPaper, outlineA, posedB, IsCache, Room, boundOf, Exact, Demand3}
+use Rattle.exact.specs.Outline.{SpansNearestPlace}
+use Rattle.exact.specs.SquaredPaper.{SquaredPaper, outlineA, posedB, IsCache, Room, boundOf, Exact, Demand3, Answered}
 use Rattle.exact.proofs.Paper.{InDomain}
 use Rattle.exact.proofs.Solved.{below1, below2, below3, one, two, three}
 use Rattle.exact.proofs.Entries.{valid-by-entries}
 use Rattle.exact.proofs.Rounds.{Slots, Spanned, RightEnd, Right, call-right}
 use Rattle.exact.proofs.Answered.{answered-in-domain}
+use Rattle.exact.proofs.Accepted.{accepted}
 
 -- ---- the cache that a settled call returns
 data Three : List ℕ → Type 0 where
@@ -122,3 +123,6 @@ room-of binary64 = (lit≤ tt, lit≤ tt)
 
 pub exact-on-squared-paper : (f : Format) → Demand3 f (boundOf f)
 exact-on-squared-paper f = demand3 f (boundOf f) (room-of f)
+
+pub answered-on-squared-paper : (f : Format) → Answered f (boundOf f)
+answered-on-squared-paper f = accepted f (boundOf f)

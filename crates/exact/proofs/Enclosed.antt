@@ -2,13 +2,12 @@
 -- A test of an edge fails where the origin lies on the third vertex's side, or past one end. Past an end it lies on the third vertex's side if it does so at the
 -- other edge of that end. So each edge is answered by itself or by a neighbour. Two edges cannot wait for each other, since of the tests at their common vertex one
 -- passes, nor can three in a circle, since the six distances along the edges have equal sums either way round. Assumes nothing.
-use mathlib.Core.Path.{_≡_, sym}
+use mathlib.Core.Path.{sym}
 use mathlib.Core.Logic.{_⊎_, inl, inr}
-use mathlib.Core.List.{List, [], _∷_}
-use Prim.Native.Nat.{ℕ, _≤_, _<_}
+use Prim.Native.Nat.{_≤_, _<_}
 use native.Mathlib.Omega.{arith}
 use Rattle.integers.specs.Signed.{Int, 0Int, neg, _⊞_, _⊟_, _⊠_, _≼_, _≺_, _≃_}
-use Rattle.integers.specs.Polynomial.{_:+_, _:-_, _:*_, negated}
+use Rattle.integers.specs.Polynomial.{_:+_, _:-_, _:*_}
 use Rattle.integers.proofs.Signed.{⊠-comm, ⊠-neg, ⊠-nonneg, ⊠-pos, ⊠-pos-back, ⊠-square, le-or-lt}
 use Rattle.integers.proofs.Ring.{ring}
 use Rattle.model.specs.Simplex.{inside}

@@ -2,17 +2,16 @@
 -- No call on squared paper within 16 is known to end at the round limit (nine rounds are the most that were met), so that ending is shown off the paper.
 use mathlib.Core.Path.{_≡_, refl, sym, _∙_, subst}
 use native.Mathlib.Omega.{arith}
-use mathlib.Core.Bool.{Bool, true, false}
+use mathlib.Core.Bool.{false}
 use mathlib.Core.List.{List, [], _∷_, map}
 use Prim.Native.Nat.{ℕ}
 use lib.ListN.{length}
-use lib.IntN.{ℤ, pos, negsuc}
-use lib.Ieee.{Float, Format, binary32, binary64, ofBits, ofInt, add, sub, mul, div, neg, lt, le, eq, round}
+use lib.IntN.{pos, negsuc}
+use lib.Ieee.{Float, binary32, ofBits, ofInt, add, sub, mul, div, neg, lt, le, eq, round}
 use Rattle.integers.specs.Signed.{_⊠_}
 use Rattle.model.specs.declared.SimplexCache.{SimplexCache}
 use Rattle.model.specs.declared.Ending.{Ending}
 use Rattle.model.specs.declared.Ending.the-variants.{Touching, Settled, RoundLimit}
-use Rattle.model.specs.declared.ProxyDistanceOutput.{ProxyDistanceOutput}
 use Rattle.model.specs.declared.DistanceAnswer.{DistanceAnswer}
 use Rattle.model.specs.declared.DistanceAnswer.the-variants.{Measured, Refused}
 use Rattle.model.specs.declared.Distance.{Distance}

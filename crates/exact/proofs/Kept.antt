@@ -1,11 +1,11 @@
 -- What a solve keeps of the places held. Whole-number weights on the kept ones give the place nearest to the origin, the search direction d is its opposite, a whole
 -- number of times, and nothing held lies further along d than the kept place: one lemma for a vertex and one for an edge. Assumes nothing.
-use mathlib.Core.Path.{_≡_, refl}
-use mathlib.Core.List.{List, [], _∷_}
-use Prim.Native.Nat.{ℕ, zero, suc, _+_, _-_, _≤_, _<_}
+use mathlib.Core.Path.{refl}
+use mathlib.Core.List.{[], _∷_}
+use Prim.Native.Nat.{ℕ, zero, suc, _+_, _-_, _<_}
 use native.Mathlib.Nat.{zero-lt-suc}
 use native.Mathlib.Omega.{arith}
-use Rattle.integers.specs.Signed.{Int, 0Int, ofNat, neg, _⊞_, _⊟_, _⊠_, _≼_, _≺_, _≃_}
+use Rattle.integers.specs.Signed.{Int, 0Int, ofNat, neg, _⊞_, _⊠_, _≼_, _≺_, _≃_}
 use Rattle.integers.specs.Polynomial.{Expr, var, lit, _:+_, _:-_, _:*_, negated}
 use Rattle.integers.proofs.Signed.{⊠-cong, ⊠-cong-r}
 use Rattle.integers.proofs.Ring.{ring}

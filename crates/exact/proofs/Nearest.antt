@@ -1,9 +1,8 @@
 -- A kept place, along whose direction no pair of corners reaches further than the places held, is nearest over the whole outlines; if it is not the origin the outlines
 -- share no point, and if it is they do. The reason: every point of the outlines' difference lies beyond the line through the kept place that stands across the direction.
 -- Assumes nothing.
-use mathlib.Core.Path.{_≡_, refl}
 use mathlib.Core.List.{List, [], _∷_}
-use Prim.Native.Nat.{ℕ, _+_, _*_, _≤_, _<_}
+use Prim.Native.Nat.{ℕ, _+_, _*_, _<_}
 use native.Mathlib.Omega.{arith}
 use Rattle.integers.specs.Signed.{Int, 0Int, ofNat, neg, _⊞_, _⊟_, _⊠_, _≼_, _≺_, _≃_}
 use Rattle.integers.specs.Polynomial.{var, _:+_, _:-_, _:*_, negated}

@@ -1,22 +1,21 @@
 -- In which region a solver finds the origin: over whole numbers of bounded size, where it lies. Assumes nothing.
-use mathlib.Core.Path.{_≡_, refl}
+use mathlib.Core.Path.{refl}
 use mathlib.Core.Logic.{_⊎_, inl, inr}
 use mathlib.Core.Bool.{Bool, true, false, _&&_, cond}
-use mathlib.Core.List.{List, [], _∷_}
-use Prim.Native.Nat.{ℕ, _+_, _*_, _^_, _≤_, _<_}
+use Prim.Native.Nat.{ℕ, _*_}
 use lib.Ieee.{Float, Format}
 use lib.Ieee as I
-use Rattle.integers.specs.Signed.{Int, 0Int, neg, _⊠_, _≼_, _≺_, _≃_}
-use Rattle.integers.specs.Whole.{IsWhole, Sized, Test}
+use Rattle.integers.specs.Signed.{Int, 0Int, _⊠_, _≼_, _≺_, _≃_}
+use Rattle.integers.specs.Whole.{IsWhole, Test}
 use Rattle.integers.proofs.Ring.{ring}
 use Rattle.integers.proofs.Compare.{test-and, lt-exact, le-exact}
 use Rattle.integers.proofs.Sized.{neg-sized, mul-sized}
 use Rattle.integers.specs.Polynomial.{_:*_}
 use Rattle.model.specs.declared.Vector.{Vector}
-use Rattle.model.specs.Simplex.{Region, at1, at2, at3, on12, on13, on23, inside, near, far, area, region2, region3}
+use Rattle.model.specs.Simplex.{at1, at2, at3, on12, on13, on23, inside, near, far, region2, region3}
 use Rattle.model.specs.Simplex as Simplex
 use Rattle.model.specs.Ground as Ground
-use Rattle.exact.specs.Plane.{Point, difference, dot, perp}
+use Rattle.exact.specs.Plane.{Point, difference, perp}
 use Rattle.exact.specs.Regions.{toward, across, Lies2, Lies3}
 use Rattle.exact.specs.SquaredPaper.{Room}
 use Rattle.exact.proofs.Sketch.{differenceᴱ, dotᴱ, perpᴱ, towardᴱ, acrossᴱ, P, Q, R, parts}

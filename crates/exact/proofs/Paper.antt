@@ -1,5 +1,5 @@
 -- The inputs on squared paper: every difference of corners that the call forms is exact, and its two support searches find corners that lie furthest. Assumes nothing.
-use mathlib.Core.Path.{_≡_, refl, ap, _∙_}
+use mathlib.Core.Path.{_≡_, ap, _∙_}
 use mathlib.Core.List.{List, [], _∷_}
 use Prim.Native.Nat.{ℕ, suc, _+_, _*_, _/_, _^_, _≤_, _<_}
 use native.Mathlib.Nat.{lt-of-not-le, le-of-suc-le-suc, mul-le-mul-right, pow-suc, pow-zero, one-mul}
@@ -8,7 +8,7 @@ use lib.Dec.{T, leb, leb→le, lit≤}
 use lib.ListN.{length}
 use lib.Ieee.{Float, Format, binary32, binary64, prec}
 use lib.Ieee as I
-use Rattle.integers.specs.Signed.{Int, 0Int, ofNat, neg, _⊞_, _⊟_, _⊠_, _≼_, _≃_}
+use Rattle.integers.specs.Signed.{Int, ofNat, _⊞_, _⊟_, _⊠_, _≼_, _≃_}
 use Rattle.integers.specs.Whole.{IsWhole, Within, Sized}
 use Rattle.integers.specs.Polynomial.{var, lit, _:+_, _:-_, _:*_, negated}
 use Rattle.integers.proofs.Signed.{⊠-cong-r, ⊠-one, ⊠-square}
@@ -18,12 +18,12 @@ use Rattle.integers.proofs.Sized.{within-product, room-for, add-sized, sub-size
 use Rattle.model.specs.declared.Vector.{Vector}
 use Rattle.model.specs.declared.Pose.{Pose}
 use Rattle.model.specs.Ground.{minus, negate, inverseRotate, onPoint}
-use Rattle.model.specs.Support.{point, support}
+use Rattle.model.specs.Support.{point}
 use Rattle.model.specs.Distance.{supportA, supportB}
 use Rattle.exact.specs.Plane.{Point, sum, difference, opposite, turned, dot}
 use Rattle.exact.specs.SquaredPaper.{IsPoint, Near, SquaredPaper, Room, posedB}
 use Rattle.exact.proofs.Vectors.{SizedPoint, weaken-point, negate-sized}
-use Rattle.exact.proofs.Furthest.{Furthest, support-furthest}
+use Rattle.exact.proofs.Furthest.{support-furthest}
 
 -- ---- a cosine and a sine are at most 1 in size
 pub unit-root : (c : Int) → c ⊠ c ≼ ofNat 1 → Within 1 c

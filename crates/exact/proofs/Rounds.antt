@@ -3,7 +3,7 @@ use mathlib.Core.Path.{_≡_, refl, sym, subst}
 use mathlib.Core.Logic.{_⊎_, inl, inr}
 use mathlib.Core.Bool.{Bool, true, false, _&&_, _||_, cond}
 use mathlib.Core.List.{List, [], _∷_}
-use Prim.Native.Nat.{ℕ, zero, suc, _+_, _*_, _/_, _≤_, _<_}
+use Prim.Native.Nat.{ℕ, zero, suc, _+_, _/_, _≤_, _<_}
 use native.Mathlib.Nat.{le-refl, le-step}
 use native.Mathlib.Omega.{arith}
 use lib.Dec.{T, eqb, ltb, leb, eqb→eq, leb→le, lit<}
@@ -12,7 +12,7 @@ use lib.ListN.{length, getD}
 use lib.Ieee.{Float, fin, Format, binary32, binary64, ofBits}
 use lib.Ieee as I
 use lib.Ieee.Fits.{and-l, and-r}
-use Rattle.integers.specs.Signed.{Int, 0Int, ofNat, _⊞_, _⊠_, _≼_, _≺_, _≃_}
+use Rattle.integers.specs.Signed.{0Int, ofNat, _⊞_, _⊠_, _≼_, _≺_, _≃_}
 use Rattle.integers.specs.Whole.{Test}
 use Rattle.integers.proofs.Tiny.{tiny-is-zero}
 use Rattle.model.specs.declared.Vector.{Vector}
@@ -25,7 +25,7 @@ use Rattle.model.specs.declared.Rounds.{Rounds}
 use Rattle.model.specs.Ground.{epsilon, origin}
 use Rattle.model.specs.Ground as Ground
 use Rattle.model.specs.Simplex.{slot, solved, solve}
-use Rattle.model.specs.Distance.{cache, allBelow, cacheIsValid, held, blank, vertex, cached, fromCache, startSimplex, startCount, supportA, supportB, ended, touches, extended, roundsFrom, rounds}
+use Rattle.model.specs.Distance.{cache, allBelow, held, blank, vertex, cached, fromCache, startSimplex, startCount, supportA, supportB, ended, touches, extended, roundsFrom, rounds}
 use Rattle.exact.specs.Plane.{Point, dot, total, weightedSum, difference}
 use Rattle.exact.specs.Outline.{PointOf, divisor, gap, SharesPoint}
 use Rattle.exact.specs.SquaredPaper.{SquaredPaper, Room, outlineA, posedB}

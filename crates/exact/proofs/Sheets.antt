@@ -1,18 +1,18 @@
 -- A sheet that passes its test is on squared paper. Assumes nothing.
 use mathlib.Core.Path.{_≡_, refl, sym, subst}
-use mathlib.Core.Logic.{_⊎_, inl, inr}
-use mathlib.Core.Bool.{Bool, true, false, _&&_}
-use mathlib.Core.List.{List, [], _∷_, map}
-use Prim.Native.Nat.{ℕ, zero, suc, _+_, _*_, _/_, _^_, _≤_, _<_}
+use mathlib.Core.Logic.{inl, inr}
+use mathlib.Core.Bool.{Bool, true, false}
+use mathlib.Core.List.{List, [], _∷_}
+use Prim.Native.Nat.{ℕ, zero, suc, _+_, _*_, _/_, _<_}
 use native.Mathlib.Nat.{le-of-suc-le-suc, not-suc-le-zero, eq-or-lt-of-le}
 use native.Mathlib.Omega.{arith}
-use lib.Dec.{T, leb, eqb, leb→le, eqb→eq, lit≤}
+use lib.Dec.{T, leb, leb→le, eqb→eq}
 use lib.IntN.{ℤ, pos, negsuc}
 use lib.ListN.{length, getD, length-map}
-use lib.Ieee.{Float, nan, Format, binary32, binary64, prec, ofInt}
+use lib.Ieee.{Float, nan, Format, ofInt}
 use lib.Ieee.Back.{round-whole}
 use lib.Ieee.Fits.{and-l, and-r}
-use Rattle.integers.specs.Signed.{Int, ofNat, neg, _⊞_, _⊟_, _⊠_, _≼_, _≃_}
+use Rattle.integers.specs.Signed.{Int, ofNat, _⊞_, _⊟_, _⊠_, _≃_}
 use Rattle.integers.specs.Whole.{IsWhole, Within}
 use Rattle.integers.proofs.Signed.{⊠-square}
 use Rattle.model.specs.Support.{point}

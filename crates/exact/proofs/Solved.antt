@@ -1,13 +1,11 @@
 -- The solvers of the distance call: what stands in the slots after a solve. The vertices that count stand for corners of the outlines, as they did before, and either
 -- the origin is covered, or they are what `Kept` says. Assumes nothing.
-use mathlib.Core.Path.{_≡_, refl}
-use mathlib.Core.Bool.{Bool, true, false, cond}
 use mathlib.Core.List.{List, [], _∷_}
-use Prim.Native.Nat.{ℕ, zero, suc, _+_, _*_, _≤_, _<_}
-use native.Mathlib.Nat.{le-refl, zero-lt-suc, not-suc-le-zero, le-of-suc-le-suc}
+use Prim.Native.Nat.{ℕ, zero, suc, _<_}
+use native.Mathlib.Nat.{le-refl, not-suc-le-zero, le-of-suc-le-suc}
 use native.Mathlib.Omega.{arith}
 use lib.Ieee.{Float, Format}
-use Rattle.integers.specs.Signed.{Int, 0Int, _≼_, _≺_, _≃_}
+use Rattle.integers.specs.Signed.{_≼_}
 use Rattle.integers.proofs.Sized.{neg-sized, mul-sized}
 use Rattle.model.specs.declared.Vector.{Vector}
 use Rattle.model.specs.declared.SimplexVertex.{SimplexVertex}
@@ -16,7 +14,7 @@ use Rattle.model.specs.Simplex.{Region, at1, at2, at3, on12, on13, on23, inside
 use Rattle.model.specs.Simplex as Simplex
 use Rattle.model.specs.Ground.{negate}
 use Rattle.exact.specs.Plane.{Point, opposite, dot}
-use Rattle.exact.specs.Regions.{toward, across, Lies2, Lies3}
+use Rattle.exact.specs.Regions.{Lies2, Lies3}
 use Rattle.exact.specs.SquaredPaper.{Room}
 use Rattle.exact.proofs.Vectors.{SizedPoint, weaken-point, negate-sized, minus-sized, plus-sized, perpDot-sized}
 use Rattle.exact.proofs.Enclosed.{across-swap}

@@ -1,10 +1,9 @@
 -- The ground operations on vectors of whole numbers of bounded size are those of the plane. Assumes nothing.
-use mathlib.Core.Path.{_≡_, refl}
-use mathlib.Core.Bool.{Bool, true, false}
-use Prim.Native.Nat.{ℕ, _+_, _*_, _^_, _≤_}
+use mathlib.Core.Path.{refl}
+use mathlib.Core.Bool.{false}
+use Prim.Native.Nat.{ℕ, _+_, _*_}
 use lib.Dec.{T, leb}
 use lib.Ieee.{Float, Format, binary32, binary64, ofBits}
-use lib.Ieee as I
 use native.Mathlib.Omega.{arith}
 use Rattle.integers.specs.Signed.{Int, 0Int, _≃_}
 use Rattle.integers.specs.Whole.{IsWhole, Sized}

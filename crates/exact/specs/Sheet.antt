@@ -1,5 +1,5 @@
 -- A sheet of squared paper as it is drawn: whole numbers alone. What a call gets from it, and a test that can be computed for whether all is near enough.
-use mathlib.Core.Bool.{Bool, true, false, _&&_}
+use mathlib.Core.Bool.{Bool, true, _&&_}
 use mathlib.Core.List.{List, map}
 use Prim.Native.Nat.{ℕ, zero, suc, _+_, _*_, _/_}
 use lib.Dec.{T, leb, eqb}

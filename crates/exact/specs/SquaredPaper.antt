@@ -3,7 +3,7 @@
 use mathlib.Core.Path.{_≡_}
 use mathlib.Core.Bool.{Bool, false}
 use mathlib.Core.List.{List}
-use Prim.Native.Nat.{ℕ, _+_, _*_, _/_, _%_, _^_, _≤_, _<_}
+use Prim.Native.Nat.{ℕ, _*_, _/_, _%_, _^_, _≤_, _<_}
 use lib.ListN.{length}
 use lib.Ieee.{Float, Format, binary32, binary64, prec}
 use Rattle.integers.specs.Signed.{Int, ofNat, _⊞_, _⊠_, _≃_}
@@ -88,7 +88,7 @@ pub record Exact (a b : Outline) (ending : Ending) (c : SimplexCache) : Type 0 w
   pub sharingTouches : SharesPoint a b → ending ≡ Touching
   pub otherwiseNearest : (ending ≡ Touching → ⊥) → SpansNearestPlace a b c
 
--- of every call
+-- of every call that is answered and does not end at the round limit, whatever the radii and the cache that came
 abbrev pub Demand3 : Format → ℕ → Type 0
 Demand3 f bound =
     (p : Pose) (a : List Float) (ra : Float) (b : List Float) (rb : Float) (radii : Bool) (c : SimplexCache) (paper : SquaredPaper bound p a b) (o : ProxyDistanceOutput)
