@@ -9,7 +9,7 @@ use Rattle.integers.specs.Polynomial.{var, _:+_, _:-_, _:*_, negated}
 use Rattle.integers.proofs.Signed.{⊠-neg, ⊠-zero, ⊠-nonneg, ⊠-cong, ⊠-cong-r, ⊠-square, ⊠-pos, ⊠-nonneg-back, ⊠-pos-back}
 use Rattle.integers.proofs.Ring.{ring}
 use Rattle.exact.specs.Plane.{Point, difference, opposite, scaled, dot, total, sumBelow, weightedSum}
-use Rattle.exact.specs.Outline.{Outline, PointOf, divisor, dividend, SharesPoint, gap}
+use Rattle.exact.specs.Outline.{Outline, PointOf, divisor, dividend, SharesPoint, gap, NoneNearer}
 use Rattle.exact.proofs.Kept.{Kept, Covered, dot-cong}
 use Rattle.exact.proofs.Weights.{⊠-mono, dot-of-sum, sum-at-most, sum-at-least, sum-of-differences, onCorners, moved-to-corners}
 
@@ -142,11 +142,7 @@ module _ (a b : Outline) where
           let far : dot d (gap a b p q) ≼ W ⊠ K .level = omega (arith, within-reach d i j topA topB p q, ⊠-mono W (dot d (pair i j)) (K .level) hW level) in
           beyond d u (gap a b p q) (ofNat (total m (K .weight))) (ofNat (K .times)) (K .level) W (omega arith) (omega (arith, K .forth)) (K .along-x) (K .along-y) (K .flat) far
 
-      pub none-nearer : (p : PointOf a) (q : PointOf b)
-          → let ours = difference (weightedSum m (K .weight) (λ i. a .corner (nameA i))) (weightedSum m (K .weight) (λ i. b .corner (nameB i))) in
-          let divided = ofNat (total m (K .weight)) in
-          let theirs = divisor a p ⊠ divisor b q in
-          theirs ⊠ theirs ⊠ dot ours ours ≼ divided ⊠ divided ⊠ dot (gap a b p q) (gap a b p q)
+      pub none-nearer : NoneNearer a b m (K .weight) (λ i. a .corner (nameA i)) (λ i. b .corner (nameB i))
       none-nearer p q =
           let W = divisor a p ⊠ divisor b q in
           let hW = ⊠-nonneg (divisor a p) (divisor b q) (omega arith) (omega arith) in

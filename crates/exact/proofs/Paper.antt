@@ -8,7 +8,7 @@ use lib.Dec.{T, leb, leb→le, lit≤}
 use lib.ListN.{length}
 use lib.Ieee.{Float, Format, binary32, binary64, prec}
 use lib.Ieee as I
-use Rattle.integers.specs.Signed.{Int, ofNat, _⊞_, _⊟_, _⊠_, _≼_, _≃_}
+use Rattle.integers.specs.Signed.{Int, ofNat, neg, _⊞_, _⊟_, _⊠_, _≼_, _≃_}
 use Rattle.integers.specs.Whole.{IsWhole, Within, Sized}
 use Rattle.integers.specs.Polynomial.{var, lit, _:+_, _:-_, _:*_, negated}
 use Rattle.integers.proofs.Signed.{⊠-cong-r, ⊠-one, ⊠-square}
@@ -26,17 +26,16 @@ use Rattle.exact.proofs.Vectors.{SizedPoint, weaken-point, negate-sized
 use Rattle.exact.proofs.Furthest.{support-furthest}
 
 -- ---- a cosine and a sine are at most 1 in size
-pub unit-root : (c : Int) → c ⊠ c ≼ ofNat 1 → Within 1 c
-unit-root c h = record {
-  upper = le-of-suc-le-suc (lt-of-not-le (λ (n : suc (c .minus + 1) ≤ c .plus). no-upper n));
-  lower = le-of-suc-le-suc (lt-of-not-le (λ (n : suc (c .plus + 1) ≤ c .minus). no-lower n));
-}
+at-most-one : (c : Int) → c ⊠ c ≼ ofNat 1 → c .plus ≤ c .minus + 1
+at-most-one c h = le-of-suc-le-suc (lt-of-not-le (λ (n : suc (c .minus + 1) ≤ c .plus). clash n))
   where
-    no-upper : suc (c .minus + 1) ≤ c .plus → ⊥
-    no-upper n = omega (arith, ⊠-square (c ⊟ ofNat 2), ring ((var 0 :- lit (ofNat 2)) :* (var 0 :- lit (ofNat 2))) (var 0 :* var 0 :- lit (ofNat 4) :* var 0 :+ lit (ofNat 4)) (c ∷ []) tt, ring (lit (ofNat 4) :* var 0) (var 0 :+ var 0 :+ var 0 :+ var 0) (c ∷ []) tt)
+    clash : suc (c .minus + 1) ≤ c .plus → ⊥
+    clash n =
+        let less = var 0 :- lit (ofNat 2) in
+        omega (arith, ⊠-square (c ⊟ ofNat 2), ring (less :* less) (var 0 :* var 0 :- var 0 :- var 0 :- var 0 :- var 0 :+ lit (ofNat 4)) (c ∷ []) tt)
 
-    no-lower : suc (c .plus + 1) ≤ c .minus → ⊥
-    no-lower n = omega (arith, ⊠-square (c ⊞ ofNat 2), ring ((var 0 :+ lit (ofNat 2)) :* (var 0 :+ lit (ofNat 2))) (var 0 :* var 0 :+ lit (ofNat 4) :* var 0 :+ lit (ofNat 4)) (c ∷ []) tt, ring (lit (ofNat 4) :* var 0) (var 0 :+ var 0 :+ var 0 :+ var 0) (c ∷ []) tt)
+pub unit-root : (c : Int) → c ⊠ c ≼ ofNat 1 → Within 1 c
+unit-root c h = record { upper = at-most-one c h; lower = at-most-one (neg c) (omega (arith, ring (negated (var 0) :* negated (var 0)) (var 0 :* var 0) (c ∷ []) tt)) }
 
 -- ---- operations on whole numbers of at most n in size
 pub record Small (n : ℕ) (x : Float) (z : Int) : Type 0 where

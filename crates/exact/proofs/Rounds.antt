@@ -12,7 +12,7 @@ use lib.ListN.{length, getD}
 use lib.Ieee.{Float, fin, Format, binary32, binary64, ofBits}
 use lib.Ieee as I
 use lib.Ieee.Fits.{and-l, and-r}
-use Rattle.integers.specs.Signed.{0Int, ofNat, _⊞_, _⊠_, _≼_, _≺_, _≃_}
+use Rattle.integers.specs.Signed.{0Int, _⊞_, _⊠_, _≼_, _≺_, _≃_}
 use Rattle.integers.specs.Whole.{Test}
 use Rattle.integers.proofs.Tiny.{tiny-is-zero}
 use Rattle.model.specs.declared.Vector.{Vector}
@@ -26,8 +26,8 @@ use Rattle.model.specs.Ground.{epsilon, origin}
 use Rattle.model.specs.Ground as Ground
 use Rattle.model.specs.Simplex.{slot, solved, solve}
 use Rattle.model.specs.Distance.{cache, allBelow, held, blank, vertex, cached, fromCache, startSimplex, startCount, supportA, supportB, ended, touches, extended, roundsFrom, rounds}
-use Rattle.exact.specs.Plane.{Point, dot, total, weightedSum, difference}
-use Rattle.exact.specs.Outline.{PointOf, divisor, gap, SharesPoint}
+use Rattle.exact.specs.Plane.{Point, dot, total}
+use Rattle.exact.specs.Outline.{SharesPoint, NoneNearer}
 use Rattle.exact.specs.SquaredPaper.{SquaredPaper, Room, outlineA, posedB}
 use Rattle.exact.proofs.Vectors.{SizedPoint}
 use Rattle.exact.proofs.Kept.{Kept, Covered}
@@ -119,11 +119,7 @@ module _ (f : Format) {bound : ℕ} (room : Room f bound) {p : Pose} {a b : List
     pub slots : Slots s n
     pub weight : ℕ → ℕ
     pub some : 0 < total n weight
-    pub nearest : (q : PointOf (outlineA paper)) (r : PointOf (posedB paper))
-        → let ours = difference (weightedSum n weight (λ i. outlineA paper .corner (slot s i .«index_a»))) (weightedSum n weight (λ i. posedB paper .corner (slot s i .«index_b»))) in
-        let divided = ofNat (total n weight) in
-        let theirs = divisor (outlineA paper) q ⊠ divisor (posedB paper) r in
-        theirs ⊠ theirs ⊠ dot ours ours ≼ divided ⊠ divided ⊠ dot (gap (outlineA paper) (posedB paper) q r) (gap (outlineA paper) (posedB paper) q r)
+    pub nearest : NoneNearer (outlineA paper) (posedB paper) n weight (λ i. outlineA paper .corner (slot s i .«index_a»)) (λ i. posedB paper .corner (slot s i .«index_b»))
 
   abbrev Shares : Type 0
   Shares = SharesPoint (outlineA paper) (posedB paper)

@@ -36,15 +36,18 @@ module _ (a b : Outline) where
   abbrev pub gap : PointOf a → PointOf b → Point
   gap p q = difference (scaled (divisor b q) (dividend a p)) (scaled (divisor a p) (dividend b q))
 
-  -- One list of weights, on the a corners and on the b corners of the counted entries alike, gives a point of each outline,
-  -- and no point of a and point of b have a smaller squared distance.
+  -- No point of a and point of b have a smaller squared distance than the two points that one list of weights gives, on n corners of a and n corners of b alike.
+  abbrev pub NoneNearer : ℕ → (ℕ → ℕ) → (ℕ → Point) → (ℕ → Point) → Type 0
+  NoneNearer n weight cornerA cornerB =
+      let ours = difference (weightedSum n weight cornerA) (weightedSum n weight cornerB) in
+      let divided = ofNat (total n weight) in
+      (p : PointOf a) (q : PointOf b)
+      → let theirs = divisor a p ⊠ divisor b q in
+      theirs ⊠ theirs ⊠ dot ours ours ≼ divided ⊠ divided ⊠ dot (gap p q) (gap p q)
+
+  -- the counted entries name corners, and weights on them give a nearest place
   pub record SpansNearestPlace (c : SimplexCache) : Type 0 where
     pub corners : T (cacheIsValid c (a .count) (b .count))
     pub weight : ℕ → ℕ
     pub some : 0 < total (c .count) weight
-    pub nearest : (p : PointOf a) (q : PointOf b)
-        → let ours = difference (weightedSum (c .count) weight (λ i. a .corner (getD (c .«index_a») i 0)))
-        (weightedSum (c .count) weight (λ i. b .corner (getD (c .«index_b») i 0))) in
-        let divided = ofNat (total (c .count) weight) in
-        let theirs = divisor a p ⊠ divisor b q in
-        theirs ⊠ theirs ⊠ dot ours ours ≼ divided ⊠ divided ⊠ dot (gap p q) (gap p q)
+    pub nearest : NoneNearer (c .count) weight (λ i. a .corner (getD (c .«index_a») i 0)) (λ i. b .corner (getD (c .«index_b») i 0))
