@@ -1,9 +1,10 @@
 //! The oracle: the module's own text over our prelude, asked from the command line.
-//!   oracle ground                rows of every ground operation with their answers (ground.rs)
-//!   oracle distance SEED COUNT   a pool and rows of distance calls with their answers (distance.rs)
-//!   oracle sweep SEED COUNT      a pool and rows of sweeps with their answers (sweep.rs)
-//!   oracle sheet                 the sheet of the batch on standard input (sheet.rs)
-//!   oracle batch SEED COUNT      a batch of COUNT blocks
+//!   oracle ground                        rows of every ground operation with their answers (ground.rs)
+//!   oracle distance SEED COUNT           a pool and rows of distance calls with their answers (distance.rs)
+//!   oracle sweep SEED COUNT              a pool and rows of sweeps with their answers (sweep.rs)
+//!   oracle batch SEED COUNT              a batch of COUNT blocks (sheet.rs)
+//!   oracle sheet                         the sheet of the batch on standard input
+//!   oracle squared-paper MILLIONS SEED   demand 3 tested by running (squared_paper.rs)
 mod counts;
 mod distance;
 mod domain;
@@ -12,8 +13,10 @@ mod pool;
 mod prelude;
 mod random;
 mod sheet;
+mod squared_paper;
 mod sweep;
 mod words;
+
 /// The module's text, as build.sh lays it out.
 mod sweep_toi {
     pub mod proxy_distance;
@@ -32,10 +35,11 @@ fn main() {
     let number = |i: usize| word(i).parse::<u64>().unwrap_or_else(|_| panic!("argument {i} is no number"));
     match word(1) {
         "ground" => ground::rows(),
-        "sheet" => sheet::sheet(),
-        "batch" => sheet::batch(number(2), number(3)),
-        "sweep" => sweep::rows(number(2), number(3) as usize),
         "distance" => distance::rows(number(2), number(3) as usize),
+        "sweep" => sweep::rows(number(2), number(3) as usize),
+        "batch" => sheet::batch(number(2), number(3)),
+        "sheet" => sheet::sheet(),
+        "squared-paper" => squared_paper::run(number(2), number(3)),
         other => {
             eprintln!("oracle: no such job: {other:?}");
             std::process::exit(2)

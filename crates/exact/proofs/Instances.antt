@@ -1,0 +1,155 @@
+-- Demand 3 is not empty: calls with real outlines, computed by the checker, and what the theorem says of each. Assumes nothing.
+-- No call on squared paper within 16 is known to end at the round limit (nine rounds are the most that were met), so that ending is shown off the paper.
+use mathlib.Core.Path.{_≡_, refl, sym, _∙_, subst}
+use native.Mathlib.Omega.{arith}
+use mathlib.Core.Bool.{false}
+use mathlib.Core.List.{List, [], _∷_, map}
+use Prim.Native.Nat.{ℕ}
+use lib.ListN.{length}
+use lib.IntN.{pos, negsuc}
+use lib.Ieee.{Float, binary32, ofBits, ofInt, add, sub, mul, div, neg, lt, le, eq, round}
+use Rattle.integers.specs.Signed.{_⊠_}
+use Rattle.model.specs.declared.SimplexCache.{SimplexCache}
+use Rattle.model.specs.declared.Ending.{Ending}
+use Rattle.model.specs.declared.Ending.the-variants.{Touching, Settled, RoundLimit}
+use Rattle.model.specs.declared.DistanceAnswer.{DistanceAnswer}
+use Rattle.model.specs.declared.DistanceAnswer.the-variants.{Measured, Refused}
+use Rattle.model.specs.declared.Distance.{Distance}
+use Rattle.model.specs.Ground.{abs}
+use Rattle.model.specs.Ground as Ground
+use Rattle.model.specs.Root.{root}
+use Rattle.model.specs.Domain.{badParts}
+use Rattle.model.specs.Support.{supportFrom}
+use Rattle.model.specs.Simplex.{region2, region3, kept, solveSimplex2, solveSimplex3, solve}
+use Rattle.model.specs.Distance.{cache, allBelow, replaced, held, vertex, startSimplex, roundsFrom, witnessPoints, measure, proxyDistance}
+use Rattle.exact.specs.Outline.{SharesPoint, SpansNearestPlace}
+use Rattle.exact.specs.SquaredPaper.{SquaredPaper, outlineA, posedB, IsCache, Exact}
+use Rattle.exact.specs.Sheet.{Sheet, drawn, drawnPose, every, OnPaper}
+use Rattle.exact.proofs.Sheets.{on-squared-paper}
+use Rattle.exact.proofs.Demand3.{exact-on-squared-paper}
+
+abbrev pub none : SimplexCache
+none = cache 0 (0 ∷ 0 ∷ 0 ∷ []) (0 ∷ 0 ∷ 0 ∷ [])
+
+abbrev pub call : Sheet → SimplexCache → Distance
+call s c = proxyDistance binary32 (drawnPose binary32 s) (drawn binary32 (s .a)) (Ground.zero binary32) (drawn binary32 (s .b)) (Ground.zero binary32) false c
+
+abbrev pub endings : DistanceAnswer → List Ending
+endings (Measured o) = o .ending ∷ []
+endings (Refused n) = []
+
+-- ---- the sheets
+-- a square, and a triangle to its right with a corner toward it
+abbrev pub apart : Sheet
+apart = record {
+  a = pos 0 ∷ pos 0 ∷ pos 2 ∷ pos 0 ∷ pos 2 ∷ pos 2 ∷ pos 0 ∷ pos 2 ∷ [];
+  b = pos 5 ∷ pos 1 ∷ pos 8 ∷ negsuc 0 ∷ pos 8 ∷ pos 4 ∷ [];
+  cosine = pos 1;
+  sine = pos 0;
+  shiftX = pos 0;
+  shiftY = pos 0;
+}
+
+-- two squares, the second turned by a quarter and shifted so that it shares part of an edge with the first
+abbrev pub joined : Sheet
+joined = record {
+  a = pos 0 ∷ pos 0 ∷ pos 4 ∷ pos 0 ∷ pos 4 ∷ pos 4 ∷ pos 0 ∷ pos 4 ∷ [];
+  b = pos 0 ∷ pos 0 ∷ pos 3 ∷ pos 0 ∷ pos 3 ∷ pos 3 ∷ pos 0 ∷ pos 3 ∷ [];
+  cosine = pos 0;
+  sine = pos 1;
+  shiftX = pos 7;
+  shiftY = pos 1;
+}
+
+pub apart-on-paper : OnPaper apart 16
+unfolding every _⊠_
+apart-on-paper = record { numbersA = tt; numbersB = tt; quarterTurn = tt; shifted = tt; near = tt }
+
+pub joined-on-paper : OnPaper joined 16
+unfolding every _⊠_
+joined-on-paper = record { numbersA = tt; numbersB = tt; quarterTurn = tt; shifted = tt; near = tt }
+
+-- ---- a call off the paper, by bit patterns: six corners and one
+abbrev pub turning : Distance
+turning =
+    let points : List ℕ → List Float = map (ofBits binary32) in
+    proxyDistance binary32 (Ground.pose (Ground.rotation (Ground.one binary32) (Ground.zero binary32)) (Ground.origin binary32))
+    (points (0xc5ac_70da ∷ 0xc604_2da4 ∷ 0x445d_2f0c ∷ 0xc306_bbe0 ∷ 0x445d_302e ∷ 0xc306_b385 ∷ 0xc56b_a61c ∷ 0xc5c2_c875 ∷ 0xc56b_a615 ∷ 0xc5c2_c873 ∷ 0x445d_2f6c ∷ 0xc306_b9ff ∷ [])) (Ground.zero binary32)
+    (points (0x445d_2f4e ∷ 0xc306_bc0f ∷ [])) (Ground.zero binary32) false none
+
+-- ---- the calls, computed: apart, from no cache and from a stale one, and joined. The edge from (2, 2) to (2, 0) is nearest to the triangle's corner 0
+abbrev pub stale : SimplexCache
+stale = cache 3 (3 ∷ 0 ∷ 3 ∷ []) (1 ∷ 2 ∷ 2 ∷ [])
+
+abbrev pub fromNone : SimplexCache
+fromNone = cache 2 (2 ∷ 1 ∷ 0 ∷ []) (0 ∷ 0 ∷ 0 ∷ [])
+
+abbrev pub fromStale : SimplexCache
+fromStale = cache 2 (1 ∷ 2 ∷ 3 ∷ []) (0 ∷ 0 ∷ 2 ∷ [])
+
+pub record Computed : Type 0 where
+  pub apartEnds : endings (call apart none .answer) ≡ (Settled ∷ [])
+  pub apartCache : call apart none .cache ≡ fromNone
+  pub staleEnds : endings (call apart stale .answer) ≡ (Settled ∷ [])
+  pub staleCache : call apart stale .cache ≡ fromStale
+  pub joinedEnds : endings (call joined none .answer) ≡ (Touching ∷ [])
+  pub joinedCache : call joined none .cache ≡ none
+  pub turningEnds : endings (turning .answer) ≡ (RoundLimit ∷ [])
+
+pub computed : Computed
+unfolding proxyDistance measure roundsFrom startSimplex vertex held solve solveSimplex2 solveSimplex3 region2 region3 kept supportFrom witnessPoints allBelow replaced badParts abs ofBits ofInt round add sub mul div neg lt le eq root
+computed = record { apartEnds = refl; apartCache = refl; staleEnds = refl; staleCache = refl; joinedEnds = refl; joinedCache = refl; turningEnds = refl }
+
+-- what the theorem says of a computed call
+tells : (s : Sheet) (paper : OnPaper s 16) (c : SimplexCache) → IsCache c → (e : Ending) → endings (call s c .answer) ≡ (e ∷ []) → (e ≡ RoundLimit → ⊥)
+    → let drawing = on-squared-paper binary32 s 16 paper in
+    Exact (outlineA drawing) (posedB drawing) e (call s c .cache)
+tells s paper c arrays e h n = go (call s c .answer) refl h
+  where
+    go : (x : DistanceAnswer) → call s c .answer ≡ x → endings x ≡ (e ∷ [])
+        → let drawing = on-squared-paper binary32 s 16 paper in
+        Exact (outlineA drawing) (posedB drawing) e (call s c .cache)
+    go (Measured o) is h =
+        let drawing = on-squared-paper binary32 s 16 paper in
+        let ends : o .ending ≡ e = cc in
+        subst (λ (x : Ending). Exact (outlineA drawing) (posedB drawing) x (call s c .cache)) ends
+        (exact-on-squared-paper binary32 (drawnPose binary32 s) (drawn binary32 (s .a)) (Ground.zero binary32) (drawn binary32 (s .b)) (Ground.zero binary32) false c drawing o arrays is (λ x. n (sym ends ∙ x)))
+    go (Refused k) is h = absurd (refused h)
+      where
+        refused : _≡_ {A = List Ending} [] (e ∷ []) → ⊥
+        refused h = let z : _≡_ {A = ℕ} 0 1 = cc in omega arith
+
+settled-is-not-touching : Settled ≡ Touching → ⊥
+settled-is-not-touching e = let z : _≡_ {A = ℕ} 0 1 = cc in omega arith
+
+settled-is-not-limit : Settled ≡ RoundLimit → ⊥
+settled-is-not-limit e = let z : _≡_ {A = ℕ} 0 1 = cc in omega arith
+
+touching-is-not-limit : Touching ≡ RoundLimit → ⊥
+touching-is-not-limit e = let z : _≡_ {A = ℕ} 0 1 = cc in omega arith
+
+-- ---- and so
+abbrev pub paperApart : SquaredPaper 16 (drawnPose binary32 apart) (drawn binary32 (apart .a)) (drawn binary32 (apart .b))
+paperApart = on-squared-paper binary32 apart 16 apart-on-paper
+
+abbrev pub paperJoined : SquaredPaper 16 (drawnPose binary32 joined) (drawn binary32 (joined .a)) (drawn binary32 (joined .b))
+paperJoined = on-squared-paper binary32 joined 16 joined-on-paper
+
+three : {l m : List ℕ} {n : ℕ} → length l ≡ 3 → length m ≡ 3 → IsCache (cache n l m)
+three h k = record { a = h; b = k }
+
+pub apart-nearest : SpansNearestPlace (outlineA paperApart) (posedB paperApart) fromNone
+apart-nearest =
+    subst (SpansNearestPlace (outlineA paperApart) (posedB paperApart)) (computed .apartCache)
+    (tells apart apart-on-paper none (three refl refl) Settled (computed .apartEnds) settled-is-not-limit .otherwiseNearest settled-is-not-touching)
+
+pub stale-nearest : SpansNearestPlace (outlineA paperApart) (posedB paperApart) fromStale
+stale-nearest =
+    subst (SpansNearestPlace (outlineA paperApart) (posedB paperApart)) (computed .staleCache)
+    (tells apart apart-on-paper stale (three refl refl) Settled (computed .staleEnds) settled-is-not-limit .otherwiseNearest settled-is-not-touching)
+
+pub apart-share-nothing : SharesPoint (outlineA paperApart) (posedB paperApart) → ⊥
+apart-share-nothing h = settled-is-not-touching (tells apart apart-on-paper none (three refl refl) Settled (computed .apartEnds) settled-is-not-limit .sharingTouches h)
+
+pub joined-share : SharesPoint (outlineA paperJoined) (posedB paperJoined)
+joined-share = tells joined joined-on-paper none (three refl refl) Touching (computed .joinedEnds) touching-is-not-limit .touchingShares refl

@@ -1,0 +1,5 @@
+pub mod Plane
+pub mod Outline
+pub mod SquaredPaper
+pub mod Regions
+pub mod Sheet

@@ -1,0 +1,347 @@
+//! Demand 3 tested by running: on squared paper a distance call that does not end at the round limit ends touching exactly when the outlines share a point,
+//! and otherwise the corners in the returned cache span a nearest place. What is right is worked out here in whole numbers and fractions of them, with no float.
+use crate::counts;
+use crate::math::{Pose, Rotation, Vector};
+use crate::random::Random;
+use crate::sweep_toi::proxy_distance::{proxy_distance, SimplexCache};
+use crate::sweep_toi::toi_proxy::ToiProxy;
+use std::time::Instant;
+
+// ---- exact geometry
+
+type Point = (i64, i64);
+
+/// A fraction that is not negative; compared by cross-multiplying.
+#[derive(Copy, Clone, Debug)]
+struct Fraction(i128, i128);
+
+impl Fraction {
+    fn below(self, b: Fraction) -> bool {
+        self.0 * b.1 < b.0 * self.1
+    }
+
+    fn least(self, b: Fraction) -> Fraction {
+        if b.below(self) {
+            b
+        } else {
+            self
+        }
+    }
+}
+
+fn minus(a: Point, b: Point) -> Point {
+    (a.0 - b.0, a.1 - b.1)
+}
+
+fn dot(a: Point, b: Point) -> i64 {
+    a.0 * b.0 + a.1 * b.1
+}
+
+fn perp(a: Point, b: Point) -> i64 {
+    a.0 * b.1 - a.1 * b.0
+}
+
+fn side(a: Point, b: Point, p: Point) -> i64 {
+    perp(minus(b, a), minus(p, a)).signum()
+}
+
+/// The squared distance from p to the segment from a to b, which may be a point.
+fn to_segment(p: Point, a: Point, b: Point) -> Fraction {
+    let (e, d) = (minus(b, a), minus(p, a));
+    let (along, whole) = (dot(d, e), dot(e, e));
+    if along <= 0 {
+        Fraction(dot(d, d) as i128, 1)
+    } else if along >= whole {
+        let d = minus(p, b);
+        Fraction(dot(d, d) as i128, 1)
+    } else {
+        let across = perp(e, d) as i128;
+        Fraction(across * across, whole as i128)
+    }
+}
+
+/// Whether the triangle, if it is one, holds p; its edges belong to it.
+fn in_triangle(p: Point, a: Point, b: Point, c: Point) -> bool {
+    let whole = side(a, b, c);
+    whole != 0 && [side(a, b, p), side(b, c, p), side(c, a, p)].iter().all(|s| s * whole >= 0)
+}
+
+fn cross(a: Point, b: Point, c: Point, d: Point) -> bool {
+    side(a, b, c) * side(a, b, d) < 0 && side(c, d, a) * side(c, d, b) < 0
+}
+
+/// The squared distance of two outlines, by all their points, segments and triangles.
+fn between(a: &[Point], b: &[Point]) -> Fraction {
+    let mut least = one_way(a, b).least(one_way(b, a));
+    for i in 0..a.len() {
+        for j in 0..i {
+            for k in 0..b.len() {
+                for l in 0..k {
+                    if cross(a[i], a[j], b[k], b[l]) {
+                        least = Fraction(0, 1);
+                    }
+                }
+            }
+        }
+    }
+    least
+}
+
+/// From the points of a to b.
+fn one_way(a: &[Point], b: &[Point]) -> Fraction {
+    let mut least = Fraction(i64::MAX as i128, 1);
+    for &p in a {
+        for i in 0..b.len() {
+            for j in 0..=i {
+                least = least.least(to_segment(p, b[i], b[j]));
+                for k in 0..j {
+                    if in_triangle(p, b[i], b[j], b[k]) {
+                        least = Fraction(0, 1);
+                    }
+                }
+            }
+        }
+    }
+    least
+}
+
+/// The same of larger outlines: from the origin to the hull of all differences.
+fn between_hulls(a: &[Point], b: &[Point]) -> Fraction {
+    let mut all: Vec<Point> = a.iter().flat_map(|&p| b.iter().map(move |&q| minus(p, q))).collect();
+    all.sort();
+    all.dedup();
+    let mut hull: Vec<Point> = Vec::new();
+    for pass in 0..2 {
+        let start = hull.len();
+        for &p in &all {
+            while hull.len() >= start + 2 && perp(minus(hull[hull.len() - 1], hull[hull.len() - 2]), minus(p, hull[hull.len() - 2])) <= 0 {
+                hull.pop();
+            }
+            hull.push(p);
+        }
+        hull.pop();
+        if pass == 0 {
+            all.reverse();
+        }
+    }
+    if hull.is_empty() {
+        hull.push(all[0]);
+    }
+    let n = hull.len();
+    if n > 2 && (0..n).all(|i| side(hull[i], hull[(i + 1) % n], (0, 0)) >= 0) {
+        return Fraction(0, 1);
+    }
+    (0..n).map(|i| to_segment((0, 0), hull[i], hull[(i + 1) % n])).reduce(Fraction::least).unwrap()
+}
+
+/// The least squared length that weights on at most three places can reach.
+fn spanned(places: &[Point]) -> Fraction {
+    one_way(&[(0, 0)], places)
+}
+
+// ---- one call
+
+struct Job<'a> {
+    a: &'a [Vector],
+    b: &'a [Vector],
+    pose: Pose,
+    whole_a: &'a [Point],
+    posed_b: &'a [Point],
+    least: Fraction,
+}
+
+#[derive(Default)]
+struct Tally {
+    calls: u64,
+    endings: [u64; 3],
+    rounds: u32,
+}
+
+impl Tally {
+    /// Makes the call and looks at what the claim says of it.
+    fn call(&mut self, job: &Job, radii: (f32, f32, bool), given: SimplexCache) {
+        let (a, b) = (ToiProxy::from_points(job.a, radii.0), ToiProxy::from_points(job.b, radii.1));
+        let mut cache = given;
+        let output = proxy_distance(&job.pose, &a, &b, radii.2, &mut cache);
+        let ending = counts::last_ending();
+        self.calls += 1;
+        self.endings[ending as usize] += 1;
+        self.rounds = self.rounds.max(output.iterations);
+        let n = cache.count as usize;
+        let right = match ending {
+            counts::TOUCHING => job.least.0 == 0 && same(&cache, &given, 0) && cache.count == given.count,
+            counts::SETTLED => {
+                let named = (1..=3).contains(&n) && (0..n).all(|i| (cache.index_a[i] as usize) < job.a.len() && (cache.index_b[i] as usize) < job.b.len());
+                named && job.least.0 != 0 && same(&cache, &given, n) && {
+                    let places: Vec<Point> = (0..n).map(|i| minus(job.whole_a[cache.index_a[i] as usize], job.posed_b[cache.index_b[i] as usize])).collect();
+                    !job.least.below(spanned(&places))
+                }
+            }
+            _ => true,
+        };
+        if !right {
+            println!("WRONG: ending {ending}, least {:?}, A {:?}, B {:?}, pose {:?}, cache {given:?} to {cache:?}", job.least, job.a, job.b, job.pose);
+            std::process::exit(1);
+        }
+    }
+
+    fn tell(&self, what: &str, since: Instant) {
+        let [touching, settled, limit] = self.endings;
+        println!("{what}: {} calls, {touching} touching, {settled} settled, {limit} round limit, most rounds {}, {} s", self.calls, self.rounds, since.elapsed().as_secs());
+    }
+}
+
+/// Two caches agree in every entry from the count on.
+fn same(a: &SimplexCache, b: &SimplexCache, count: usize) -> bool {
+    a.index_a[count..] == b.index_a[count..] && a.index_b[count..] == b.index_b[count..]
+}
+
+// ---- all small outlines
+
+/// Every set of 1 to most points of a grid of n by n, in order.
+fn outlines(n: i64, most: usize) -> Vec<Vec<Point>> {
+    let grid: Vec<Point> = (0..n * n).map(|i| (i % n, i / n)).collect();
+    let mut all: Vec<Vec<usize>> = (0..grid.len()).map(|i| vec![i]).collect();
+    let mut from = 0;
+    for _ in 1..most {
+        let to = all.len();
+        for i in from..to {
+            for next in all[i][all[i].len() - 1] + 1..grid.len() {
+                let mut longer = all[i].clone();
+                longer.push(next);
+                all.push(longer);
+            }
+        }
+        from = to;
+    }
+    all.iter().map(|o| o.iter().map(|&i| grid[i]).collect()).collect()
+}
+
+fn floats(o: &[Point]) -> Vec<Vector> {
+    o.iter().map(|p| Vector::new(p.0 as f32, p.1 as f32)).collect()
+}
+
+/// Every cache whose counted entries name corners.
+fn valid_caches(na: u32, nb: u32) -> Vec<SimplexCache> {
+    let pairs: Vec<(u32, u32)> = (0..na).flat_map(|i| (0..nb).map(move |j| (i, j))).collect();
+    let mut all = vec![SimplexCache::default()];
+    for count in 1..=3u32 {
+        for code in 0..(pairs.len() as u32).pow(count) {
+            let mut cache = SimplexCache { count: count as u8, ..SimplexCache::default() };
+            let mut rest = code as usize;
+            for i in 0..count as usize {
+                (cache.index_a[i], cache.index_b[i]) = pairs[rest % pairs.len()];
+                rest /= pairs.len();
+            }
+            all.push(cache);
+        }
+    }
+    all
+}
+
+const STILL: Pose = Pose { rotation: Rotation { c: 1.0, s: 0.0 }, translation: Vector::ZERO };
+
+fn all_pairs(grid: i64, most: usize, what: &str, mut caches: impl FnMut(u32, u32) -> Vec<SimplexCache>) {
+    let since = Instant::now();
+    let all = outlines(grid, most);
+    let lists: Vec<Vec<Vector>> = all.iter().map(|o| floats(o)).collect();
+    let mut tally = Tally::default();
+    for (a, fa) in all.iter().zip(&lists) {
+        for (b, fb) in all.iter().zip(&lists) {
+            let job = Job { a: fa, b: fb, pose: STILL, whole_a: a, posed_b: b, least: between(a, b) };
+            for cache in caches(a.len() as u32, b.len() as u32) {
+                tally.call(&job, (0.0, 0.0, false), cache);
+            }
+        }
+    }
+    tally.tell(&format!("{} outlines of 1 to {most} points on a {grid} by {grid} grid, all pairs, {what}", all.len()), since);
+}
+
+// ---- random calls
+
+/// Entries that name corners, that name none, and counts up to 255.
+fn any_cache(random: &mut Random, na: u32, nb: u32) -> SimplexCache {
+    let loose = random.below(8) == 0;
+    let index = |random: &mut Random, n: u32| match (loose, random.below(6)) {
+        (true, 0) => random.next() as u32,
+        (true, 1) => n,
+        _ => random.below(n as u64) as u32,
+    };
+    let count = if random.below(16) == 0 { random.below(256) as u8 } else { random.below(4) as u8 };
+    let mut cache = SimplexCache { count, ..SimplexCache::default() };
+    for i in 0..3 {
+        cache.index_a[i] = index(random, na);
+        cache.index_b[i] = index(random, nb);
+    }
+    cache
+}
+
+/// A number, and for 0 either zero.
+fn float(random: &mut Random, x: i64) -> f32 {
+    if x == 0 {
+        random.pick(&[0.0, -0.0])
+    } else {
+        x as f32
+    }
+}
+
+/// On one axis: A's interval and posed B's, with every difference at most the bound in size.
+fn intervals(random: &mut Random, bound: i64) -> [i64; 4] {
+    let base = random.below(1 << 20) as i64 - (1 << 19);
+    let wide_a = random.below(bound as u64 + 1) as i64;
+    let gap = wide_a - bound + random.below((2 * bound - wide_a + 1) as u64) as i64;
+    let wide_b = random.below((bound - gap + 1) as u64) as i64;
+    [base, wide_a, base + gap, wide_b]
+}
+
+fn random_calls(bound: i64, calls: u64, seed: u64) {
+    let since = Instant::now();
+    let random = &mut Random(seed);
+    let mut tally = Tally::default();
+    while tally.calls < calls {
+        let most = random.pick(&[2, 4, 6, 6, 10, 64]);
+        let (na, nb) = (1 + random.below(most), 1 + random.below(most));
+        let (x, y) = (intervals(random, bound), intervals(random, bound));
+        let within = |random: &mut Random, from: i64, wide: i64| from + random.below(wide as u64 + 1) as i64;
+        let a: Vec<Point> = (0..na).map(|_| (within(random, x[0], x[1]), within(random, y[0], y[1]))).collect();
+        let posed: Vec<Point> = (0..nb).map(|_| (within(random, x[2], x[3]), within(random, y[2], y[3]))).collect();
+        let (c, s) = random.pick(&[(1, 0), (0, 1), (-1, 0), (0, -1)]);
+        let shift = (random.below(1 << 20) as i64 - (1 << 19), random.below(1 << 20) as i64 - (1 << 19));
+        let turned_back = |p: &Point| {
+            let d = minus(*p, shift);
+            (c * d.0 + s * d.1, c * d.1 - s * d.0)
+        };
+        let b: Vec<Point> = posed.iter().map(turned_back).collect();
+        if b.iter().chain(&a).any(|p| p.0.abs() > 1 << 20 || p.1.abs() > 1 << 20) {
+            continue;
+        }
+        let list = |random: &mut Random, o: &[Point]| -> Vec<Vector> { o.iter().map(|p| Vector::new(float(random, p.0), float(random, p.1))).collect() };
+        let (fa, fb) = (list(random, &a), list(random, &b));
+        let rotation = Rotation { c: float(random, c), s: float(random, s) };
+        let translation = Vector::new(float(random, shift.0), float(random, shift.1));
+        let least = if most <= 4 { between(&a, &posed) } else { between_hulls(&a, &posed) };
+        if most <= 4 {
+            let again = between_hulls(&a, &posed);
+            assert!(!again.below(least) && !least.below(again), "the two ways to measure differ: {a:?} {posed:?}");
+        }
+        let job = Job { a: &fa, b: &fb, pose: Pose::from_parts(translation, rotation), whole_a: &a, posed_b: &posed, least };
+        for _ in 0..4 {
+            let radii = (random.below(1 << 20) as f32 / 64.0, random.below(1 << 20) as f32 / 64.0, random.below(2) == 0);
+            let cache = any_cache(random, na as u32, nb as u32);
+            tally.call(&job, radii, cache);
+        }
+    }
+    tally.tell(&format!("random calls within {bound}, seed {seed}"), since);
+}
+
+/// `millions` of random calls from `seed` on, after all small outlines.
+pub fn run(millions: u64, seed: u64) {
+    all_pairs(4, 3, "every valid cache", valid_caches);
+    let mut random = Random(seed);
+    all_pairs(4, 4, "an empty cache and seven random ones", |na, nb| {
+        let mut caches = vec![SimplexCache::default()];
+        caches.extend((0..7).map(|_| any_cache(&mut random, na, nb)));
+        caches
+    });
+    random_calls(16, millions * 1_000_000, seed);
+}
