@@ -5,8 +5,8 @@ use model::Rotation;
 use model::Sweep;
 use model::SweepAnswer;
 use model::Vector;
-use replay::wide;
 use replay::Tally;
+use replay::wide;
 use sweep_toi::sweep_time_of_impact;
 
 fn vector(pool: &[u8], at: usize) -> Vector {
@@ -72,7 +72,9 @@ fn contact_is(row: &[u8], c: Contact) -> bool {
 }
 
 fn counts_are(row: &[u8], n: Counts) -> bool {
-    (n.distance_calls == wire::word(row, 32)) & (n.searches == wire::word(row, 36)) & (n.root_steps == wire::word(row, 40))
+    (n.distance_calls == wire::word(row, 32))
+        & (n.searches == wire::word(row, 36))
+        & (n.root_steps == wire::word(row, 40))
 }
 
 fn nowhere() -> Contact {
@@ -88,7 +90,9 @@ fn nowhere() -> Contact {
 fn is_stored(answer: SweepAnswer, row: &[u8], spoil: u32) -> bool {
     let kind = std::num::wrapping_add_u32(wire::word(row, 8), spoil);
     match answer {
-        SweepAnswer::Overlapped(n) => (kind == 16) & contact_is(row, nowhere()) & counts_are(row, n),
+        SweepAnswer::Overlapped(n) => (kind == 16)
+            & contact_is(row, nowhere())
+            & counts_are(row, n),
         SweepAnswer::Hit(c, n) => (kind == 17) & contact_is(row, c) & counts_are(row, n),
         SweepAnswer::Separated(c, n) => (kind == 18) & contact_is(row, c) & counts_are(row, n),
         SweepAnswer::Failed(c, n) => (kind == 19) & contact_is(row, c) & counts_are(row, n),
@@ -103,5 +107,10 @@ pub fn counted(t: Tally, row: &[u8], pool: &[u8], numbers: &[f32]) -> Tally {
         return t;
     }
     let answer = call(row, pool, numbers);
-    replay::counted(t, kind, !is_stored(answer, row, 0), !is_stored(answer, row, 1))
+    replay::counted(
+        t,
+        kind,
+        !is_stored(answer, row, 0),
+        !is_stored(answer, row, 1),
+    )
 }
