@@ -49,7 +49,6 @@ try region-strictly Simplex.antt refused \
   'notAbove x = le x (Ground.zero f)' 'notAbove x = lt x (Ground.zero f)'
 try support-along-d Distance.antt refused \
   'supportB d = support f b (inverseRotate f (p .rotation) (negate d))' 'supportB d = support f b (inverseRotate f (p .rotation) d)'
-try settled-writes-before Distance.antt refused \
-  'cond (held s n (supportA (r .direction)) (supportB (r .direction))) (ended Settled (extended r) (r .count)' \
-  'cond (held s n (supportA (r .direction)) (supportB (r .direction))) (ended Settled s n'
+try settled-writes-one Distance.antt refused \
+  'cacheBy Settled c r = written c (r .simplex) (r .count)' 'cacheBy Settled c r = written c (r .simplex) 1'
 exit $bad

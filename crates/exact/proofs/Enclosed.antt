@@ -1,7 +1,8 @@
 -- Where all six tests of the three-vertex solver fail, the origin lies inside: on each vertex's side of the edge opposite to it.
--- A test of an edge fails where the origin lies on the third vertex's side, or past one end. Past an end it lies on the third vertex's side if it does so at the
--- other edge of that end. So each edge is answered by itself or by a neighbour. Two edges cannot wait for each other, since of the tests at their common vertex one
--- passes, nor can three in a circle, since the six distances along the edges have equal sums either way round. Assumes nothing.
+-- An edge's test fails where the origin lies on the third vertex's side of the edge, or past one of its ends. Past an end it lies on the third vertex's side if it does
+-- so at the other edge of that end. So each edge is answered by itself or waits for a neighbour. Two edges cannot wait for each other: the origin would be ahead of
+-- their common vertex, and not ahead of it, on one and the same way. Nor can three wait in a circle: the six places along the edges have equal sums either way round.
+-- Assumes nothing.
 use mathlib.Core.Path.{sym}
 use mathlib.Core.Logic.{_⊎_, inl, inr}
 use Prim.Native.Nat.{_≤_, _<_}

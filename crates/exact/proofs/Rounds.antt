@@ -42,12 +42,12 @@ unfolding I.mul ofBits
 epsilon-squared binary32 = (45, refl)
 epsilon-squared binary64 = (103, refl)
 
--- a pair that stands in a slot lies no further than the slots do
-held-level : (F : ℕ → ℕ → Type 0) (s : List SimplexVertex) (n i j : ℕ) → T (held s n i j) → ((k : ℕ) → k < n → F (slot s k .«index_a») (slot s k .«index_b»)) → F i j
+-- what holds of the pair in every slot that counts holds of a pair that was found held
+holds-of-held : (F : ℕ → ℕ → Type 0) (s : List SimplexVertex) (n i j : ℕ) → T (held s n i j) → ((k : ℕ) → k < n → F (slot s k .«index_a») (slot s k .«index_b»)) → F i j
 unfolding held
-held-level F s zero i j h all = absurd h
-held-level F s (suc n) i j h all =
-    elim (either (held s n i j) (eqb (slot s n .«index_a») i && eqb (slot s n .«index_b») j) h) [ inl r ↦ held-level F s n i j r (λ k l. all k (le-step l)) | inr r ↦ here r ]
+holds-of-held F s zero i j h all = absurd h
+holds-of-held F s (suc n) i j h all =
+    elim (either (held s n i j) (eqb (slot s n .«index_a») i && eqb (slot s n .«index_b») j) h) [ inl r ↦ holds-of-held F s n i j r (λ k l. all k (le-step l)) | inr r ↦ here r ]
   where
     either : (t r : Bool) → T (t || r) → T t ⊎ T r
     either true r h = inl tt
@@ -166,7 +166,7 @@ module _ (f : Format) {bound : ℕ} (room : Room f bound) {p : Pose} {a b : List
       found = supports f room paper domain i
 
       level : T (held s n (supportA f a b p d) (supportB f a b p d)) → dot e (places-of (supportA f a b p d) (supportB f a b p d)) ≼ K .level
-      level h = held-level (λ k l. dot e (places-of k l) ≼ K .level) s n (supportA f a b p d) (supportB f a b p d) h (K .top)
+      level h = holds-of-held (λ k l. dot e (places-of k l) ≼ K .level) s n (supportA f a b p d) (supportB f a b p d) h (K .top)
 
       go : (tiny : Bool) → Test tiny ((e .x ≃ 0Int) × (e .y ≃ 0Int)) (0Int ≺ e .x ⊠ e .x ⊞ e .y ⊠ e .y) → (known : Bool) → (T known → T (held s n (supportA f a b p d) (supportB f a b p d)))
           → Right (cond tiny (ended Touching t m (origin f) it) (cond known (ended Settled u m d (it + 1)) next))
