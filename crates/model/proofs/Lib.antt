@@ -4,3 +4,5 @@ pub mod Wire
 pub mod Support
 pub mod Simplex
 pub mod DistanceCall
+pub mod SweepToi
+pub mod ThreeVertices
