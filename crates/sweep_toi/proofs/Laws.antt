@@ -1,7 +1,7 @@
 -- What each loop of a sweep meets, one law for each way that a turn goes: root steps, push-backs, distance calls. Assumes nothing.
 use Prim.Native.Nat.{ℕ, zero, suc, _+_, _-_, _<_}
 use native.Mathlib.Omega.{arith}
-use mathlib.Core.Bool.{Bool, true, false, cond}
+use mathlib.Core.Bool.{true, false, cond}
 use mathlib.Core.List.{List}
 use mathlib.Core.Path.{_≡_, refl, _∙_}
 use lib.Ieee.{Float, Format, sub, lt, le}

@@ -1,6 +1,6 @@
 -- `sweep_toi::advance` meets its contract. Each loop's invariant: what is left, from the state that it has reached, gives what the whole gives;
 -- with bounds on the counts. Assumes nothing.
-use Prim.Native.Nat.{ℕ, _<_, _≤_, _+_, _-_, _*_}
+use Prim.Native.Nat.{_<_, _≤_, _+_, _-_, _*_}
 use native.Mathlib.Omega.{arith}
 use mathlib.Core.Path.{_≡_, refl, sym, _∙_}
 use mathlib.Core.Logic.{⊎-elim}
