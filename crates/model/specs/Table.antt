@@ -136,6 +136,11 @@ pub thrice-keeps-first : keptOf (solveSimplex3 binary32 (at 0 x2 x2 ∷ at 1 x2 
 unfolding solveSimplex3 region3 kept add sub mul div neg lt le ofBits
 thrice-keeps-first = refl
 
+-- of the edge between the second and the third vertex the third comes first, as it is copied to the front
+pub edge23-turned : keptOf (solveSimplex3 binary32 (at 0 x5 x0 ∷ at 1 x1 x1 ∷ at 2 x1 -x1 ∷ [])) ≡ (2 ∷ 1 ∷ [])
+unfolding solveSimplex3 region3 kept add sub mul div neg lt le ofBits
+edge23-turned = refl
+
 -- ---- the distance call on single points, from an empty cache, at the identity and with no radii
 abbrev between : List Float → List Float → Distance
 between a b = proxyDistance binary32 (pose (rotation x1 x0) (vector x0 x0)) a x0 b x0 false (cache 0 (0 ∷ 0 ∷ 0 ∷ []) (0 ∷ 0 ∷ 0 ∷ []))
