@@ -3,6 +3,7 @@
 //!   oracle distance SEED COUNT           a pool and rows of distance calls with their answers (distance.rs)
 //!   oracle sweep SEED COUNT              a pool and rows of sweeps with their answers (sweep.rs)
 //!   oracle batch SEED COUNT              a batch of COUNT blocks (sheet.rs)
+//!   oracle lines SEED COUNT              blocks with their lines
 //!   oracle sheet                         the sheet of the batch on standard input
 //!   oracle squared-paper MILLIONS SEED   demand 3 tested by running (squared_paper.rs)
 mod counts;
@@ -38,6 +39,7 @@ fn main() {
         "distance" => distance::rows(number(2), number(3) as usize),
         "sweep" => sweep::rows(number(2), number(3) as usize),
         "batch" => sheet::batch(number(2), number(3)),
+        "lines" => sheet::rows(number(2), number(3)),
         "sheet" => sheet::sheet(),
         "squared-paper" => squared_paper::run(number(2), number(3)),
         other => {

@@ -1,6 +1,6 @@
 //! The sheet of a batch by the oracle, and seeded batches.
 use crate::math::{Rotation, Vector};
-use crate::pool::{self, angle, edge_rotations, movement, outline, ABOVE_LIMIT};
+use crate::pool::{angle, edge_rotations, movement, outline, ABOVE_LIMIT};
 use crate::random::{Random, SPECIAL};
 use crate::sweep;
 use crate::sweep_toi::sweep::Sweep;
@@ -47,6 +47,26 @@ fn fields(b: &[u8]) -> u32 {
     }
 }
 
+/// The line of a block, and its kind: the number of refusal, or 16 O, 17 H, 18 S, 19 F.
+fn line(number: u64, b: &[u8; SIZE]) -> (String, u32) {
+    let refused = fields(b);
+    if refused != 0 {
+        let job = if refused == 11 { word(b, 0) } else { 0 };
+        return (format!("{number} {job} {refused}\n"), refused);
+    }
+    let numbers = |at: usize, n: usize| (0..2 * n).map(|i| float(b, at + 4 * i)).collect::<Vec<f32>>();
+    let x = sweep::answer(&numbers(104, b[4] as usize), float(b, 8), &movement_at(b, 24), &numbers(232, b[5] as usize), float(b, 12), &movement_at(b, 64), float(b, 16), float(b, 20));
+    if x.refused != 0 {
+        return (format!("{number} {} {}\n", word(b, 0), x.refused), x.refused);
+    }
+    let f = x.floats.map(crate::ground::bits);
+    let text = format!(
+        "{number} {} 0 {} {:08X} {:08X} {:08X} {:08X} {:08X} {} {} {}\n",
+        word(b, 0), ["O", "H", "S", "F"][x.status as usize], f[0], f[1], f[2], f[3], f[4], x.counts[0], x.counts[1], x.counts[2]
+    );
+    (text, 16 + x.status)
+}
+
 pub fn sheet() {
     let mut input = std::io::stdin().lock();
     let mut out = std::io::BufWriter::new(std::io::stdout().lock());
@@ -64,29 +84,12 @@ pub fn sheet() {
             break;
         }
         totals[0] += 1;
-        let refused = if n < SIZE { 9 } else { fields(&b) };
-        if refused != 0 {
-            totals[3] += 1;
-            let job = if refused == 11 { word(&b, 0) } else { 0 };
-            writeln!(out, "{} {job} {refused}", totals[0]).unwrap();
-            if refused == 9 {
-                break;
-            }
-            continue;
+        let (text, kind) = if n < SIZE { (format!("{} 0 9\n", totals[0]), 9) } else { line(totals[0], &b) };
+        totals[if kind < 16 { 3 } else if kind == 18 { 1 } else { 2 }] += 1;
+        out.write_all(text.as_bytes()).unwrap();
+        if kind == 9 {
+            break;
         }
-        let numbers = |at: usize, n: usize| (0..2 * n).map(|i| float(&b, at + 4 * i)).collect::<Vec<f32>>();
-        let x = sweep::answer(&numbers(104, b[4] as usize), float(&b, 8), &movement_at(&b, 24), &numbers(232, b[5] as usize), float(&b, 12), &movement_at(&b, 64), float(&b, 16), float(&b, 20));
-        if x.refused != 0 {
-            totals[3] += 1;
-            writeln!(out, "{} {} {}", totals[0], word(&b, 0), x.refused).unwrap();
-            continue;
-        }
-        totals[if x.status == 2 { 1 } else { 2 }] += 1;
-        write!(out, "{} {} 0 {}", totals[0], word(&b, 0), ["O", "H", "S", "F"][x.status as usize]).unwrap();
-        for f in x.floats {
-            write!(out, " {:08X}", crate::ground::bits(f)).unwrap();
-        }
-        writeln!(out, " {} {} {}", x.counts[0], x.counts[1], x.counts[2]).unwrap();
     }
     writeln!(out, "TOTAL {} {} {} {}", totals[0], totals[1], totals[2], totals[3]).unwrap();
 }
@@ -207,26 +210,49 @@ fn job(r: &mut Random, family: u64) -> Job {
     j
 }
 
-/// COUNT blocks: ten families in turn; the last two are damaged blocks, sealed again or not.
+/// Block i of a batch: ten families in turn; the last two are damaged blocks, sealed again or not.
+fn made(r: &mut Random, i: u64) -> [u8; SIZE] {
+    let family = i % 10;
+    let number = if family == 8 && r.below(8) == 0 { 0 } else { r.next() as u32 | 1 };
+    let mut b = block(number, &job(r, family));
+    if family >= 8 {
+        for _ in 0..1 + r.below(3) {
+            let any = r.below(508) as usize;
+            let at = r.pick(&[4, 5, 6, 7, 103, 230, 231, 358, 359, 360, 400, 507, any]);
+            b[at] = r.pick(&[0, 1, 16, 17, 128, 255]);
+        }
+        if family == 8 || r.below(2) == 0 {
+            seal(&mut b);
+        } else {
+            b[r.below(512) as usize] ^= 1 << r.below(8);
+        }
+    }
+    b
+}
+
 pub fn batch(seed: u64, count: u64) {
     let mut r = Random(seed);
     let mut out = std::io::BufWriter::new(std::io::stdout().lock());
     for i in 0..count {
-        let family = i % 10;
-        let number = if family == 8 && r.below(8) == 0 { 0 } else { r.next() as u32 | 1 };
-        let mut b = block(number, &job(&mut r, family));
-        if family >= 8 {
-            for _ in 0..1 + r.below(3) {
-                let any = r.below(508) as usize;
-                let at = r.pick(&[4, 5, 6, 7, 103, 230, 231, 358, 359, 360, 400, 507, any]);
-                b[at] = r.pick(&[0, 1, 16, 17, 128, 255]);
-            }
-            if family == 8 || r.below(2) == 0 {
-                seal(&mut b);
-            } else {
-                b[r.below(512) as usize] ^= 1 << r.below(8);
-            }
-        }
-        out.write_all(&b).unwrap();
+        out.write_all(&made(&mut r, i)).unwrap();
     }
+}
+
+/// Rows of 160 words: a block, the bytes of its line as block i of a file, zeros, and the line's kind.
+pub fn rows(seed: u64, count: u64) {
+    let mut r = Random(seed);
+    let mut out = crate::words::Chunks::new();
+    let mut seen = [0u32; 20];
+    for i in 1..=count {
+        let b = made(&mut r, i);
+        let (text, kind) = line(i, &b);
+        seen[kind as usize] += 1;
+        let mut bytes = [&b[..], text.as_bytes()].concat();
+        assert!(bytes.len() <= 636);
+        bytes.resize(636, 0);
+        let words: Vec<u32> = bytes.chunks_exact(4).map(|w| u32::from_le_bytes(w.try_into().unwrap())).chain([kind]).collect();
+        out.row(&words);
+    }
+    out.end();
+    eprintln!("{seen:?}");
 }

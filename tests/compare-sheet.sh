@@ -1,0 +1,30 @@
+#!/usr/bin/env bash
+# compare-sheet.sh SRC [BATCHES [COUNT]]: makes BATCHES seeded batches of COUNT blocks (default 100 of 10,000) of ten families (see oracle/sheet.rs),
+# runs the oracle's sheet and ours on each, and compares every byte; then files of every length from 1 to 1,023 bytes.
+# SRC is the folder that holds query/sweep_toi/*.rs of parry2d 0.31.1.
+set -eu
+src="$1"; batches="${2:-100}"; count="${3:-10000}"
+cd "$(dirname "$0")/.."
+oracle/build.sh "$src" target/oracle
+rt check sheet > /dev/null
+work="$(mktemp -d)"; trap 'rm -r "$work"' EXIT
+differ=0
+same() { # same NAME: the two sheets of the batch in the work folder
+  target/oracle/oracle sheet < "$work/batch" > "$work/oracle"
+  target/bin/sheet < "$work/batch" > "$work/ours"
+  cmp -s "$work/oracle" "$work/ours" || { differ=$((differ + 1)); echo "$1 differs: $(diff "$work/oracle" "$work/ours" | head -n 2 | tr '\n' ' ')"; }
+}
+for seed in $(seq 1 "$batches"); do
+  target/oracle/oracle batch "$seed" "$count" > "$work/batch"
+  same "seed $seed"
+  cut -d' ' -f3,4 "$work/ours" | grep -v '^[0-9]* [0-9]*$' >> "$work/kinds" || true
+done
+echo "$((batches * count)) blocks in $batches batches, $differ differ"
+awk '{kind = $1 == 0 ? $2 : $1; n[kind]++} END {for (k in n) printf "%s %d  ", k, n[k]; print ""}' "$work/kinds"
+target/oracle/oracle batch 7 2 > "$work/whole"
+for length in $(seq 1 1023); do
+  head -c "$length" "$work/whole" > "$work/batch"
+  same "length $length"
+done
+echo "1023 cut files, $differ differ in all"
+[ "$differ" = 0 ]
