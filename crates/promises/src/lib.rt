@@ -1,0 +1,1 @@
+// What is promised of the public functions all together; no code.
