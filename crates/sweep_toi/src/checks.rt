@@ -19,10 +19,15 @@ fn bad_centres(w: Sweep) -> bool
 pub fn check_sweeps(a: Sweep, b: Sweep) -> CheckedSweeps
     ensures { λ r. ⌜ r ≡ Domain.checkedSweeps binary32 a b ⌝ }
 {
-    if bad_rotation(a.q1) | bad_rotation(a.q2) | bad_rotation(b.q1) | bad_rotation(b.q2) {
+    let rotations = bad_rotation(a.q1)
+        | bad_rotation(a.q2)
+        | bad_rotation(b.q1)
+        | bad_rotation(b.q2);
+    let centres = bad_centres(a) | bad_centres(b);
+    if rotations {
         return CheckedSweeps::Refused(5);
     }
-    if bad_centres(a) | bad_centres(b) {
+    if centres {
         return CheckedSweeps::Refused(6);
     }
     CheckedSweeps::Good(a, b)

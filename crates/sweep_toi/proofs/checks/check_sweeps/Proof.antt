@@ -16,37 +16,31 @@ bad-rotation-requires-3 c κs = search needs
 bad-rotation-requires-4 : tie.Need-bad-rotation-requires-4
 bad-rotation-requires-4 c κs = search needs
 
-returns : tie.Need-returns
-unfolding checkedSweeps
-returns c =
-    let d = c .before in
-    simp (rw (d .bad-rotation4 .ensures, d .before .bad-rotation3 .ensures, d .before .before .bad-rotation2 .ensures, d .before .before .before .bad-rotation .ensures) at (c .if1 .taken))
-
 bad-centres-requires : tie.Need-bad-centres-requires
 bad-centres-requires c κs = search needs
 
 bad-centres-requires-2 : tie.Need-bad-centres-requires-2
 bad-centres-requires-2 c κs = search needs
 
+returns : tie.Need-returns
+unfolding checkedSweeps
+returns c =
+    let r = c .before .before .before in
+    simp (rw (r .bad-rotation4 .ensures, r .before .bad-rotation3 .ensures, r .before .before .bad-rotation2 .ensures, r .before .before .before .bad-rotation .ensures) at (c .if1 .taken))
+
 returns-2 : tie.Need-returns-2
 unfolding checkedSweeps
 returns-2 c =
-    let t = c .before .before .before in
-    let d = t .before in
-    simp (
-      rw (d .bad-rotation4 .ensures, d .before .bad-rotation3 .ensures, d .before .before .bad-rotation2 .ensures, d .before .before .before .bad-rotation .ensures) at (t .if1 .left),
-      rw (c .before .bad-centres2 .ensures, c .before .before .bad-centres .ensures) at (c .if2 .taken),
-    )
+    let d = c .before .before in
+    let r = d .before .before in
+    simp (rw (r .bad-rotation4 .ensures, r .before .bad-rotation3 .ensures, r .before .before .bad-rotation2 .ensures, r .before .before .before .bad-rotation .ensures) at (c .before .if1 .left), rw (d .bad-centres2 .ensures, d .before .bad-centres .ensures) at (c .if2 .taken))
 
 returns-3 : tie.Need-returns-3
 unfolding checkedSweeps
 returns-3 c =
-    let t = c .before .before .before in
-    let d = t .before in
-    simp (
-      rw (d .bad-rotation4 .ensures, d .before .bad-rotation3 .ensures, d .before .before .bad-rotation2 .ensures, d .before .before .before .bad-rotation .ensures) at (t .if1 .left),
-      rw (c .before .bad-centres2 .ensures, c .before .before .bad-centres .ensures) at (c .if2 .left),
-    )
+    let d = c .before .before in
+    let r = d .before .before in
+    simp (rw (r .bad-rotation4 .ensures, r .before .bad-rotation3 .ensures, r .before .before .bad-rotation2 .ensures, r .before .before .before .bad-rotation .ensures) at (c .before .if1 .left), rw (d .bad-centres2 .ensures, d .before .bad-centres .ensures) at (c .if2 .left))
 
 pub check-sweeps-spec : {M : Type 1} → statement M
 check-sweeps-spec =
@@ -56,8 +50,8 @@ check-sweeps-spec =
     bad-rotation-requires-2
     bad-rotation-requires-3
     bad-rotation-requires-4
-    returns
     bad-centres-requires
     bad-centres-requires-2
+    returns
     returns-2
     returns-3)
