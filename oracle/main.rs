@@ -1,7 +1,7 @@
 //! The oracle: the module's own text over our prelude, asked from the command line.
 //!   oracle ground                        rows of every ground operation with their answers (ground.rs)
 //!   oracle distance SEED COUNT           a pool and rows of distance calls with their answers (distance.rs)
-//!   oracle sweep SEED COUNT              a pool and rows of sweeps with their answers (sweep.rs)
+//!   oracle sweep SEED COUNT [EFFORT]     a pool and rows of sweeps with their answers (sweep.rs)
 //!   oracle batch SEED COUNT              a batch of COUNT blocks (sheet.rs)
 //!   oracle lines SEED COUNT              blocks with their lines
 //!   oracle sheet                         the sheet of the batch on standard input
@@ -37,7 +37,7 @@ fn main() {
     match word(1) {
         "ground" => ground::rows(),
         "distance" => distance::rows(number(2), number(3) as usize),
-        "sweep" => sweep::rows(number(2), number(3) as usize),
+        "sweep" => sweep::rows(number(2), number(3) as usize, word(4).parse().unwrap_or(100)),
         "batch" => sheet::batch(number(2), number(3)),
         "lines" => sheet::rows(number(2), number(3)),
         "sheet" => sheet::sheet(),

@@ -124,8 +124,8 @@ fn rare(x: &Answer, max_fraction: f32) -> Option<usize> {
     found.iter().position(|&y| y)
 }
 
-/// Half of the rows come as they fall, a quarter has parts outside the domain, and a quarter was looked for.
-pub fn rows(seed: u64, count: usize) {
+/// Half of the rows come as they fall, a quarter has parts outside the domain, and a quarter was looked for among `effort` sweeps for each row.
+pub fn rows(seed: u64, count: usize, effort: u64) {
     let mut r = Random(seed);
     let p = pool::pool(&mut r);
     let mut out = words::Chunks::new();
@@ -157,11 +157,11 @@ pub fn rows(seed: u64, count: usize) {
         let kind = rare(&x, p.fractions[k.fraction]);
         if let Some(i) = kind {
             met[i] += 1;
-            if kept[i] >= most && tries < 100 * count as u64 {
+            if kept[i] >= most && tries < effort * count as u64 {
                 continue;
             }
             kept[i] += 1;
-        } else if tries < 100 * count as u64 {
+        } else if tries < effort * count as u64 {
             continue;
         }
         write(k, &x);

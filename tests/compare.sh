@@ -9,7 +9,7 @@ rt check "replay_$kind" > /dev/null
 total() { sed -n "s/.*$1 \([0-9]*\),.*/\1/p" <<< "$out" | awk '{n += $1} END {print n + 0}'; }
 rows=0; differ=0
 for seed in $(seq 1001 $((1000 + seeds))); do
-  out="$(target/oracle/oracle "$kind" "$seed" "$count" 2> /dev/null | "target/bin/replay_$kind")"
+  out="$(target/oracle/oracle "$kind" "$seed" "$count" 1 2> /dev/null | "target/bin/replay_$kind")"
   rows=$((rows + $(total rows)))
   here=$(total differ)
   [ "$here" = 0 ] || echo "seed $seed: $here differ"
