@@ -1,3 +1,4 @@
 pub mod Bits
 pub mod Root
 pub mod Wire
+pub mod Sheet
