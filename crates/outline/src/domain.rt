@@ -8,6 +8,7 @@ use model::Vector;
 ghost use mathlib.Core.Path.{_≡_};
 ghost use lib.Ieee.{binary32};
 ghost use Rattle.model.specs.Domain as Domain;
+ghost use Rattle.outline.specs.Refusal as Refusal;
 
 // Whether a list is empty, of odd length, or of more than 64 points.
 pub fn bad_outline(points: &[f32]) -> bool
@@ -89,4 +90,24 @@ pub fn check_pose(p: Pose) -> CheckedPose
         return CheckedPose::Refused(6);
     }
     CheckedPose::Good(p)
+}
+
+// The number of a pair's refusal, 0 where it passed.
+pub fn pair_refusal(checked: CheckedPair) -> u32
+    ensures { λ r. ⌜ r ≡ Refusal.ofPair checked ⌝ }
+{
+    match checked {
+        CheckedPair::Points(_, _) => 0,
+        CheckedPair::Refused(n) => n,
+    }
+}
+
+// The number of a pose's refusal, 0 where it passed.
+pub fn pose_refusal(checked: CheckedPose) -> u32
+    ensures { λ r. ⌜ r ≡ Refusal.ofPose checked ⌝ }
+{
+    match checked {
+        CheckedPose::Good(_) => 0,
+        CheckedPose::Refused(n) => n,
+    }
 }

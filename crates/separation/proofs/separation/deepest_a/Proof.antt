@@ -1,0 +1,59 @@
+-- `separation::deepest_a` meets its contract, by cases on the kind and what its callees ensure. Assumes nothing.
+use borrow.Author.Needs.{needs}
+use Rattle.separation.proofs.separation.deepest_a.Statement.{statement}
+use Rattle.separation.proofs.separation.deepest_a.Tie as tie
+
+enum-told : tie.Need-enum-told
+enum-told c = search needs
+
+inv-rotate-vec-requires : tie.Need-inv-rotate-vec-requires
+inv-rotate-vec-requires c κs = search needs
+
+support-index-requires : tie.Need-support-index-requires
+support-index-requires c κs = search needs
+
+enum-told-2 : tie.Need-enum-told-2
+enum-told-2 c = search needs
+
+enum-told-3 : tie.Need-enum-told-3
+enum-told-3 c = search needs
+
+rotate-vec-requires : tie.Need-rotate-vec-requires
+rotate-vec-requires c κs = search needs
+
+neg-requires : tie.Need-neg-requires
+neg-requires c κs = search needs
+
+inv-rotate-vec-requires-2 : tie.Need-inv-rotate-vec-requires-2
+inv-rotate-vec-requires-2 c κs = search needs
+
+support-index-requires-2 : tie.Need-support-index-requires-2
+support-index-requires-2 c κs = search needs
+
+returns : tie.Need-returns
+returns c = simp (c .before .before .enum-told .given .1, c .support-index .ensures, c .before .inv-rotate-vec .ensures)
+
+returns-2 : tie.Need-returns-2
+returns-2 c = search needs
+
+returns-3 : tie.Need-returns-3
+returns-3 c =
+    let n = c .before .before in
+    simp (n .before .before .enum-told3 .given .1, c .support-index2 .ensures, c .before .inv-rotate-vec2 .ensures, n .neg .ensures, n .before .rotate-vec .ensures)
+
+pub deepest-a-spec : {M : Type 1} → statement M
+deepest-a-spec =
+    tie.close
+    (tie.spec
+    enum-told
+    inv-rotate-vec-requires
+    support-index-requires
+    enum-told-2
+    enum-told-3
+    rotate-vec-requires
+    neg-requires
+    inv-rotate-vec-requires-2
+    support-index-requires-2
+    returns
+    returns-2
+    returns-3)

@@ -1,0 +1,302 @@
+// The separation function: its axis from the cached corners, and the separation along it at a time, of given corners or of the deepest.
+use crate::sweep::transform_at;
+use ground::add;
+use ground::dot;
+use ground::inv_rotate_vec;
+use ground::neg;
+use ground::normalize_or_zero;
+use ground::rotate_vec;
+use ground::scale;
+use ground::sub;
+use ground::transform_point;
+use model::MinSeparation;
+use model::Pose;
+use model::SeparationFunction;
+use model::SeparationType;
+use model::SimplexCache;
+use model::Sweep;
+use model::Vector;
+use outline::point;
+use outline::support_index;
+ghost use mathlib.Core.Path.{_≡_};
+ghost use lib.Ieee.{binary32};
+ghost use Rattle.model.specs.Separation as Separation;
+
+// The index that a face has no corner for.
+const INVALID_INDEX: u32 = 4294967295;
+
+// The unit vector across the edge from u to w.
+fn across(u: Vector, w: Vector) -> Vector
+    ensures { λ r. ⌜ r ≡ Separation.across binary32 u w ⌝ }
+{
+    let e = sub(w, u);
+    normalize_or_zero(Vector { x: e.y, y: -e.x })
+}
+
+fn middle(u: Vector, w: Vector) -> Vector
+    ensures { λ r. ⌜ r ≡ Separation.middle binary32 u w ⌝ }
+{
+    scale(add(u, w), 0.5)
+}
+
+// The axis through the local point of a face, turned to the side of the other outline's point.
+fn toward(xf: Pose, local_point: Vector, other: Vector, axis: Vector) -> Vector
+    ensures { λ r. ⌜ r ≡ Separation.toward binary32 xf «local_point» other axis ⌝ }
+{
+    let side = dot(
+        sub(other, transform_point(xf, local_point)),
+        rotate_vec(xf.rotation, axis),
+    );
+    if side < 0.0 { neg(axis) } else { axis }
+}
+
+// Along the axis from a corner of A to a corner of B.
+fn of_points(
+    points_a: &[f32],
+    sweep_a: Sweep,
+    points_b: &[f32],
+    sweep_b: Sweep,
+    xf_a: Pose,
+    xf_b: Pose,
+    index_a: u32,
+    index_b: u32,
+) -> SeparationFunction
+    ensures { λ r. ⌜ r ≡ Separation.ofPoints binary32 «sweep_a» «sweep_b» (now («points_a» .entry)) (now («points_b» .entry)) «xf_a» «xf_b» «index_a» «index_b» ⌝ }
+{
+    let point_a = transform_point(xf_a, point(points_a, index_a));
+    let point_b = transform_point(xf_b, point(points_b, index_b));
+    let local_point = Vector { x: 0.0, y: 0.0 };
+    let axis = normalize_or_zero(sub(point_b, point_a));
+    SeparationFunction {
+        sweep_a,
+        sweep_b,
+        local_point,
+        axis,
+        ty: SeparationType::Points,
+    }
+}
+
+// Along the normal of the edge of A between two corners, toward a corner of B.
+fn of_face_a(
+    points_a: &[f32],
+    sweep_a: Sweep,
+    points_b: &[f32],
+    sweep_b: Sweep,
+    xf_a: Pose,
+    xf_b: Pose,
+    index_a1: u32,
+    index_a2: u32,
+    index_b: u32,
+) -> SeparationFunction
+    ensures { λ r. ⌜ r ≡ Separation.ofFaceA binary32 «sweep_a» «sweep_b» (now («points_a» .entry)) (now («points_b» .entry)) «xf_a» «xf_b» «index_a1» «index_a2» «index_b» ⌝ }
+{
+    let local_point1 = point(points_a, index_a1);
+    let local_point2 = point(points_a, index_a2);
+    let local_point = middle(local_point1, local_point2);
+    let point_b = transform_point(xf_b, point(points_b, index_b));
+    let axis = toward(
+        xf_a,
+        local_point,
+        point_b,
+        across(local_point1, local_point2),
+    );
+    SeparationFunction {
+        sweep_a,
+        sweep_b,
+        local_point,
+        axis,
+        ty: SeparationType::FaceA,
+    }
+}
+
+// Along the normal of the edge of B between two corners, toward a corner of A.
+fn of_face_b(
+    points_a: &[f32],
+    sweep_a: Sweep,
+    points_b: &[f32],
+    sweep_b: Sweep,
+    xf_a: Pose,
+    xf_b: Pose,
+    index_a: u32,
+    index_b1: u32,
+    index_b2: u32,
+) -> SeparationFunction
+    ensures { λ r. ⌜ r ≡ Separation.ofFaceB binary32 «sweep_a» «sweep_b» (now («points_a» .entry)) (now («points_b» .entry)) «xf_a» «xf_b» «index_a» «index_b1» «index_b2» ⌝ }
+{
+    let local_point1 = point(points_b, index_b1);
+    let local_point2 = point(points_b, index_b2);
+    let local_point = middle(local_point1, local_point2);
+    let point_a = transform_point(xf_a, point(points_a, index_a));
+    let axis = toward(
+        xf_b,
+        local_point,
+        point_a,
+        across(local_point1, local_point2),
+    );
+    SeparationFunction {
+        sweep_a,
+        sweep_b,
+        local_point,
+        axis,
+        ty: SeparationType::FaceB,
+    }
+}
+
+// The separation function at time t1, by the cached corners: one of each, or two of A or B. Three are treated as two.
+pub fn new_separation(
+    cache: SimplexCache,
+    points_a: &[f32],
+    sweep_a: Sweep,
+    points_b: &[f32],
+    sweep_b: Sweep,
+    t1: f32,
+) -> SeparationFunction
+    ensures { λ r. ⌜ r ≡ Separation.newSeparation binary32 «sweep_a» «sweep_b» (now («points_a» .entry)) (now («points_b» .entry)) cache t1 ⌝ }
+{
+    let xf_a = transform_at(sweep_a, t1);
+    let xf_b = transform_at(sweep_b, t1);
+    let index_a = cache.index_a;
+    let index_b = cache.index_b;
+    let count = cache.count;
+    if count == 1 {
+        return of_points(
+            points_a,
+            sweep_a,
+            points_b,
+            sweep_b,
+            xf_a,
+            xf_b,
+            index_a[0],
+            index_b[0],
+        );
+    }
+    if index_a[0] == index_a[1] {
+        of_face_b(
+            points_a,
+            sweep_a,
+            points_b,
+            sweep_b,
+            xf_a,
+            xf_b,
+            index_a[0],
+            index_b[0],
+            index_b[1],
+        )
+    } else {
+        of_face_a(
+            points_a,
+            sweep_a,
+            points_b,
+            sweep_b,
+            xf_a,
+            xf_b,
+            index_a[0],
+            index_a[1],
+            index_b[0],
+        )
+    }
+}
+
+// From a corner of A to a corner of B, by the poses at a time; a face has its own point in place of its corner.
+fn separation_of(
+    fcn: SeparationFunction,
+    points_a: &[f32],
+    points_b: &[f32],
+    xf_a: Pose,
+    xf_b: Pose,
+    index_a: u32,
+    index_b: u32,
+) -> f32
+    ensures { λ r. ⌜ r ≡ Separation.separationOf binary32 (now («points_a» .entry)) (now («points_b» .entry)) fcn «xf_a» «xf_b» (fcn .ty) «index_a» «index_b» ⌝ }
+{
+    let ty = fcn.ty;
+    match ty {
+        SeparationType::Points => {
+            let point_a = transform_point(xf_a, point(points_a, index_a));
+            let point_b = transform_point(xf_b, point(points_b, index_b));
+            dot(sub(point_b, point_a), fcn.axis)
+        }
+        SeparationType::FaceA => {
+            let axis = rotate_vec(xf_a.rotation, fcn.axis);
+            let point_a = transform_point(xf_a, fcn.local_point);
+            let point_b = transform_point(xf_b, point(points_b, index_b));
+            dot(sub(point_b, point_a), axis)
+        }
+        SeparationType::FaceB => {
+            let axis = rotate_vec(xf_b.rotation, fcn.axis);
+            let point_a = transform_point(xf_a, point(points_a, index_a));
+            let point_b = transform_point(xf_b, fcn.local_point);
+            dot(sub(point_a, point_b), axis)
+        }
+    }
+}
+
+// The separation of given corners at time t.
+pub fn evaluate(
+    fcn: SeparationFunction,
+    points_a: &[f32],
+    points_b: &[f32],
+    index_a: u32,
+    index_b: u32,
+    t: f32,
+) -> f32
+    ensures { λ r. ⌜ r ≡ Separation.evaluate binary32 (now («points_a» .entry)) (now («points_b» .entry)) fcn «index_a» «index_b» t ⌝ }
+{
+    let xf_a = transform_at(fcn.sweep_a, t);
+    let xf_b = transform_at(fcn.sweep_b, t);
+    separation_of(fcn, points_a, points_b, xf_a, xf_b, index_a, index_b)
+}
+
+// The corner of A that lies deepest along the axis.
+fn deepest_a(fcn: SeparationFunction, points_a: &[f32], xf_a: Pose, xf_b: Pose) -> u32
+    ensures { λ r. ⌜ r ≡ Separation.deepestA binary32 (now («points_a» .entry)) (now («points_a» .entry)) fcn «xf_a» «xf_b» (fcn .ty) ⌝ }
+{
+    let ty = fcn.ty;
+    match ty {
+        SeparationType::Points => support_index(points_a, inv_rotate_vec(xf_a.rotation, fcn.axis)),
+        SeparationType::FaceA => INVALID_INDEX,
+        SeparationType::FaceB => {
+            let axis = neg(rotate_vec(xf_b.rotation, fcn.axis));
+            support_index(points_a, inv_rotate_vec(xf_a.rotation, axis))
+        }
+    }
+}
+
+// The corner of B that lies deepest along the axis.
+fn deepest_b(fcn: SeparationFunction, points_b: &[f32], xf_a: Pose, xf_b: Pose) -> u32
+    ensures { λ r. ⌜ r ≡ Separation.deepestB binary32 (now («points_b» .entry)) (now («points_b» .entry)) fcn «xf_a» «xf_b» (fcn .ty) ⌝ }
+{
+    let ty = fcn.ty;
+    match ty {
+        SeparationType::Points => support_index(
+            points_b,
+            inv_rotate_vec(xf_b.rotation, neg(fcn.axis)),
+        ),
+        SeparationType::FaceA => {
+            let axis = neg(rotate_vec(xf_a.rotation, fcn.axis));
+            support_index(points_b, inv_rotate_vec(xf_b.rotation, axis))
+        }
+        SeparationType::FaceB => INVALID_INDEX,
+    }
+}
+
+// The least separation at time t, with the corners that have it.
+pub fn find_min_separation(
+    fcn: SeparationFunction,
+    points_a: &[f32],
+    points_b: &[f32],
+    t: f32,
+) -> MinSeparation
+    ensures { λ r. ⌜ r ≡ Separation.findMinSeparation binary32 (now («points_a» .entry)) (now («points_b» .entry)) fcn t ⌝ }
+{
+    let xf_a = transform_at(fcn.sweep_a, t);
+    let xf_b = transform_at(fcn.sweep_b, t);
+    let index_a = deepest_a(fcn, points_a, xf_a, xf_b);
+    let index_b = deepest_b(fcn, points_b, xf_a, xf_b);
+    let separation = separation_of(fcn, points_a, points_b, xf_a, xf_b, index_a, index_b);
+    MinSeparation {
+        separation,
+        index_a,
+        index_b,
+    }
+}

@@ -1,0 +1,2 @@
+mod Call
+mod Laws

@@ -1,0 +1,15 @@
+-- `checks::check_fraction` meets its contract, by its test. Assumes nothing.
+use Rattle.model.specs.Domain.{checkedFraction}
+use Rattle.sweep_toi.proofs.checks.check_fraction.Statement.{statement}
+use Rattle.sweep_toi.proofs.checks.check_fraction.Tie as tie
+
+returns : tie.Need-returns
+unfolding checkedFraction
+returns c = simp (c .if1 .taken)
+
+returns-2 : tie.Need-returns-2
+unfolding checkedFraction
+returns-2 c = simp (c .if1 .left)
+
+pub check-fraction-spec : {M : Type 1} → statement M
+check-fraction-spec = tie.close (tie.spec returns returns-2)

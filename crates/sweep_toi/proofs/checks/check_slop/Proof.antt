@@ -1,0 +1,15 @@
+-- `checks::check_slop` meets its contract, by its test. Assumes nothing.
+use Rattle.model.specs.Domain.{checkedSlop}
+use Rattle.sweep_toi.proofs.checks.check_slop.Statement.{statement}
+use Rattle.sweep_toi.proofs.checks.check_slop.Tie as tie
+
+returns : tie.Need-returns
+unfolding checkedSlop
+returns c = simp (c .if1 .taken)
+
+returns-2 : tie.Need-returns-2
+unfolding checkedSlop
+returns-2 c = simp (c .if1 .left)
+
+pub check-slop-spec : {M : Type 1} → statement M
+check-slop-spec = tie.close (tie.spec returns returns-2)
