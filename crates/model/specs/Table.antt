@@ -1,10 +1,10 @@
 -- The rows that the rules ask to see proved, as one table: the checker computes each from the definitions.
 use mathlib.Core.Path.{_≡_, refl}
-use Prim.Native.Nat.{ℕ}
+use Prim.Native.Nat.{ℕ, _/_, _%_}
 use mathlib.Core.Bool.{Bool, true, false}
-use mathlib.Core.List.{List, [], _∷_, map}
-use lib.ListN.{take}
-use lib.Ieee.{binary32, binary64, Float, nan, Format, ofBits, toBits, add, sub, mul, div, neg, lt, le}
+use mathlib.Core.List.{List, [], _∷_, _++_, map}
+use lib.ListN.{take, replicate}
+use lib.Ieee.{binary32, binary64, Float, nan, Format, ofBits, toBits, add, sub, mul, div, neg, lt, le, isNan}
 use Rattle.model.specs.declared.Vector.{Vector}
 use Rattle.model.specs.declared.Pose.{Pose}
 use Rattle.model.specs.declared.SimplexVertex.{SimplexVertex}
@@ -21,6 +21,13 @@ use Rattle.model.specs.Domain.{badParts}
 use Rattle.model.specs.Support.{supportFrom, support}
 use Rattle.model.specs.Simplex.{slot, region2, region3, kept, solveSimplex2, solveSimplex3, solve}
 use Rattle.model.specs.Distance.{cache, allBelow, replaced, held, vertex, startSimplex, roundsFrom, witness, witnessPoints, output, measure, proxyDistance}
+use Rattle.model.specs.Sweep.{transformAt, shifted}
+use Rattle.model.specs.Separation.{newSeparation, evaluate, findMinSeparation}
+use Rattle.model.specs.SweepToi.{sweepTimeOfImpact, sweepTask, advanceFrom, pushFrom, rootFrom, tried, closestAt}
+use Rattle.model.specs.Wire.{word}
+use Rattle.model.specs.Text.{line, hexBy, decimalBy}
+use Rattle.model.specs.Block.{checkedBlock, allZero, sumOfWords, floatsAt, blockOf, sweepAt}
+use Rattle.model.specs.Sheet.{sheet, linesFrom, totalsFrom, ending, totalLine, blockTotals, blockLine, workedLine, refusedLine}
 
 -- ---- roots, by their bit patterns
 abbrev rootBits : Format → ℕ → ℕ
@@ -140,3 +147,35 @@ pub on-top : between (x0 ∷ x0 ∷ []) (x0 ∷ x0 ∷ [])
     }
 unfolding proxyDistance measure roundsFrom startSimplex vertex held allBelow replaced witnessPoints badParts abs supportFrom solve solveSimplex2 solveSimplex3 region2 region3 kept root add sub mul div neg lt le ofBits
 on-top = refl
+
+-- ---- the sheet: the whole example of the rules, and no input
+abbrev word4 : ℕ → List ℕ
+word4 n = (n % 256) ∷ (n / 256 % 256) ∷ (n / 65536 % 256) ∷ (n / 16777216) ∷ []
+
+abbrev words : List ℕ → List ℕ
+words [] = []
+words (n ∷ r) = word4 n ++ words r
+
+-- job 7, one point (0, 0) each, fraction 1, slop 0.5; A stays at (0, 0), B's centre goes from (4, 0) to (0, 0); the check 42FFFEF7
+unfoldable pub example : List ℕ
+example =
+    words (7 ∷ 0x101 ∷ 0 ∷ 0 ∷ 0x3F800000 ∷ 0x3F000000 ∷ [])
+    ++ words (0 ∷ 0 ∷ 0 ∷ 0 ∷ 0 ∷ 0 ∷ 0x3F800000 ∷ 0 ∷ 0x3F800000 ∷ 0 ∷ [])
+    ++ words (0 ∷ 0 ∷ 0x40800000 ∷ 0 ∷ 0 ∷ 0 ∷ 0x3F800000 ∷ 0 ∷ 0x3F800000 ∷ 0 ∷ [])
+    ++ replicate 404 0
+    ++ word4 0x42FFFEF7
+
+-- 1 7 0 H 3F600000 3E800000 00000000 3F800000 00000000 2 2 2, then TOTAL 1 0 1 0
+pub example-sheet : sheet binary32 example
+    ≡ (49 ∷ 32 ∷ 55 ∷ 32 ∷ 48 ∷ 32 ∷ 72 ∷ 32
+    ∷ 51 ∷ 70 ∷ 54 ∷ 48 ∷ 48 ∷ 48 ∷ 48 ∷ 48 ∷ 32 ∷ 51 ∷ 69 ∷ 56 ∷ 48 ∷ 48 ∷ 48 ∷ 48 ∷ 48 ∷ 32
+    ∷ 48 ∷ 48 ∷ 48 ∷ 48 ∷ 48 ∷ 48 ∷ 48 ∷ 48 ∷ 32 ∷ 51 ∷ 70 ∷ 56 ∷ 48 ∷ 48 ∷ 48 ∷ 48 ∷ 48 ∷ 32
+    ∷ 48 ∷ 48 ∷ 48 ∷ 48 ∷ 48 ∷ 48 ∷ 48 ∷ 48 ∷ 32 ∷ 50 ∷ 32 ∷ 50 ∷ 32 ∷ 50 ∷ 10
+    ∷ 84 ∷ 79 ∷ 84 ∷ 65 ∷ 76 ∷ 32 ∷ 49 ∷ 32 ∷ 48 ∷ 32 ∷ 49 ∷ 32 ∷ 48 ∷ 10 ∷ [])
+unfolding example sheet linesFrom totalsFrom ending totalLine blockTotals blockLine workedLine refusedLine line hexBy decimalBy checkedBlock allZero sumOfWords floatsAt blockOf sweepAt word sweepTimeOfImpact sweepTask advanceFrom pushFrom rootFrom tried closestAt newSeparation evaluate findMinSeparation transformAt shifted measure roundsFrom startSimplex vertex held replaced allBelow witnessPoints solve solveSimplex2 solveSimplex3 kept region2 region3 supportFrom badParts abs root add sub mul div neg lt le isNan ofBits toBits
+example-sheet = refl
+
+-- TOTAL 0 0 0 0
+pub empty-sheet : sheet binary32 [] ≡ (84 ∷ 79 ∷ 84 ∷ 65 ∷ 76 ∷ 32 ∷ 48 ∷ 32 ∷ 48 ∷ 32 ∷ 48 ∷ 32 ∷ 48 ∷ 10 ∷ [])
+unfolding sheet linesFrom totalsFrom ending totalLine line decimalBy
+empty-sheet = refl
