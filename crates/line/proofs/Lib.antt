@@ -1,0 +1,4 @@
+mod Pasted
+mod Digits
+mod Pieces
+mod Parts

@@ -1,0 +1,50 @@
+-- `line::write::put_block` meets its contract, case by case. Assumes nothing.
+use Rattle.line.proofs.Pieces.{refused-is}
+use borrow.Author.Needs.{needs}
+use Rattle.line.proofs.write.put_block.Statement.{statement}
+use Rattle.line.proofs.write.put_block.Tie as tie
+
+enum-known-answer : tie.Need-enum-known-answer
+enum-known-answer c = search needs
+
+put-answer-requires : tie.Need-put-answer-requires
+put-answer-requires c κs = search needs
+
+enum-known-answer-2 : tie.Need-enum-known-answer-2
+enum-known-answer-2 c = search needs
+
+cast-put-three : tie.Need-cast-put-three
+cast-put-three c = search needs
+
+cast-put-three-2 : tie.Need-cast-put-three-2
+cast-put-three-2 c = search needs
+
+put-three-requires : tie.Need-put-three-requires
+put-three-requires c κs = search needs
+
+same-length : tie.Need-same-length
+same-length c = search needs
+
+returns : tie.Need-returns
+returns c = rw (c .before .before .before .before .before .answer .given .1) (c .before .before .put-answer .ensures)
+
+same-length-2 : tie.Need-same-length-2
+same-length-2 c = search needs
+
+returns-2 : tie.Need-returns-2
+returns-2 c = rw (c .before .before .before .before .before .answer2 .given .1, refused-is) (c .before .before .put-three .ensures)
+
+pub put-block-spec : {M : Type 1} → statement M
+put-block-spec =
+    tie.close
+    (tie.spec
+    enum-known-answer
+    put-answer-requires
+    enum-known-answer-2
+    cast-put-three
+    cast-put-three-2
+    put-three-requires
+    same-length
+    returns
+    same-length-2
+    returns-2)

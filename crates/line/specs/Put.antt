@@ -1,0 +1,14 @@
+-- A text written into a list from some place on.
+use mathlib.Core.Path.{_≡_}
+use Prim.Native.Nat.{ℕ, _+_}
+use mathlib.Core.List.{List, [], _∷_, _++_}
+use lib.ListN.{length, take, drop}
+
+-- d with s from place k on
+unfoldable pub pasted : List ℕ → ℕ → List ℕ → List ℕ
+pasted d k s = take k d ++ s ++ drop (k + length s) d
+
+-- d' is d with s from place k on, and e the place after it
+pub record Put (d : List ℕ) (k : ℕ) (s : List ℕ) (d' : List ℕ) (e : ℕ) : Type 0 where
+  pub place : e ≡ k + length s
+  pub bytes : d' ≡ pasted d k s
