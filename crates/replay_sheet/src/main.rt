@@ -32,7 +32,9 @@ fn counted(t: Tally, row: &[u8], before: u64) -> Tally {
     };
     let mut space = [0u8; 160];
     let text: &mut [u8] = &mut space;
-    let written = line::write_blocks(&row[..512], text, so_far);
+    let start: usize = 0;
+    let end: usize = 512;
+    let written = line::write_blocks(&row[start..end], text, so_far);
     let n = written.at;
     replay::counted(t, kind, differs(text, n, row, 0), differs(text, n, row, 1))
 }
