@@ -7,7 +7,7 @@ ghost use Rattle.model.specs.Root as Root;
 ghost use Rattle.model.specs.Nearest.{Rooted};
 
 // The largest r with r * r <= n, a binary digit at a time from the top.
-fn isqrt(n: u64) -> u64
+fn by_digits(n: u64) -> u64
     requires { ⌜ n < 2 ^ 48 ⌝ }
     ensures { λ r. ⌜ (r * r ≤ n) × (n < (r + 1) * (r + 1)) ⌝ }
 {
@@ -23,12 +23,44 @@ fn isqrt(n: u64) -> u64
     r
 }
 
-// The whole number nearest to the root of n, which is never half way between two.
-fn near(n: u64) -> u64
+// A guess at the 24 digits of the root of a number from 1 up to 4: a straight line, then three corrections by Newton's rule. Nothing is
+// promised of it but its range.
+fn guess(v: f32) -> u64
+    ensures { λ r. ⌜ (0 < r) × (r < 16777216) ⌝ }
+{
+    let y0 = 0.6866 + 0.3433 * v;
+    let y1 = 0.5 * (y0 + v / y0);
+    let y2 = 0.5 * (y1 + v / y1);
+    let y = 0.5 * (y2 + v / y2);
+    if y != y {
+        return 8388608;
+    }
+    let b: u32 = f32::to_bits(y);
+    (b % 8388608) as u64 + 8388608
+}
+
+// The largest r with r * r <= n: the guess or one less where that is right, and else by digits.
+fn isqrt(n: u64, guess: u64) -> u64
+    requires { ⌜ (n < 2 ^ 48) × (0 < guess) × (guess < 16777216) ⌝ }
+    ensures { λ r. ⌜ (r * r ≤ n) × (n < (r + 1) * (r + 1)) ⌝ }
+{
+    let square = guess * guess;
+    if square <= n {
+        if n - square <= 2 * guess {
+            return guess;
+        }
+    } else if square - n < 2 * guess {
+        return guess - 1;
+    }
+    by_digits(n)
+}
+
+// The whole number nearest to the root of n, which is never half way between two; v is n's significand from 1 up to 4.
+fn near(n: u64, v: f32) -> u64
     requires { ⌜ n < 2 ^ 48 ⌝ }
     ensures { λ r. ⌜ r ≡ Root.nearRoot n ⌝ }
 {
-    let s = isqrt(n);
+    let s = isqrt(n, guess(v));
     if s < n - s * s { s + 1 } else { s }
 }
 
@@ -39,9 +71,9 @@ fn scaled(m: u64, p: u64) -> u64
 {
     let h = (p - 23) / 2;
     if p % 2 == 1 {
-        h * 8388608 + near(m * 8388608)
+        h * 8388608 + near(m * 8388608, f32::from_bits((m + 1056964608) as u32))
     } else {
-        h * 8388608 + near(m * 16777216)
+        h * 8388608 + near(m * 16777216, f32::from_bits((m + 1065353216) as u32))
     }
 }
 
