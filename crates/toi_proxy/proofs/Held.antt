@@ -11,11 +11,13 @@ use base.Logic.{ent, sep}
 use base.Fml.{Fml}
 use prog.Wp.{Heap}
 use ghost.Atoms.{Atoms, sem}
+use contract.Lifetimes.{Lfts}
 use types.Kit.{Given, ‵, _⊛_, given, _$_, _∵_, !, qed, move, drop, use1, split, learn, frame, done}
 use denote.RattleType.{RattleType}
 use denote.Laws.{Is}
 use denote.Builtin.{f32}
 use denote.Ref.{NamedLft}
+use denote.Signature.{namedLft}
 use denote.Slice.{sliceVal, ShrSlice}
 use denote.Struct.Declared.{Declared}
 use denote.Struct.Laws as LL
@@ -67,3 +69,16 @@ module _ (α : NamedLft) where
 
     pub typed : Is Proxy d (proxyVal d ∷ []) → Holds (hasTy (T′.mir (α .mir)) (proxyVal d)) × WT (proxyVal d)
     typed p = LL.lawful declared laws 𝓤 H A W .typed d (proxyVal d ∷ []) p .0
+
+-- the lifetimes of two proxies, A and B, and their types at them
+abbrev pub lftA : Lfts 2 → NamedLft
+lftA κs = namedLft 2 0 tt κs
+
+abbrev pub lftB : Lfts 2 → NamedLft
+lftB κs = namedLft 2 1 tt κs
+
+abbrev pub ProxyA : Lfts 2 → RattleType
+ProxyA κs = Proxy (lftA κs)
+
+abbrev pub ProxyB : Lfts 2 → RattleType
+ProxyB κs = Proxy (lftB κs)
