@@ -1,4 +1,6 @@
 // A proxy record that refers to a lent list of coordinates, with its radius: thin functions that hand the list to the outlines' own.
+mod point_list;
+
 use model::Distance;
 use model::Pose;
 use model::SimplexCache;
@@ -6,6 +8,7 @@ use model::SupportAnswer;
 use model::Sweep;
 use model::SweepAnswer;
 use model::Vector;
+pub use point_list::support_points;
 ghost use mathlib.Core.Path.{_≡_};
 ghost use lib.Ieee.{binary32};
 ghost use Rattle.model.specs.Distance.{proxyDistance};
