@@ -1,8 +1,8 @@
--- `sheet::main` is safe and ends: the turns that are left fall. Nothing has to hold from turn to turn. Assumes nothing.
+-- `batch::run` is safe and ends: the turns that are left fall. Nothing has to hold from turn to turn. Assumes nothing.
 use Prim.Native.Nat.{_-_}
 use borrow.Author.Needs.{needs}
-use Rattle.sheet.proofs.main.Statement.{statement}
-use Rattle.sheet.proofs.main.Tie as tie
+use Rattle.batch.proofs.run.Statement.{statement}
+use Rattle.batch.proofs.run.Tie as tie
 
 abbrev Inv-loop : tie.InvT-loop
 Inv-loop t₀ turn₀ t turn = Unit {0}
@@ -31,8 +31,8 @@ loop-again c = search needs
 returns-2 : tie.Need-returns-2 Inv-loop μ-loop
 returns-2 c = search needs
 
-pub main-spec : {M : Type 1} → statement M
-main-spec =
+pub run-spec : {M : Type 1} → statement M
+run-spec =
     tie.close
     (tie.spec
     Inv-loop

@@ -1,0 +1,4 @@
+// The sheet of no input.
+fn main() {
+    batch::run();
+}

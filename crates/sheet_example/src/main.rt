@@ -1,0 +1,4 @@
+// The sheet of the rules' whole example.
+fn main() {
+    batch::run();
+}
