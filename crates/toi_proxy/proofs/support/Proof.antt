@@ -45,7 +45,7 @@ use Rattle.model.proofs.SupportAnswer as S
 use Rattle.model.proofs.SupportAnswer.Laws as S′
 use Rattle.outline.proofs.support as core
 use Rattle.outline.proofs.support.Symbol as core-def
-use Rattle.outline.proofs.support.Symbol.{name as #outline·support}
+use Rattle.outline.proofs.support.Symbol.{name as #core}
 use Rattle.outline.proofs.support.Met as core-thm
 use Rattle.toi_proxy.specs.declared.ToiProxy.{ToiProxy}
 use Rattle.toi_proxy.proofs.Held.{proxyVal, listVal, Proxy, declared, laws, Own, Lent, lends, typed}
@@ -112,7 +112,7 @@ module _ {M : Type 1} (𝓤 : URA M) (H : Heap 𝓤) (A : Atoms 𝓤) (W : Given
       suffices ! _ (ends-at 𝓤 H A support.ended stayed (support.clauses 𝓤 H A mem run) W (((κ, tt), (q, tt), tt, (d, (w, tt)), at), tt) u r (tt, (tt, tt)) (tt, (tt, tt))) $ says ! e $
       move ! (1 ∷ []) $ frame ! $ nothing ! $ owned ! Vec.the-row (Is Vec.the-row) (LL.makes Vec.the-type Vec′.the-plain 𝓤 H A) w _ iw $ fjoin ! $ move ! (2 ∷ 0 ∷ []) $ fjoin ! $ frame ! $ done !
 
-  module _ (C : Calls 𝓤 H) (Λ : Loops 𝓤 H) (fm : FmC 𝓤 H (W .laws) C) (known : Triple 𝓤 (C #outline·support) (Core 𝓤 H A mem run)) where
+  module _ (C : Calls 𝓤 H) (Λ : Loops 𝓤 H) (fm : FmC 𝓤 H (W .laws) C) (known : Triple 𝓤 (C #core) (Core 𝓤 H A mem run)) where
     walk : Is (B (κ, tt)) d (proxyVal d ∷ []) → Is Vec.the-row w (vectorVal w ∷ []) → ent 𝓤 (onEntry 𝓤 H A support.signature (κ, tt) (q, tt) (d, (w, tt)) at) (WpFn 𝓤 H C Λ code.function (proxyVal d ∷ vectorVal w ∷ []) Post)
     walk p iw =
         qed W (raw (onEntry 𝓤 H A support.signature (κ, tt) (q, tt) (d, (w, tt)) at) ∷ []) ∵ enter ! C Λ code.function (proxyVal d ∷ vectorVal w ∷ []) _ $
@@ -130,13 +130,13 @@ module _ {M : Type 1} (𝓤 : URA M) (H : Heap 𝓤) (A : Atoms 𝓤) (W : Given
         move ! (9 ∷ 10 ∷ []) $ free1 ! $ move ! (7 ∷ 8 ∷ []) $ free1 ! $ move ! (5 ∷ 6 ∷ []) $ free1 ! $ move ! (3 ∷ 4 ∷ []) $ free1 ! $ free0 ! $ by ! (exits iw r u e)))))))))
 
 module _ {M : Type 1} (𝓤 : URA M) (H : Heap 𝓤) (A : Atoms 𝓤) (W : Given 𝓤 H A) (mem : Memory → SProp 𝓤) (run : Routine → Fun 𝓤) where
-  support-walks : (C : Calls 𝓤 H) (Λ : Loops 𝓤 H) → FmC 𝓤 H (W .laws) C → Triple 𝓤 (C #outline·support) (Core 𝓤 H A mem run)
+  support-walks : (C : Calls 𝓤 H) (Λ : Loops 𝓤 H) → FmC 𝓤 H (W .laws) C → Triple 𝓤 (C #core) (Core 𝓤 H A mem run)
       → Walks 𝓤 H A support.ended stayed (WpFn 𝓤 H C Λ code.function) (support.clauses 𝓤 H A mem run)
   support-walks C Λ fm known = walked 𝓤 H A support.ended stayed (support.clauses 𝓤 H A mem run) (WpFn 𝓤 H C Λ code.function) (λ κs. (LL.vals (declared (lft κs)) (laws (lft κs)), (LL.vals Vec.the-type Vec′.the-laws, tt))) (λ κs. (LL.tells (declared (lft κs)) (laws (lft κs)), (LL.tells Vec.the-type Vec′.the-laws, tt)))
       (λ κs qs bounds a g are. via 𝓤 _ (fst∗ 𝓤 _ (emp 𝓤)) (walk 𝓤 H A W mem run (κs .0) (qs .0) (a .0) (a .1 .0) C Λ fm known (are .0) (are .1 .0)))
 
 support-meets : {M : Type 1} (𝓤 : URA M) (H : Heap 𝓤) (A : Atoms 𝓤) (W : Given 𝓤 H A) (mem : Memory → SProp 𝓤) (run : Routine → Fun 𝓤) (𝓣 : Tables 𝓤 H)
-    → Triple 𝓤 (𝓣 .C #outline·support) (Core 𝓤 H A mem run)
+    → Triple 𝓤 (𝓣 .C #core) (Core 𝓤 H A mem run)
     → Meets 𝓤 H A support.signature (WpFn 𝓤 H (𝓣 .C) (𝓣 .Λ) code.function) (support.spec 𝓤 H A mem run)
 support-meets 𝓤 H A W mem run 𝓣 known = walk-meets 𝓤 H A support.ended stayed W (goes-none 𝓤 H A W 1 B yes (λ κs x f. refl), (goes-none 𝓤 H A W 1 (λ _. Vec.the-row) yes (λ κs x f. refl), tt)) (support.clauses 𝓤 H A mem run) (WpFn 𝓤 H (𝓣 .C) (𝓣 .Λ) code.function) (WpFn-mono 𝓤 H (W .laws) 𝓣 code.function)
     (support-walks 𝓤 H A W mem run (𝓣 .C) (𝓣 .Λ) (fmOf 𝓤 H (W .laws) 𝓣) known)
@@ -147,4 +147,4 @@ support-spec 𝓤 H 𝓜 𝓖 𝓡 =
     entered 𝓤 H (tripleOf 𝓤 H (𝓖 .A) support.signature (support.spec 𝓤 H (𝓖 .A) (𝓜 .mem) (𝓡 .run)))
     (tables 𝓤 H 𝓜 𝓡 code.env .C) (tables 𝓤 H 𝓜 𝓡 code.env .Λ) #support code.function (code.unfolded 𝓤 H 𝓜 𝓡)
     (support-meets 𝓤 H (𝓖 .A) (givenOf 𝓤 H 𝓜 𝓖) (𝓜 .mem) (𝓡 .run) (tablesOf 𝓤 H 𝓜 (tables 𝓤 H 𝓜 𝓡 code.env))
-    (cited 𝓤 H (Core 𝓤 H (𝓖 .A) (𝓜 .mem) (𝓡 .run)) 𝓜 𝓡 code.env #outline·support core-def.routine code.calls-outline·support (core-thm.met 𝓤 H 𝓜 𝓖 𝓡)))
+    (cited 𝓤 H (Core 𝓤 H (𝓖 .A) (𝓜 .mem) (𝓡 .run)) 𝓜 𝓡 code.env #core core-def.routine code.calls-outline·support (core-thm.met 𝓤 H 𝓜 𝓖 𝓡)))
