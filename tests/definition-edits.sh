@@ -1,25 +1,18 @@
 #!/usr/bin/env bash
-# definition-edits.sh [CRATE ..]: what notices a change of the definition of the distance call. For each edit below the tree is copied to a temporary folder, the edit
-# is made in crates/model/specs there, and each CRATE is proved (default: exact, and every other crate of crates.txt that names model). It prints who refused, and the
-# first error of the log. Exit status 1 where `exact` does not do what the edit's line says.
+# definition-edits.sh: what notices a change of the definition of the distance call. Each edit below is made in crates/model/specs in two copies of the
+# tree. In the first the model is its definitions alone, without laws and table, and `exact` is proved over it: that is demand 3's own verdict. In the
+# second all is there, and `distance` is proved with what it needs: the first crate that refuses is told, be it the model by its laws and its table
+# or the code by its contracts. Printed with the first error of the log. Exit status 1 where `exact` does not do what the edit's line says.
 set -u
 here="$(cd "$(dirname "$0")/.." && pwd)"
-crates=("$@")
-if [ ${#crates[@]} = 0 ]; then
-  mapfile -t crates < <(sed -n 's/^\([a-z_]*\):.*\bmodel\b.*/\1/p' "$here/crates.txt" | sort)
-fi
 work="$(mktemp -d)"
 trap 'rm -rf "$work"' EXIT
-mkdir "$work/tree"
-cp -r "$here/crates" "$here/crates.txt" "$work/tree/"
-(cd "$work/tree" && rt check "${crates[@]}") > "$work/log" 2>&1 || { echo "the tree itself is refused: see below"; tail -5 "$work/log"; exit 1; }
 bad=0
 
-try() { # try NAME FILE WHAT-EXACT-DOES OLD NEW
-  local name="$1" file="crates/model/specs/$2" expected="$3"
-  rm -rf "$work/tree/crates"
-  cp -r "$here/crates" "$work/tree/"
-  python3 - "$work/tree/$file" "$4" "$5" <<'PY' || exit 1
+edited() { # edited TREE FILE OLD NEW: a fresh copy of the crates with the edit
+  rm -rf "$work/$1"; mkdir "$work/$1"
+  cp -r "$here/crates" "$here/crates.txt" "$work/$1/"
+  python3 - "$work/$1/crates/model/specs/$2" "$3" "$4" <<'PY'
 import sys
 path, old, new = sys.argv[1:]
 text = open(path, encoding="utf-8").read()
@@ -27,14 +20,30 @@ if text.count(old) != 1:
     sys.exit(f"{path}: {old!r} stands {text.count(old)} times, not once")
 open(path, "w", encoding="utf-8").write(text.replace(old, new))
 PY
-  for crate in model "${crates[@]}"; do
-    if (cd "$work/tree" && rt check "$crate") > "$work/log" 2>&1; then verdict=passes; else verdict=refused; fi
-    # only the crate's own refusal counts: a dependency that is refused is told under its own name
-    if [ $verdict = refused ] && ! grep -q "crates/$crate/.*error:\|fn $crate::.*: no proof\|crates/$crate/.*error\b" "$work/log"; then verdict="not reached"; fi
-    printf '%-22s %-10s %s\n' "$name" "$crate" "$verdict"
-    if [ "$verdict" = refused ]; then grep -m1 "crates/$crate/.*error\|fn $crate::.*: no proof" "$work/log" | sed "s|$work/tree/||" | cut -c1-300 | sed 's/^/    /'; fi
-    if [ "$crate" = exact ] && [ "$verdict" != "$expected" ]; then echo "    expected of exact: $expected"; bad=1; fi
-  done
+}
+
+first_error() { grep -m1 'error:\|: no proof' "$work/log" | sed "s|$work/[a-z]*/||" | cut -c1-220 | sed 's/^/    /'; }
+
+try() { # try NAME FILE WHAT-EXACT-DOES OLD NEW
+  edited bare "$2" "$4" "$5" || exit 1
+  (
+    cd "$work/bare" || exit 1
+    rm -r crates/model/proofs crates/model/specs/Table.antt
+    sed -i '/^pub mod Table$/d' crates/model/specs/Lib.antt
+    for crate in crates/*; do case "${crate#crates/}" in model | integers | exact) ;; *) rm -r "$crate" ;; esac; done
+    printf 'model:\nintegers:\nexact: model integers\n' > crates.txt
+    rt check exact
+  ) > "$work/log" 2>&1 && verdict=passes || verdict=refused
+  printf '%-20s exact %s\n' "$1" "$verdict"
+  [ "$verdict" = passes ] || first_error
+  [ "$verdict" = "$3" ] || { echo "    expected of exact: $3"; bad=1; }
+  edited full "$2" "$4" "$5" || exit 1
+  if (cd "$work/full" && rt check distance) > "$work/log" 2>&1; then
+    printf '%-20s the code passes\n' "$1"
+  else
+    printf '%-20s %s\n' "$1" "$(sed -n 's/^rt: \([a-z_]*\) NOT PROVED.*/\1 refuses/p; s/^rt: FAILED: \([a-z_]*\).*/\1 refuses/p' "$work/log" | head -n 1)"
+    first_error
+  fi
 }
 
 try e23-keeps-2-3 Simplex.antt refused \
