@@ -3,6 +3,7 @@
 use Prim.Native.Nat.{ℕ}
 use mathlib.Core.Bool.{Bool}
 use mathlib.Core.List.{List}
+use lib.ListN.{length}
 use mathlib.Core.Path.{_≡_, sym, _∙_}
 use lib.Ieee.{Float, Format, binary32, ofBits, toBits}
 use Rattle.model.specs.declared.Vector.{Vector}
@@ -13,6 +14,7 @@ use Rattle.model.specs.declared.SimplexVertex.{SimplexVertex}
 use Rattle.model.specs.declared.SimplexCache.{SimplexCache}
 use Rattle.model.specs.declared.SeparationFunction.{SeparationFunction}
 use Rattle.model.specs.declared.SweepTask.{SweepTask}
+use Rattle.model.specs.declared.Totals.{Totals}
 use Rattle.model.specs.declared.CheckedPair.{CheckedPair}
 use Rattle.model.specs.declared.CheckedPose.{CheckedPose}
 use Rattle.model.specs.Nearest.{Rooted}
@@ -25,7 +27,13 @@ use Rattle.model.specs.Sweep as Moves
 use Rattle.model.specs.Separation as Separation
 use Rattle.model.specs.SweepToi as SweepToi
 use Rattle.model.specs.Wire as Wire
+use Rattle.model.specs.Block as Block
+use Rattle.model.specs.Sheet as Sheet
 use Rattle.outline.specs.Refusal as Refusal
+use Rattle.toi_proxy.specs.Points as Points
+use Rattle.block.specs.Answer as Answer
+use Rattle.line.specs.Put.{Put}
+use Rattle.line.specs.Line.{blocksFor, endingFor}
 
 -- at most one result meets the contract
 abbrev pub OneResult : {A : Type 0} → (A → Type 0) → Type 0
@@ -199,3 +207,39 @@ word b k = by-value _
 
 pub float : (b : List ℕ) (k : ℕ) → OneResult (λ r. r ≡ Wire.float b k)
 float b k = by-value _
+
+-- ---- toi_proxy, by what the proxies hold
+pub proxy-support : (s : List Float) (d : Vector) → OneResult (λ r. r ≡ Support.supportAnswer binary32 s d)
+proxy-support s d = by-value _
+
+pub proxies-distance : (p : Pose) (a : List Float) (ra : Float) (b : List Float) (rb : Float) (radii : Bool) (c : SimplexCache) → OneResult (λ r. r ≡ Distance.proxyDistance binary32 p a ra b rb radii c)
+proxies-distance p a ra b rb radii c = by-value _
+
+pub proxies-sweep : (a : List Float) (ra : Float) (wa : Sweep) (b : List Float) (rb : Float) (wb : Sweep) (tmax slop : Float) → OneResult (λ r. r ≡ SweepToi.sweepTimeOfImpact binary32 a ra wa b rb wb tmax slop)
+proxies-sweep a ra wa b rb wb tmax slop = by-value _
+
+pub support-points : (ps : List Vector) (d : Vector) → OneResult (λ r. r ≡ Support.supportAnswer binary32 (Points.flat ps) d)
+support-points ps d = by-value _
+
+-- ---- block
+pub check-block : (b : List ℕ) → OneResult (λ r. r ≡ Block.checkedBlock b)
+check-block b = by-value _
+
+pub answer-block : (b : List ℕ) → OneResult (λ r. r ≡ Answer.answerOf b)
+answer-block b = by-value _
+
+-- ---- line: the lent bytes as they are left, and the place after the text
+put-once : (d : List ℕ) (k : ℕ) (s : List ℕ) (d1 d2 : List ℕ) (e1 e2 : ℕ) → Put d k s d1 e1 → Put d k s d2 e2 → (d1 ≡ d2) × (e1 ≡ e2)
+put-once d k s d1 d2 e1 e2 p q = (p .bytes ∙ sym (q .bytes), p .place ∙ sym (q .place))
+
+pub write-blocks : (part out : List ℕ) (t : Totals) (out1 out2 : List ℕ) (e1 e2 : ℕ)
+    → let text = Sheet.linesFrom binary32 (blocksFor (length part) (length out) t) t part in
+    Put out 0 text out1 e1 → Put out 0 text out2 e2 → (out1 ≡ out2) × (e1 ≡ e2)
+write-blocks part out t out1 out2 e1 e2 p q = put-once _ _ _ _ _ _ _ p q
+
+pub write-blocks-totals : (part out : List ℕ) (t : Totals) → OneResult (λ r. r ≡ Sheet.totalsFrom binary32 (blocksFor (length part) (length out) t) t part)
+write-blocks-totals part out t = by-value _
+
+pub write-ending : (out : List ℕ) (t : Totals) (rest : ℕ) (out1 out2 : List ℕ) (e1 e2 : ℕ)
+    → Put out 0 (endingFor (length out) t rest) out1 e1 → Put out 0 (endingFor (length out) t rest) out2 e2 → (out1 ≡ out2) × (e1 ≡ e2)
+write-ending out t rest out1 out2 e1 e2 p q = put-once _ _ _ _ _ _ _ p q
