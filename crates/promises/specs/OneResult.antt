@@ -3,7 +3,7 @@
 use Prim.Native.Nat.{ℕ}
 use mathlib.Core.Bool.{Bool}
 use mathlib.Core.List.{List}
-use lib.ListN.{length}
+use lib.ListN.{length as count}
 use mathlib.Core.Path.{_≡_, sym, _∙_}
 use lib.Ieee.{Float, Format, binary32, ofBits, toBits}
 use Rattle.model.specs.declared.Vector.{Vector}
@@ -233,13 +233,13 @@ put-once : (d : List ℕ) (k : ℕ) (s : List ℕ) (d1 d2 : List ℕ) (e1 e2 : �
 put-once d k s d1 d2 e1 e2 p q = (p .bytes ∙ sym (q .bytes), p .place ∙ sym (q .place))
 
 pub write-blocks : (part out : List ℕ) (t : Totals) (out1 out2 : List ℕ) (e1 e2 : ℕ)
-    → let text = Sheet.linesFrom binary32 (blocksFor (length part) (length out) t) t part in
+    → let text = Sheet.linesFrom binary32 (blocksFor (count part) (count out) t) t part in
     Put out 0 text out1 e1 → Put out 0 text out2 e2 → (out1 ≡ out2) × (e1 ≡ e2)
 write-blocks part out t out1 out2 e1 e2 p q = put-once _ _ _ _ _ _ _ p q
 
-pub write-blocks-totals : (part out : List ℕ) (t : Totals) → OneResult (λ r. r ≡ Sheet.totalsFrom binary32 (blocksFor (length part) (length out) t) t part)
+pub write-blocks-totals : (part out : List ℕ) (t : Totals) → OneResult (λ r. r ≡ Sheet.totalsFrom binary32 (blocksFor (count part) (count out) t) t part)
 write-blocks-totals part out t = by-value _
 
 pub write-ending : (out : List ℕ) (t : Totals) (rest : ℕ) (out1 out2 : List ℕ) (e1 e2 : ℕ)
-    → Put out 0 (endingFor (length out) t rest) out1 e1 → Put out 0 (endingFor (length out) t rest) out2 e2 → (out1 ≡ out2) × (e1 ≡ e2)
+    → Put out 0 (endingFor (count out) t rest) out1 e1 → Put out 0 (endingFor (count out) t rest) out2 e2 → (out1 ≡ out2) × (e1 ≡ e2)
 write-ending out t rest out1 out2 e1 e2 p q = put-once _ _ _ _ _ _ _ p q
