@@ -9,12 +9,20 @@ use lib.Ieee.{Float, nan, binary32}
 use Rattle.model.specs.declared.Vector.{Vector}
 use Rattle.model.specs.declared.Rotation.{Rotation}
 use Rattle.model.specs.declared.Sweep.{Sweep}
+use Rattle.model.specs.declared.SimplexCache.{SimplexCache}
+use Rattle.model.specs.declared.Ending.{Ending}
+use Rattle.model.specs.declared.Ending.the-variants.{Touching, Settled, RoundLimit}
+use Rattle.model.specs.declared.ProxyDistanceOutput.{ProxyDistanceOutput}
+use Rattle.model.specs.declared.DistanceAnswer.{DistanceAnswer}
+use Rattle.model.specs.declared.DistanceAnswer.the-variants.{Measured, Refused as Unmeasured}
+use Rattle.model.specs.declared.Distance.{Distance}
 use Rattle.model.specs.declared.Counts.{Counts}
 use Rattle.model.specs.declared.Contact.{Contact}
 use Rattle.model.specs.declared.SweepAnswer.{SweepAnswer}
 use Rattle.model.specs.declared.SweepAnswer.the-variants.{Overlapped, Hit, Separated, Failed, Refused}
-use Rattle.model.specs.Ground.{vector, rotation, origin}
+use Rattle.model.specs.Ground.{vector, rotation, pose, origin}
 use Rattle.model.specs.Ground as Ground
+use Rattle.model.specs.Distance.{cache, proxyDistance}
 use Rattle.model.specs.SweepToi.{contact, sweepTimeOfImpact}
 use Rattle.model.specs.Sheet.{blockLine}
 
@@ -83,3 +91,57 @@ pub record SweepTold (a b ns out : List Float) (counts : List ℕ) (out' : List 
   pub number : r ≡ cond (sweepFits ns out counts) (sweepNumber (sweepFor a b ns)) 255
   pub contact : out' ≡ cond (sweepFits ns out counts) (contactAfter (sweepFor a b ns) out) out
   pub counted : counts' ≡ cond (sweepFits ns out counts) (countsAfter (sweepFor a b ns) counts) counts
+
+-- ---- the distance
+-- the count, three indices of A, three of B
+unfoldable pub cacheOf : List ℕ → SimplexCache
+cacheOf w = cache (getD w 0 0) (getD w 1 0 ∷ getD w 2 0 ∷ getD w 3 0 ∷ []) (getD w 4 0 ∷ getD w 5 0 ∷ getD w 6 0 ∷ [])
+
+abbrev pub cacheWords : SimplexCache → List ℕ
+cacheWords c =
+    c .count ∷ getD (c .«index_a») 0 0 ∷ getD (c .«index_a») 1 0 ∷ getD (c .«index_a») 2 0 ∷ getD (c .«index_b») 0 0 ∷ getD (c .«index_b») 1 0
+    ∷ getD (c .«index_b») 2 0 ∷ []
+
+-- the pose of B in the frame of A, then both radii
+unfoldable pub distanceFor : List Float → List Float → List Float → Bool → SimplexCache → Distance
+distanceFor a b ns radii c = proxyDistance binary32 (pose (rotationAt ns 0) (vectorAt ns 2)) a (at ns 4) b (at ns 5) radii c
+
+abbrev pub endingNumber : Ending → ℕ
+endingNumber Touching = 16
+endingNumber Settled = 17
+endingNumber RoundLimit = 18
+
+abbrev pub outputNumber : ProxyDistanceOutput → ℕ
+outputNumber o = endingNumber (o .ending) + 256 * o .iterations
+
+abbrev pub outputFloats : ProxyDistanceOutput → List Float
+outputFloats o = o .«point_a» .x ∷ o .«point_a» .y ∷ o .«point_b» .x ∷ o .«point_b» .y ∷ o .normal .x ∷ o .normal .y ∷ o .distance ∷ []
+
+abbrev pub roundsOf : DistanceAnswer → ℕ
+roundsOf (Measured o) = o .iterations
+roundsOf (Unmeasured k) = 0
+
+abbrev pub distanceNumber : DistanceAnswer → ℕ
+distanceNumber (Measured o) = outputNumber o
+distanceNumber (Unmeasured k) = k
+
+-- a refusal leaves both lists
+abbrev pub cacheAfter : DistanceAnswer → SimplexCache → List ℕ → List ℕ
+cacheAfter (Measured o) c words = cacheWords c
+cacheAfter (Unmeasured k) c words = words
+
+abbrev pub outputAfter : DistanceAnswer → List Float → List Float
+outputAfter (Measured o) out = outputFloats o
+outputAfter (Unmeasured k) out = out
+
+abbrev pub distanceFits : List Float → List ℕ → List Float → Bool
+distanceFits ns words out = eqb (length ns) 6 && eqb (length words) 7 && eqb (length out) 7 && ltb (getD words 0 0) 256
+
+-- use_radii counts where it is not 0
+abbrev pub distanceCall : List Float → List Float → List Float → ℕ → List ℕ → Distance
+distanceCall a b ns radii words = distanceFor a b ns (ltb 0 radii) (cacheOf words)
+
+pub record DistanceTold (a b ns : List Float) (radii : ℕ) (words : List ℕ) (out : List Float) (words' : List ℕ) (out' : List Float) (r : ℕ) : Type 0 where
+  pub number : r ≡ cond (distanceFits ns words out) (distanceNumber (distanceCall a b ns radii words .answer)) 255
+  pub cached : words' ≡ cond (distanceFits ns words out) (cacheAfter (distanceCall a b ns radii words .answer) (distanceCall a b ns radii words .cache) words) words
+  pub measured : out' ≡ cond (distanceFits ns words out) (outputAfter (distanceCall a b ns radii words .answer) out) out
