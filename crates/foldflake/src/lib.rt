@@ -1,6 +1,16 @@
 // The entry points for programs in C and Rust, over numbers and slices. Nothing is required of the caller.
+mod numbers;
+mod tell;
+
+use model::Totals;
+use numbers::cache_of;
+use numbers::distance_of;
+use numbers::sweep_of;
+use tell::tell_distance;
+use tell::tell_sweep;
 ghost use lib.Ieee.{binary32};
 ghost use Rattle.model.specs.Nearest.{Rooted};
+ghost use Rattle.foldflake.specs.Entry.{LineTold, SweepTold, DistanceTold};
 
 // The square root of every f32.
 #[no_mangle]
@@ -8,4 +18,78 @@ pub extern "C" fn foldflake_root(x: f32) -> f32
     ensures { λ r. ⌜ Rooted binary32 x r ⌝ }
 {
     ground::root(x)
+}
+
+// The line of a block as block `number` of a file, at the start of out, and its length. 0, and nothing written, where the block has not 512
+// bytes, the number is 0 or above 2^63, or out has fewer than 160 bytes.
+#[no_mangle]
+pub extern "C" fn foldflake_line(number: u64, block: &[u8], out: &mut [u8]) -> usize
+    ensures { λ r. ⌜ LineTold number (now (block .entry)) (now (out .entry)) (now (out .exit)) r ⌝ }
+{
+    if block.len() != 512 {
+        return 0;
+    }
+    if (number == 0) | (number > 0x8000_0000_0000_0000) {
+        return 0;
+    }
+    if out.len() < 160 {
+        return 0;
+    }
+    let before = Totals {
+        blocks: number - 1,
+        clear: 0,
+        contact: 0,
+        refused: 0,
+    };
+    let written = line::write_blocks(block, out, before);
+    written.at
+}
+
+// The sweep of two outlines. Numbers: both radii, the max fraction, the slop, and two moves of ten as in a block. The answer: a refusal, 1 to 8;
+// 16 overlapped, 17 hit, 18 separated, 19 failed; 255 where a list has the wrong length. From 16 to 19 the fraction, the point and the normal
+// stand in out and the three counts in counts; else nothing is written.
+#[no_mangle]
+pub extern "C" fn foldflake_sweep(
+    points_a: &[f32],
+    points_b: &[f32],
+    numbers: &[f32],
+    out: &mut [f32],
+    counts: &mut [u32],
+) -> u32
+    ensures { λ r. ⌜ SweepTold (now («points_a» .entry)) (now («points_b» .entry)) (now (numbers .entry)) (now (out .entry)) (now (counts .entry)) (now (out .exit)) (now (counts .exit)) r ⌝ }
+{
+    if (numbers.len() == 24) & (out.len() == 5) & (counts.len() == 3) {
+        let answer = sweep_of(points_a, points_b, numbers);
+        tell_sweep(answer, out, counts)
+    } else {
+        255
+    }
+}
+
+// The distance of two outlines. Numbers: the cosine, the sine and the translation of the pose of B in the frame of A, and both radii, which
+// count where use_radii is not 0. Cache: the count and six indices, those of A first. The answer: a refusal, 1 to 6; 16 touching, 17 settled,
+// 18 round limit, plus 256 times the rounds; 255 where a list has the wrong length or the count is above 255. From 16 on the point of A, the
+// point of B, the normal and the distance stand in out, and the cache is as the call leaves it; else nothing is written.
+#[no_mangle]
+pub extern "C" fn foldflake_distance(
+    points_a: &[f32],
+    points_b: &[f32],
+    numbers: &[f32],
+    use_radii: u32,
+    cache: &mut [u32],
+    out: &mut [f32],
+) -> u32
+    ensures { λ r. ⌜ DistanceTold (now («points_a» .entry)) (now («points_b» .entry)) (now (numbers .entry)) «use_radii» (now (cache .entry)) (now (out .entry)) (now (cache .exit)) (now (out .exit)) r ⌝ }
+{
+    if (numbers.len() == 6) & (cache.len() == 7) & (out.len() == 7) {
+        if cache[0] < 256 {
+            let start = cache_of(cache);
+            let measured = distance_of(points_a, points_b, numbers, use_radii > 0, start);
+            tell_distance(measured, cache, out)
+        } else {
+            255
+        }
+    } else {
+        255
+    }
 }

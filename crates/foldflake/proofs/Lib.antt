@@ -1,0 +1,3 @@
+mod Filled
+mod Line
+mod Told

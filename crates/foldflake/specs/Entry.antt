@@ -1,0 +1,147 @@
+-- What each entry point answers, and what it leaves in the lists that it was lent. A list of the wrong length is told by 255, and nothing is written.
+use mathlib.Core.Path.{_≡_}
+use Prim.Native.Nat.{ℕ, _+_, _*_}
+use mathlib.Core.Bool.{Bool, _&&_, _||_, cond}
+use mathlib.Core.List.{List, [], _∷_, _++_}
+use lib.Dec.{eqb, ltb}
+use lib.ListN.{length, getD, drop}
+use lib.Ieee.{Float, nan, binary32}
+use Rattle.model.specs.declared.Vector.{Vector}
+use Rattle.model.specs.declared.Rotation.{Rotation}
+use Rattle.model.specs.declared.Sweep.{Sweep}
+use Rattle.model.specs.declared.SimplexCache.{SimplexCache}
+use Rattle.model.specs.declared.Ending.{Ending}
+use Rattle.model.specs.declared.Ending.the-variants.{Touching, Settled, RoundLimit}
+use Rattle.model.specs.declared.ProxyDistanceOutput.{ProxyDistanceOutput}
+use Rattle.model.specs.declared.DistanceAnswer.{DistanceAnswer}
+use Rattle.model.specs.declared.DistanceAnswer.the-variants.{Measured, Refused as Unmeasured}
+use Rattle.model.specs.declared.Distance.{Distance}
+use Rattle.model.specs.declared.Counts.{Counts}
+use Rattle.model.specs.declared.Contact.{Contact}
+use Rattle.model.specs.declared.SweepAnswer.{SweepAnswer}
+use Rattle.model.specs.declared.SweepAnswer.the-variants.{Overlapped, Hit, Separated, Failed, Refused}
+use Rattle.model.specs.Ground.{vector, rotation, pose, origin}
+use Rattle.model.specs.Ground as Ground
+use Rattle.model.specs.Distance.{cache, proxyDistance}
+use Rattle.model.specs.SweepToi.{contact, sweepTimeOfImpact}
+use Rattle.model.specs.Sheet.{blockLine}
+
+-- ---- one block to one line
+-- block n of a file; nothing where the block is not one, no file has the number, or there is no room
+abbrev pub lineFor : ℕ → List ℕ → List ℕ → List ℕ
+lineFor n block out =
+    cond (eqb (length block) 512) (cond (eqb n 0 || ltb 0x8000_0000_0000_0000 n) [] (cond (ltb (length out) 160) [] (blockLine binary32 n block))) []
+
+-- the line stands at the start of out, and the answer is its length
+pub record LineTold (n : ℕ) (block out out' : List ℕ) (r : ℕ) : Type 0 where
+  pub size : r ≡ length (lineFor n block out)
+  pub bytes : out' ≡ lineFor n block out ++ drop (length (lineFor n block out)) out
+
+-- ---- the sweep
+abbrev pub at : List Float → ℕ → Float
+at ns k = getD ns k nan
+
+abbrev pub vectorAt : List Float → ℕ → Vector
+vectorAt ns k = vector (at ns k) (at ns (k + 1))
+
+abbrev pub rotationAt : List Float → ℕ → Rotation
+rotationAt ns k = rotation (at ns k) (at ns (k + 1))
+
+-- ten numbers, in the order of a block
+unfoldable pub moveAt : List Float → ℕ → Sweep
+moveAt ns k =
+    record { «local_center» = vectorAt ns k; c1 = vectorAt ns (k + 2); c2 = vectorAt ns (k + 4); q1 = rotationAt ns (k + 6); q2 = rotationAt ns (k + 8) }
+
+-- both radii, the max fraction, the slop, and the two moves
+unfoldable pub sweepFor : List Float → List Float → List Float → SweepAnswer
+sweepFor a b ns = sweepTimeOfImpact binary32 a (at ns 0) (moveAt ns 4) b (at ns 1) (moveAt ns 14) (at ns 2) (at ns 3)
+
+abbrev pub sweepNumber : SweepAnswer → ℕ
+sweepNumber (Overlapped n) = 16
+sweepNumber (Hit c n) = 17
+sweepNumber (Separated c n) = 18
+sweepNumber (Failed c n) = 19
+sweepNumber (Refused k) = k
+
+abbrev pub contactFloats : Contact → List Float
+contactFloats c = c .fraction ∷ c .point .x ∷ c .point .y ∷ c .normal .x ∷ c .normal .y ∷ []
+
+-- an overlap has fraction 0 and zeros; a refusal leaves the list
+abbrev pub contactAfter : SweepAnswer → List Float → List Float
+contactAfter (Overlapped n) out = contactFloats (contact (Ground.zero binary32) (origin binary32) (origin binary32))
+contactAfter (Hit c n) out = contactFloats c
+contactAfter (Separated c n) out = contactFloats c
+contactAfter (Failed c n) out = contactFloats c
+contactAfter (Refused k) out = out
+
+abbrev pub countsWords : Counts → List ℕ
+countsWords n = n .«distance_calls» ∷ n .searches ∷ n .«root_steps» ∷ []
+
+abbrev pub countsAfter : SweepAnswer → List ℕ → List ℕ
+countsAfter (Overlapped n) out = countsWords n
+countsAfter (Hit c n) out = countsWords n
+countsAfter (Separated c n) out = countsWords n
+countsAfter (Failed c n) out = countsWords n
+countsAfter (Refused k) out = out
+
+abbrev pub sweepFits : List Float → List Float → List ℕ → Bool
+sweepFits ns out counts = eqb (length ns) 24 && eqb (length out) 5 && eqb (length counts) 3
+
+pub record SweepTold (a b ns out : List Float) (counts : List ℕ) (out' : List Float) (counts' : List ℕ) (r : ℕ) : Type 0 where
+  pub number : r ≡ cond (sweepFits ns out counts) (sweepNumber (sweepFor a b ns)) 255
+  pub contact : out' ≡ cond (sweepFits ns out counts) (contactAfter (sweepFor a b ns) out) out
+  pub counted : counts' ≡ cond (sweepFits ns out counts) (countsAfter (sweepFor a b ns) counts) counts
+
+-- ---- the distance
+-- the count, three indices of A, three of B
+unfoldable pub cacheOf : List ℕ → SimplexCache
+cacheOf w = cache (getD w 0 0) (getD w 1 0 ∷ getD w 2 0 ∷ getD w 3 0 ∷ []) (getD w 4 0 ∷ getD w 5 0 ∷ getD w 6 0 ∷ [])
+
+abbrev pub cacheWords : SimplexCache → List ℕ
+cacheWords c =
+    c .count ∷ getD (c .«index_a») 0 0 ∷ getD (c .«index_a») 1 0 ∷ getD (c .«index_a») 2 0 ∷ getD (c .«index_b») 0 0 ∷ getD (c .«index_b») 1 0
+    ∷ getD (c .«index_b») 2 0 ∷ []
+
+-- the pose of B in the frame of A, then both radii
+unfoldable pub distanceFor : List Float → List Float → List Float → Bool → SimplexCache → Distance
+distanceFor a b ns radii c = proxyDistance binary32 (pose (rotationAt ns 0) (vectorAt ns 2)) a (at ns 4) b (at ns 5) radii c
+
+abbrev pub endingNumber : Ending → ℕ
+endingNumber Touching = 16
+endingNumber Settled = 17
+endingNumber RoundLimit = 18
+
+abbrev pub outputNumber : ProxyDistanceOutput → ℕ
+outputNumber o = endingNumber (o .ending) + 256 * o .iterations
+
+abbrev pub outputFloats : ProxyDistanceOutput → List Float
+outputFloats o = o .«point_a» .x ∷ o .«point_a» .y ∷ o .«point_b» .x ∷ o .«point_b» .y ∷ o .normal .x ∷ o .normal .y ∷ o .distance ∷ []
+
+abbrev pub roundsOf : DistanceAnswer → ℕ
+roundsOf (Measured o) = o .iterations
+roundsOf (Unmeasured k) = 0
+
+abbrev pub distanceNumber : DistanceAnswer → ℕ
+distanceNumber (Measured o) = outputNumber o
+distanceNumber (Unmeasured k) = k
+
+-- a refusal leaves both lists
+abbrev pub cacheAfter : DistanceAnswer → SimplexCache → List ℕ → List ℕ
+cacheAfter (Measured o) c words = cacheWords c
+cacheAfter (Unmeasured k) c words = words
+
+abbrev pub outputAfter : DistanceAnswer → List Float → List Float
+outputAfter (Measured o) out = outputFloats o
+outputAfter (Unmeasured k) out = out
+
+abbrev pub distanceFits : List Float → List ℕ → List Float → Bool
+distanceFits ns words out = eqb (length ns) 6 && eqb (length words) 7 && eqb (length out) 7 && ltb (getD words 0 0) 256
+
+-- use_radii counts where it is not 0
+abbrev pub distanceCall : List Float → List Float → List Float → ℕ → List ℕ → Distance
+distanceCall a b ns radii words = distanceFor a b ns (ltb 0 radii) (cacheOf words)
+
+pub record DistanceTold (a b ns : List Float) (radii : ℕ) (words : List ℕ) (out : List Float) (words' : List ℕ) (out' : List Float) (r : ℕ) : Type 0 where
+  pub number : r ≡ cond (distanceFits ns words out) (distanceNumber (distanceCall a b ns radii words .answer)) 255
+  pub cached : words' ≡ cond (distanceFits ns words out) (cacheAfter (distanceCall a b ns radii words .answer) (distanceCall a b ns radii words .cache) words) words
+  pub measured : out' ≡ cond (distanceFits ns words out) (outputAfter (distanceCall a b ns radii words .answer) out) out
