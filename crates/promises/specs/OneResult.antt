@@ -32,6 +32,7 @@ use Rattle.model.specs.Sheet as Sheet
 use Rattle.outline.specs.Refusal as Refusal
 use Rattle.toi_proxy.specs.Points as Points
 use Rattle.block.specs.Answer as Answer
+use Rattle.foldflake.specs.Entry.{LineTold, SweepTold, DistanceTold}
 use Rattle.line.specs.Put.{Put}
 use Rattle.line.specs.Line.{blocksFor, endingFor}
 
@@ -243,3 +244,15 @@ write-blocks-totals part out t = by-value _
 pub write-ending : (out : List ℕ) (t : Totals) (rest : ℕ) (out1 out2 : List ℕ) (e1 e2 : ℕ)
     → Put out 0 (endingFor (count out) t rest) out1 e1 → Put out 0 (endingFor (count out) t rest) out2 e2 → (out1 ≡ out2) × (e1 ≡ e2)
 write-ending out t rest out1 out2 e1 e2 p q = put-once _ _ _ _ _ _ _ p q
+
+-- ---- foldflake: the number answered and the lent lists as they are left; its root is `root` above
+pub foldflake-line : (n : ℕ) (block out out1 out2 : List ℕ) (r1 r2 : ℕ) → LineTold n block out out1 r1 → LineTold n block out out2 r2 → (r1 ≡ r2) × (out1 ≡ out2)
+foldflake-line n block out out1 out2 r1 r2 p q = (p .size ∙ sym (q .size), p .bytes ∙ sym (q .bytes))
+
+pub foldflake-sweep : (a b ns out : List Float) (counts : List ℕ) (out1 out2 : List Float) (counts1 counts2 : List ℕ) (r1 r2 : ℕ)
+    → SweepTold a b ns out counts out1 counts1 r1 → SweepTold a b ns out counts out2 counts2 r2 → (r1 ≡ r2) × (out1 ≡ out2) × (counts1 ≡ counts2)
+foldflake-sweep a b ns out counts out1 out2 counts1 counts2 r1 r2 p q = (p .number ∙ sym (q .number), p .contact ∙ sym (q .contact), p .counted ∙ sym (q .counted))
+
+pub foldflake-distance : (a b ns : List Float) (radii : ℕ) (words : List ℕ) (out : List Float) (words1 words2 : List ℕ) (out1 out2 : List Float) (r1 r2 : ℕ)
+    → DistanceTold a b ns radii words out words1 out1 r1 → DistanceTold a b ns radii words out words2 out2 r2 → (r1 ≡ r2) × (words1 ≡ words2) × (out1 ≡ out2)
+foldflake-distance a b ns radii words out words1 words2 out1 out2 r1 r2 p q = (p .number ∙ sym (q .number), p .cached ∙ sym (q .cached), p .measured ∙ sym (q .measured))
