@@ -5,7 +5,8 @@
   python3 tests/promises.py --check   change nothing; name what has no statement or no place in docs/PROMISES.md, and exit with 1 if anything has not
 
 A statement names a function and cites the contract that the checker makes of its `ensures` lines, so what it says follows the code by itself.
-What is read here is only which functions a library lets another crate call, and of how many clauses each contract is.
+What is read here is only which functions a library lets another crate call, of how many clauses each contract is, whether anything is lent to be
+written, and whether a result that is a struct is told part by part.
 """
 import pathlib
 import re
@@ -28,11 +29,11 @@ use prog.Routine.{{Routine}}
 use prog.Wp.{{Heap}}
 use ghost.Atoms.{{Atoms}}
 use contract.Monad.{{Fun}}
-use mathlib.Core.Path.{{refl}}
+use mathlib.Core.Path.{{_≡_, refl}}
 use Rattle.promises.specs.OneResult.{{OneResult}}
-use Rattle.promises.proofs.Once.{{told, told-in-two, each-list, once}}
+use Rattle.promises.proofs.Once.{{told, told-in-two, each-list, same-value}}
 {crates}
-
+{structs}
 module _ {{M : Type 1}} (𝓤 : URA M) (H : Heap 𝓤) (A : Atoms 𝓤) (mem : Memory → SProp 𝓤) (run : Routine → Fun 𝓤) where
 {statements}"""
 STATEMENT = """\
@@ -40,11 +41,18 @@ STATEMENT = """\
   {name} = record {{
     clauses = {path}.clauses 𝓤 H A mem run;
     of-contract = refl;
-    once = λ κs a g r r' v v'. {told} 𝓤 (λ p q. (search once, {left}));
+    once = λ κs a g r r' v v'. {told} 𝓤 (λ p q. (search {by}, {left}));
   }}
 """
+BY_VALUE = "same-value"
+BY_PARTS = "(same-value, {lemma})"
 NOTHING_LENT = "refl"
-EACH_LIST = "each-list {path}.ended κs a v v' (search once depth 12)"
+EACH_LIST = "each-list {path}.ended κs a v v' (search same-value depth 12)"
+STRUCT = """
+-- `{name}`, where a contract tells its parts
+{lemma} : {{x y : {name}}} → {premises} → x ≡ y
+{lemma} {proofs} = λ i. record {{ {fields} }}
+"""
 
 
 def crates():
@@ -90,8 +98,40 @@ def public(path):
     return found
 
 
-def promised(crate):
-    """The statements for the functions of a crate that answer or leave something, by their ways."""
+def by_parts(crate, header):
+    """The struct whose parts the clauses of a function tell, if they do: its crate, where it is declared, its name, its fields."""
+    if not re.search(r"\br \.", header):
+        return None
+    name = re.search(r"-> (\w+)", header).group(1)
+    for owner in [crate, *crates()]:
+        sources = ROOT / f"crates/{owner}/src"
+        for path in sorted(sources.rglob("*.rt")):
+            struct = re.search(rf"^pub struct {name}\b[^{{]*\{{(.*?)^\}}", path.read_text(), re.M | re.S)
+            if struct:
+                modules = path.relative_to(sources).with_suffix("").parts
+                place = ".".join([f"Rattle.{owner}.specs.declared", *(m for m in modules if m != "lib"), name])
+                return owner, place, name, re.findall(r"^ +pub (\w+):", struct.group(1), re.M)
+    sys.exit(f"{crate}: no struct {name}, whose parts a contract tells")
+
+
+def lemma_of(name):
+    return re.sub(r"(?<=[a-z0-9])(?=[A-Z])", "-", name).lower() + "-by-parts"
+
+
+def lemma(name, fields):
+    """That two values of a struct are one where each of their parts is."""
+    spelled = [f"«{f}»" if "_" in f else f for f in fields]
+    return STRUCT.format(
+        name=name,
+        lemma=lemma_of(name),
+        premises=" → ".join(f"x .{f} ≡ y .{f}" for f in spelled),
+        proofs=" ".join(f"p{k}" for k in range(len(fields))),
+        fields="; ".join(f"{f} = p{k} i" for k, f in enumerate(spelled)),
+    )
+
+
+def promised(crate, structs):
+    """The statements for the functions of a crate that answer or leave something. The structs told by their parts go to `structs`."""
     found = {}
     for way, header in public(ROOT / f"crates/{crate}/src/lib.rt"):
         name = "::".join((crate,) + way)
@@ -104,18 +144,26 @@ def promised(crate):
         if clauses not in TOLD:
             sys.exit(f"{name} has {clauses} clauses")
         path = ".".join((crate,) + way)
+        struct = by_parts(crate, header)
+        if struct:
+            structs[struct[1]] = struct
+        by = BY_PARTS.format(lemma=lemma_of(struct[2])) if struct else BY_VALUE
         left = EACH_LIST.format(path=path) if lent else NOTHING_LENT
-        found[path] = STATEMENT.format(name=re.sub(r"[._]", "-", path), path=path, told=TOLD[clauses], left=left)
+        found[path] = STATEMENT.format(name=re.sub(r"[._]", "-", path), path=path, told=TOLD[clauses], by=by, left=left)
     return [found[path] for path in sorted(found)]
 
 
 def made():
     """The statements' file and the line of crates.txt."""
-    by_crate = {c: promised(c) for c in crates()}
+    structs = {}
+    by_crate = {c: promised(c, structs) for c in crates()}
     used = [c for c in by_crate if by_crate[c]]
     statements = "\n".join(f"  -- ---- {c}\n" + "\n".join(by_crate[c]) for c in used)
-    text = HEAD.format(crates="\n".join(f"use Rattle.{c}.proofs as {c}" for c in used), statements=statements)
-    return text, f"{OWN}: " + " ".join(used)
+    uses = [f"use Rattle.{c}.proofs as {c}" for c in used] + [f"use {place}.{{{name}}}" for _, place, name, _ in structs.values()]
+    lemmas = "".join(lemma(name, fields) for _, _, name, fields in structs.values())
+    text = HEAD.format(crates="\n".join(uses), structs=lemmas, statements=statements)
+    named = {owner for owner, _, _, _ in structs.values()}.union(used)
+    return text, f"{OWN}: " + " ".join(c for c in by_crate if c in named)
 
 
 def stated(text):

@@ -12,20 +12,9 @@ use denote.Signature.{Slot, typesAt}
 use denote.Triple.Clauses.{Ended, Lasts}
 use denote.Triple.Entry.{Args}
 use denote.Triple.End.{Kepts, Fins}
-use Rattle.line.specs.declared.part.Written.{Written}
-use Rattle.toi_proxy.specs.declared.ToiProxy.{ToiProxy}
 
--- ---- two that are each said to be a value; and a struct whose contract is written part by part
 pub same-value : {A : Type 0} {x y z : A} → x ≡ z → y ≡ z → x ≡ y
 same-value p q = p ∙ sym q
-
-pub proxy-by-parts : {x y : ToiProxy} → x .points ≡ y .points → x .radius ≡ y .radius → x ≡ y
-proxy-by-parts p q = λ i. record { points = p i; radius = q i }
-
-pub written-by-parts : {x y : Written} → x .at ≡ y .at → x .totals ≡ y .totals → x ≡ y
-written-by-parts p q = λ i. record { at = p i; totals = q i }
-
-pub ruleset once = (same-value, proxy-by-parts, written-by-parts)
 
 -- ---- what is left in the lent lists, parameter by parameter
 module _ {n : ℕ} (κs : Lfts n) where
