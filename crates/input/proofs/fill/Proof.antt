@@ -1,11 +1,11 @@
--- `batch::fill::fill` meets its contract: the count stays within the buffer, and what is left of it falls with each read. Assumes nothing.
+-- `input::fill` meets its contract: the count stays within the buffer, and what is left of it falls with each read. Assumes nothing.
 use Prim.Native.Nat.{_≤_, _-_}
 use mathlib.Core.Path.{_≡_, sym}
 use borrow.Author.Needs.{needs}
 use lib.ListN.{length}
 use lib.Seq.{length-take-le}
-use Rattle.batch.proofs.fill.fill.Statement.{statement}
-use Rattle.batch.proofs.fill.fill.Tie as tie
+use Rattle.input.proofs.fill.Statement.{statement}
+use Rattle.input.proofs.fill.Tie as tie
 
 abbrev Inv-loop : tie.InvT-loop
 Inv-loop fd buf₀ count₀ buf count = (count ≤ length buf) × (length buf ≡ length buf₀)

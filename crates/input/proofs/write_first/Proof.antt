@@ -1,9 +1,9 @@
--- `batch::write_first` is safe: a start of the text of that length is lent. Assumes nothing.
+-- `input::write_first` is safe: a start of the text of that length is lent. Assumes nothing.
 use mathlib.Core.Path.{sym}
 use lib.Seq.{length-take-le}
 use borrow.Author.Needs.{needs}
-use Rattle.batch.proofs.write_first.Statement.{statement}
-use Rattle.batch.proofs.write_first.Tie as tie
+use Rattle.input.proofs.write_first.Statement.{statement}
+use Rattle.input.proofs.write_first.Tie as tie
 
 slice-aggregate-write-all : tie.Need-slice-aggregate-write-all
 slice-aggregate-write-all c = sym (length-take-le _ _ (search needs))
