@@ -10,6 +10,7 @@ mod counts;
 mod distance;
 mod domain;
 mod ground;
+mod known;
 mod pool;
 mod prelude;
 mod random;
