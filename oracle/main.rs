@@ -6,6 +6,7 @@
 //!   oracle lines SEED COUNT              blocks with their lines
 //!   oracle sheet                         the sheet of the batch on standard input
 //!   oracle squared-paper MILLIONS SEED   demand 3 tested by running (squared_paper.rs)
+//!   oracle turns SEED COUNT              what S misses when something turns, COUNT moves of each of ten kinds (turns.rs)
 mod counts;
 mod distance;
 mod domain;
@@ -17,6 +18,7 @@ mod random;
 mod sheet;
 mod squared_paper;
 mod sweep;
+mod turns;
 mod words;
 
 /// The module's text, as build.sh lays it out.
@@ -42,6 +44,7 @@ fn main() {
         "batch" => sheet::batch(number(2), number(3)),
         "lines" => sheet::rows(number(2), number(3)),
         "sheet" => sheet::sheet(),
+        "turns" => turns::run(number(2), number(3)),
         "squared-paper" => squared_paper::run(number(2), number(3)),
         other => {
             eprintln!("oracle: no such job: {other:?}");
