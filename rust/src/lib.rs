@@ -189,8 +189,8 @@ pub enum Sweep {
     Overlapped(Counts),
     /// They come within the target distance at the contact's fraction.
     Hit(Contact, Counts),
-    /// Where the search looked, which the end of the move is part of, they were apart by more than target and tolerance. Straight moves are clear
-    /// then; **a body that turns may swing in and out again in between**: cut a turn into steps.
+    /// Along one axis they are apart by more than target and tolerance, where the search stood last and at the planned end. A straight move is
+    /// clear then, up to the tolerance; **a body that turns may swing in and out again in between**: cut a turn into steps.
     Separated(Contact, Counts),
     /// No verdict: the search gave up. The fraction is the last safe one.
     Failed(Contact, Counts),
