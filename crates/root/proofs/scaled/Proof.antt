@@ -1,14 +1,14 @@
--- `sqrt::scaled` meets its contract, by the law of an even exponent split off. Assumes nothing.
+-- `scaled` meets its contract, by the law of an even exponent split off. Assumes nothing.
 use mathlib.Core.Path.{_≡_, ap, _∙_}
 use Prim.Native.Nat.{ℕ, _+_, _-_, _*_, _/_}
 use native.Mathlib.Omega.{arith}
 use lib.Ieee.{binary32, ofBits}
 use Rattle.model.proofs.Bits.{below-infinity}
 use Rattle.model.proofs.Root.Law.{law-range}
-use Rattle.ground.proofs.Exponent.{odd-exponent, even-exponent}
+use Rattle.root.proofs.Exponent.{odd-exponent, even-exponent}
 use borrow.Author.Needs.{needs}
-use Rattle.ground.proofs.sqrt.scaled.Statement.{statement}
-use Rattle.ground.proofs.sqrt.scaled.Tie as tie
+use Rattle.root.proofs.scaled.Statement.{statement}
+use Rattle.root.proofs.scaled.Tie as tie
 
 sub-h : tie.Need-sub-h
 sub-h c = search needs

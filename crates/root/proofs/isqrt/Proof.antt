@@ -1,12 +1,12 @@
--- `sqrt::isqrt` meets its contract: what the two tests tell of the guess g and of g - 1, by (k + 1)^2 = k^2 + 2k + 1. Assumes nothing.
+-- `isqrt` meets its contract: what the two tests tell of the guess g and of g - 1, by (k + 1)^2 = k^2 + 2k + 1. Assumes nothing.
 use mathlib.Core.Path.{_≡_, subst, subst⁻¹}
 use Prim.Native.Nat.{ℕ, _+_, _-_, _*_, _≤_, _<_}
 use native.Mathlib.Omega.{arith}
 use Rattle.model.proofs.Root.Floor.{sq-suc}
-use Rattle.ground.proofs.Digit.{sq-small}
+use Rattle.root.proofs.Digit.{sq-small}
 use borrow.Author.Needs.{needs}
-use Rattle.ground.proofs.sqrt.isqrt.Statement.{statement}
-use Rattle.ground.proofs.sqrt.isqrt.Tie as tie
+use Rattle.root.proofs.isqrt.Statement.{statement}
+use Rattle.root.proofs.isqrt.Tie as tie
 
 mul-square : tie.Need-mul-square
 mul-square c =

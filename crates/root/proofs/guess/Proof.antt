@@ -1,8 +1,8 @@
--- `sqrt::guess` keeps its range: 23 digits of a pattern behind a leading one. Assumes nothing.
+-- `guess` keeps its range: 23 digits of a pattern behind a leading one. Assumes nothing.
 use Rattle.model.proofs.Bits.{not-nan}
 use borrow.Author.Needs.{needs}
-use Rattle.ground.proofs.sqrt.guess.Statement.{statement}
-use Rattle.ground.proofs.sqrt.guess.Tie as tie
+use Rattle.root.proofs.guess.Statement.{statement}
+use Rattle.root.proofs.guess.Tie as tie
 
 returns : tie.Need-returns
 returns c = search needs

@@ -1,12 +1,12 @@
--- `sqrt::by_digits` meets its contract. The invariant: the root of n is r and what k binary digits more can add. The measure is k. Assumes nothing.
+-- `by_digits` meets its contract. The invariant: the root of n is r and what k binary digits more can add. The measure is k. Assumes nothing.
 use mathlib.Core.Path.{_≡_, sym, subst}
 use Prim.Native.Nat.{ℕ, _+_, _-_, _*_, _%_, _^_, _≤_, _<_}
 use native.Mathlib.Omega.{arith}
 use mir.Val.{Fits}
 use mir.Syntax.{w64}
-use Rattle.ground.proofs.Digit.{Between, bit-is, with-digit, without, digit-small, sq-small}
-use Rattle.ground.proofs.sqrt.by_digits.Statement.{statement}
-use Rattle.ground.proofs.sqrt.by_digits.Tie as tie
+use Rattle.root.proofs.Digit.{Between, bit-is, with-digit, without, digit-small, sq-small}
+use Rattle.root.proofs.by_digits.Statement.{statement}
+use Rattle.root.proofs.by_digits.Tie as tie
 
 abbrev Inv-loop : tie.InvT-loop
 Inv-loop n r₀ k₀ r k = Between n r k

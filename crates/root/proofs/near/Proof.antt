@@ -1,10 +1,10 @@
--- `sqrt::near` meets its contract: of the root s, cut to a whole number, and s + 1, it takes the nearer. Assumes nothing.
+-- `near` meets its contract: of the root s, cut to a whole number, and s + 1, it takes the nearer. Assumes nothing.
 use mathlib.Core.Path.{sym}
 use native.Mathlib.Omega.{arith}
 use Rattle.model.proofs.Root.Floor.{near-down, near-up}
 use borrow.Author.Needs.{needs}
-use Rattle.ground.proofs.sqrt.near.Statement.{statement}
-use Rattle.ground.proofs.sqrt.near.Tie as tie
+use Rattle.root.proofs.near.Statement.{statement}
+use Rattle.root.proofs.near.Tie as tie
 
 guess-requires : tie.Need-guess-requires
 guess-requires c κs = search needs
