@@ -22,7 +22,7 @@ use Rattle.model.specs.Distance.{measure}
 use Rattle.model.specs.Sweep.{transformAt}
 use Rattle.model.specs.Separation.{newSeparation, evaluate, findMinSeparation}
 use Rattle.model.specs.SweepToi.{called, searched, stepped, overlapped, hit, separated, failed, failedAt, PushEnd, ended, moved, onward, found}
-use Rattle.model.proofs.SweepToi.{Bounded}
+use Rattle.model.proofs.SweepToi.{Bounded, Ready, next-is-ready}
 use Rattle.model.specs.SweepToi.{noCorners, noCounts, closestBy, closestAt, tried, rootFrom, low, high, pushFrom, advanceBy, advanceFrom, advance}
 
 module _ (f : Format) (w : SweepTask) (a b : List Float) where
@@ -32,165 +32,193 @@ module _ (f : Format) (w : SweepTask) (a b : List Float) where
   after zero x t n = failedAt t x n
   after (suc k) x t n = advanceFrom f w a b k t (x .cache) n
 
-  -- where the push-backs are left at t1 with no answer
-  abbrev pub resuming : Closest → Float → Counts → SweepAnswer
-  resuming x t1 n = after (20 - n .«distance_calls») x t1 n
-
   -- at the head of a distance call
   unfoldable pub calling : Float → SimplexCache → Counts → SweepAnswer
   calling t1 c n = advanceFrom f w a b (19 - n .«distance_calls») t1 c n
+
+  -- where the push-backs after one are left at t1 with no answer
+  abbrev pub resuming : Closest → Float → Counts → SweepAnswer
+  resuming x t1 n = after (20 - n .«distance_calls») x t1 n
 
   -- at the head of a push-back, p of them made
   unfoldable pub pushing : SeparationFunction → Closest → Float → Float → ℕ → Counts → SweepAnswer
   pushing g x t1 t2 p n = onward (pushFrom f w a b g t1 x (8 - p) t2 n) (after (20 - n .«distance_calls») x)
 
-  -- at the head of a root step, k of them made, in the push-back whose deepest corners are those of m
-  unfoldable pub searching : SeparationFunction → Closest → Float → Float → ℕ → Counts → MinSeparation → Float → Float → Float → Float → ℕ → SweepAnswer
+  -- the root search of a push-back whose deepest corners are those of m, k steps made
+  abbrev pub rootAt : SeparationFunction → Float → MinSeparation → Float → Float → Float → Float → ℕ → RootSearch
+  rootAt g t2 m a1 a2 s1 s2 k = rootFrom f w a b g (m .«index_a») (m .«index_b») t2 (50 - k) a1 a2 s1 s2 k
+
+  -- at the head of a root step
+  unfoldable pub searching : SeparationFunction → Closest → Float → Float → ℕ → Counts → MinSeparation →
+      Float → Float → Float → Float → ℕ → SweepAnswer
   searching g x t1 t2 p n m a1 a2 s1 s2 k =
-      let r = rootFrom f w a b g (m .«index_a») (m .«index_b») t2 (50 - k) a1 a2 s1 s2 k in
+      let r = rootAt g t2 m a1 a2 s1 s2 k in
       pushing g x t1 (r .t) (p + 1) (stepped n (r .steps))
 
   pub at-the-start : calling (Ground.zero f) noCorners noCounts ≡ advance f w a b
   unfolding calling
   at-the-start = refl
 
-  -- ---- root steps: t is tried, and s is found there, d from the target
-  module _ (g : SeparationFunction) (x : Closest) (t1 t2 : Float) (p : ℕ) (n : Counts) (m : MinSeparation) (a1 a2 s1 s2 : Float) (k : ℕ) where
-    abbrev here : ℕ → Float → Float → Float → Float → ℕ → RootSearch
-    here l b1 b2 r1 r2 j = rootFrom f w a b g (m .«index_a») (m .«index_b») t2 l b1 b2 r1 r2 j
+-- ---- a root step: t is tried, and s is found there, d from the target
+pub record Tried (f : Format) (w : SweepTask) (a b : List Float) (g : SeparationFunction) (x : Closest) (t1 t2 : Float) (p : ℕ) (n : Counts)
+    (m : MinSeparation) (a1 a2 s1 s2 : Float) (k : ℕ) (t s d : Float) : Type 0 where
+  pub left : k < 50
+  pub time : t ≡ tried f w k a1 a2 s1 s2
+  pub value : s ≡ evaluate f a b g (m .«index_a») (m .«index_b») t
+  pub off : d ≡ abs (sub f s (w .target))
+  pub rest : searching f w a b g x t1 t2 p n m a1 a2 s1 s2 k ≡ advance f w a b
 
-    module _ {whole : SweepAnswer} (inv : searching g x t1 t2 p n m a1 a2 s1 s2 k ≡ whole) (less : k < 50) (t s d : Float)
-        (time : t ≡ tried f w k a1 a2 s1 s2) (value : s ≡ evaluate f a b g (m .«index_a») (m .«index_b») t) (off : d ≡ abs (sub f s (w .target))) where
-      step : here (50 - k) a1 a2 s1 s2 k
-          ≡ cond (le d (w .tolerance)) (found t (k + 1))
-          (here (50 - (k + 1)) (cond (lt (w .target) s) t a1) (cond (lt (w .target) s) a2 t) (cond (lt (w .target) s) s s1) (cond (lt (w .target) s) s2 s) (k + 1))
-      unfolding rootFrom
-      step =
-          let y : 50 - k ≡ suc (49 - k) = omega arith in
-          let z : 50 - (k + 1) ≡ 49 - k = omega arith in
-          rw (y, z, off, value, time)
+module _ {f : Format} {w : SweepTask} {a b : List Float} {g : SeparationFunction} {x : Closest} {t1 t2 : Float} {p : ℕ} {n : Counts}
+    {m : MinSeparation} {a1 a2 s1 s2 : Float} {k : ℕ} {t s d : Float} (made : Tried f w a b g x t1 t2 p n m a1 a2 s1 s2 k t s d) where
+  step : let up = lt (w .target) s in
+      rootAt f w a b g t2 m a1 a2 s1 s2 k
+      ≡ cond (le d (w .tolerance)) (found t (k + 1))
+      (rootAt f w a b g t2 m (cond up t a1) (cond up a2 t) (cond up s s1) (cond up s2 s) (k + 1))
+  unfolding rootFrom
+  step =
+      let h = made .left in
+      let y : 50 - k ≡ suc (49 - k) = omega arith in
+      let z : 50 - (k + 1) ≡ 49 - k = omega arith in
+      rw (y, z, made .off, made .value, made .time)
 
-      -- a search that ends as r does
-      left-with : (r : RootSearch) → here (50 - k) a1 a2 s1 s2 k ≡ r → pushing g x t1 (r .t) (p + 1) (stepped n (r .steps)) ≡ whole
-      unfolding searching
-      left-with r e = rw e at inv
+  -- the push-backs go on as the search r ends
+  as-found : (r : RootSearch) → rootAt f w a b g t2 m a1 a2 s1 s2 k ≡ r →
+      pushing f w a b g x t1 (r .t) (p + 1) (stepped n (r .steps)) ≡ advance f w a b
+  unfolding searching
+  as-found r e = rw e at (made .rest)
 
-      pub root-lands : le d (w .tolerance) ≡ true → pushing g x t1 t (p + 1) (stepped n (k + 1)) ≡ whole
-      root-lands h = left-with (found t (k + 1)) (step ∙ rw h)
+  pub root-lands : le d (w .tolerance) ≡ true → pushing f w a b g x t1 t (p + 1) (stepped n (k + 1)) ≡ advance f w a b
+  root-lands h = as-found (found t (k + 1)) (step ∙ rw h)
 
-      module _ (h : le d (w .tolerance) ≡ false) where
-        pub root-above : lt (w .target) s ≡ true → searching g x t1 t2 p n m t a2 s s2 (k + 1) ≡ whole
-        unfolding searching
-        root-above u = left-with (here (50 - (k + 1)) t a2 s s2 (k + 1)) (step ∙ rw (h, u))
+  module _ (h : le d (w .tolerance) ≡ false) where
+    pub root-above : lt (w .target) s ≡ true → searching f w a b g x t1 t2 p n m t a2 s s2 (k + 1) ≡ advance f w a b
+    unfolding searching
+    root-above u = as-found (rootAt f w a b g t2 m t a2 s s2 (k + 1)) (step ∙ rw (h, u))
 
-        pub root-below : lt (w .target) s ≡ false → searching g x t1 t2 p n m a1 t s1 s (k + 1) ≡ whole
-        unfolding searching
-        root-below u = left-with (here (50 - (k + 1)) a1 t s1 s (k + 1)) (step ∙ rw (h, u))
+    pub root-below : lt (w .target) s ≡ false → searching f w a b g x t1 t2 p n m a1 t s1 s (k + 1) ≡ advance f w a b
+    unfolding searching
+    root-below u = as-found (rootAt f w a b g t2 m a1 t s1 s (k + 1)) (step ∙ rw (h, u))
 
-        pub root-runs-out : k + 1 ≡ 50 → pushing g x t1 t2 (p + 1) (stepped n (k + 1)) ≡ whole
-        unfolding rootFrom
-        root-runs-out l = let y : 50 - (k + 1) ≡ 0 = omega arith in left-with (found t2 (k + 1)) (step ∙ rw (h, y))
+    pub root-runs-out : k + 1 ≡ 50 → pushing f w a b g x t1 t2 (p + 1) (stepped n (k + 1)) ≡ advance f w a b
+    unfolding rootFrom
+    root-runs-out l = let y : 50 - (k + 1) ≡ 0 = omega arith in as-found (found t2 (k + 1)) (step ∙ rw (h, y))
 
-  -- the whole search
-  abbrev rootOf : SeparationFunction → Float → Float → MinSeparation → Float → RootSearch
-  rootOf g t1 t2 m s1 = rootFrom f w a b g (m .«index_a») (m .«index_b») t2 50 t1 t2 s1 (m .separation) 0
+-- ---- a push-back: m is the least separation at t2, o the counts with this search
+pub record Searched (f : Format) (w : SweepTask) (a b : List Float) (g : SeparationFunction) (x : Closest) (t1 t2 : Float) (p : ℕ) (n : Counts)
+    (m : MinSeparation) (o : Counts) : Type 0 where
+  pub left : p < 8
+  pub least : m ≡ findMinSeparation f a b g t2
+  pub counted : o ≡ searched n
+  pub rest : pushing f w a b g x t1 t2 p n ≡ advance f w a b
 
-  -- ---- push-backs: m is the least separation at t2, s1 that of the same corners at t1, o the counts with this search
-  module _ (g : SeparationFunction) (x : Closest) (t1 t2 : Float) (p : ℕ) (n : Counts) {whole : SweepAnswer} (inv : pushing g x t1 t2 p n ≡ whole) where
-    pub push-ends : p ≡ 8 → resuming x t1 n ≡ whole
-    unfolding pushing pushFrom
-    push-ends h = let y : 8 - p ≡ 0 = omega arith in rw y at inv
+module _ {f : Format} {w : SweepTask} {a b : List Float} {g : SeparationFunction} {x : Closest} {t1 t2 : Float} {p : ℕ} {n : Counts}
+    {m : MinSeparation} {o : Counts} (made : Searched f w a b g x t1 t2 p n m o) where
+  -- s1 is the separation of the same corners at t1
+  push : (s1 : Float) → s1 ≡ evaluate f a b g (m .«index_a») (m .«index_b») t1 →
+      let r = rootAt f w a b g t2 m t1 t2 s1 (m .separation) 0 in
+      pushFrom f w a b g t1 x (8 - p) t2 n
+      ≡ cond (lt (w .tolerance) (sub f (m .separation) (w .target))) (ended (separated f (w .«t_max») o))
+      (cond (le (low f w) (m .separation)) (moved t2 o)
+      (cond (lt s1 (low f w)) (ended (failed f t1 o))
+      (cond (le s1 (high f w)) (ended (hit t1 x o))
+      (pushFrom f w a b g t1 x (8 - (p + 1)) (r .t) (stepped o (r .steps))))))
+  unfolding pushFrom
+  push s1 q =
+      let h = made .left in
+      let y : 8 - p ≡ suc (7 - p) = omega arith in
+      let z : 8 - (p + 1) ≡ 7 - p = omega arith in
+      rw (y, z, q, made .least, made .counted)
 
-    module _ (less : p < 8) (m : MinSeparation) (e : m ≡ findMinSeparation f a b g t2) (o : Counts) (u : o ≡ searched n) where
-      module _ (s1 : Float) (q : s1 ≡ evaluate f a b g (m .«index_a») (m .«index_b») t1) where
-        push : pushFrom f w a b g t1 x (8 - p) t2 n
-            ≡ cond (lt (w .tolerance) (sub f (m .separation) (w .target))) (ended (separated f (w .«t_max») o))
-            (cond (le (low f w) (m .separation)) (moved t2 o)
-            (cond (lt s1 (low f w)) (ended (failed f t1 o))
-            (cond (le s1 (high f w)) (ended (hit t1 x o))
-            (pushFrom f w a b g t1 x (8 - (p + 1)) (rootOf g t1 t2 m s1 .t) (stepped o (rootOf g t1 t2 m s1 .steps))))))
-        unfolding pushFrom
-        push =
-            let y : 8 - p ≡ suc (7 - p) = omega arith in
-            let z : 8 - (p + 1) ≡ 7 - p = omega arith in
-            rw (y, z, q, e, u)
+  -- the sweep goes on as the push-backs end
+  as-pushed : (r : PushEnd) → pushFrom f w a b g t1 x (8 - p) t2 n ≡ r → onward r (after f w a b (20 - o .«distance_calls») x) ≡ advance f w a b
+  unfolding pushing
+  as-pushed r y = rw (made .counted) (rw y at (made .rest))
 
-      as-push : (r : PushEnd) → pushFrom f w a b g t1 x (8 - p) t2 n ≡ r → onward r (after (20 - o .«distance_calls») x) ≡ whole
-      unfolding pushing
-      as-push r y = rw u (rw y at inv)
+  pub push-separates : lt (w .tolerance) (sub f (m .separation) (w .target)) ≡ true → separated f (w .«t_max») o ≡ advance f w a b
+  push-separates h = as-pushed (ended (separated f (w .«t_max») o)) (push _ refl ∙ rw h)
 
-      pub push-separates : lt (w .tolerance) (sub f (m .separation) (w .target)) ≡ true → separated f (w .«t_max») o ≡ whole
-      push-separates h = as-push (ended (separated f (w .«t_max») o)) (push _ refl ∙ rw h)
+  module _ (h : lt (w .tolerance) (sub f (m .separation) (w .target)) ≡ false) where
+    pub push-moves : le (low f w) (m .separation) ≡ true → resuming f w a b x t2 o ≡ advance f w a b
+    push-moves k = as-pushed (moved t2 o) (push _ refl ∙ rw (h, k))
 
-      module _ (h : lt (w .tolerance) (sub f (m .separation) (w .target)) ≡ false) where
-        pub push-moves : le (low f w) (m .separation) ≡ true → resuming x t2 o ≡ whole
-        push-moves k = as-push (moved t2 o) (push _ refl ∙ rw (h, k))
+    module _ (k : le (low f w) (m .separation) ≡ false) (s1 : Float) (q : s1 ≡ evaluate f a b g (m .«index_a») (m .«index_b») t1) where
+      pub push-fails : lt s1 (low f w) ≡ true → failed f t1 o ≡ advance f w a b
+      push-fails l = as-pushed (ended (failed f t1 o)) (push s1 q ∙ rw (h, k, l))
 
-        module _ (k : le (low f w) (m .separation) ≡ false) (s1 : Float) (q : s1 ≡ evaluate f a b g (m .«index_a») (m .«index_b») t1) where
-          pub push-fails : lt s1 (low f w) ≡ true → failed f t1 o ≡ whole
-          push-fails l = as-push (ended (failed f t1 o)) (push s1 q ∙ rw (h, k, l))
+      module _ (l : lt s1 (low f w) ≡ false) where
+        pub push-hits : le s1 (high f w) ≡ true → hit t1 x o ≡ advance f w a b
+        push-hits v = as-pushed (ended (hit t1 x o)) (push s1 q ∙ rw (h, k, l, v))
 
-          pub push-hits : lt s1 (low f w) ≡ false → le s1 (high f w) ≡ true → hit t1 x o ≡ whole
-          push-hits l v = as-push (ended (hit t1 x o)) (push s1 q ∙ rw (h, k, l, v))
+        pub push-searches : le s1 (high f w) ≡ false → searching f w a b g x t1 t2 p o m t1 t2 s1 (m .separation) 0 ≡ advance f w a b
+        unfolding searching pushing
+        push-searches v =
+            let r = rootAt f w a b g t2 m t1 t2 s1 (m .separation) 0 in
+            as-pushed (pushFrom f w a b g t1 x (8 - (p + 1)) (r .t) (stepped o (r .steps))) (push s1 q ∙ rw (h, k, l, v))
 
-          pub push-searches : lt s1 (low f w) ≡ false → le s1 (high f w) ≡ false → searching g x t1 t2 p o m t1 t2 s1 (m .separation) 0 ≡ whole
-          unfolding searching pushing
-          push-searches l v =
-              let r = rootOf g t1 t2 m s1 in
-              as-push (pushFrom f w a b g t1 x (8 - (p + 1)) (r .t) (stepped o (r .steps))) (push s1 q ∙ rw (h, k, l, v))
+-- ---- a distance call at t1: x is what it found, o the counts with it
+pub record Called (f : Format) (w : SweepTask) (a b : List Float) (t1 : Float) (k : SimplexCache) (n : Counts) (x : Closest) (o : Counts) : Type 0 where
+  pub there : x ≡ closestAt f w a b t1 k
+  pub counted : o ≡ called n
+  pub rest : calling f w a b t1 k n ≡ advance f w a b
 
-  -- ---- distance calls
-  pub closest : (t : Float) (k : SimplexCache) (pa pb p : Pose) (m : Measurement) →
-      pa ≡ transformAt f (w .«sweep_a») t → pb ≡ transformAt f (w .«sweep_b») t → p ≡ inverseTimes f pa pb →
-      m ≡ measure f p a (w .«radius_a») b (w .«radius_b») false k → closestBy f w pa m ≡ closestAt f w a b t k
-  unfolding closestAt
-  closest t k pa pb p m e g h r = rw (r, h, g, e)
+module _ {f : Format} {w : SweepTask} {a b : List Float} {t1 : Float} {k : SimplexCache} {n : Counts} {x : Closest} {o : Counts}
+    (made : Called f w a b t1 k n x o) where
+  call-by : (l : ℕ) → advanceFrom f w a b l t1 k n ≡ advanceBy f w a b t1 x o (after f w a b l x)
+  unfolding advanceFrom after
+  call-by zero = rw (made .counted, made .there)
+  call-by (suc l) = rw (made .counted, made .there)
 
-  -- x is what the call at t1 found, o the counts with this call
-  module _ (t1 : Float) (k : SimplexCache) (n : Counts) {whole : SweepAnswer} (inv : calling t1 k n ≡ whole)
-      (x : Closest) (e : x ≡ closestAt f w a b t1 k) (o : Counts) (u : o ≡ called n) where
-    call-by : (l : ℕ) → advanceFrom f w a b l t1 k n ≡ advanceBy f w a b t1 x o (after l x)
-    unfolding advanceFrom after
-    call-by zero = rw (u, e)
-    call-by (suc l) = rw (u, e)
+  call : advanceBy f w a b t1 x o (after f w a b (20 - o .«distance_calls») x) ≡ advance f w a b
+  unfolding calling
+  call =
+      let same : 20 - o .«distance_calls» ≡ 19 - n .«distance_calls» = rw (made .counted) (omega arith) in
+      rw same (sym (call-by (19 - n .«distance_calls»)) ∙ made .rest)
 
-    call : advanceBy f w a b t1 x o (after (20 - o .«distance_calls») x) ≡ whole
-    unfolding calling
-    call =
-        let same : 20 - o .«distance_calls» ≡ 19 - n .«distance_calls» = rw u (omega arith) in
-        rw same (sym (call-by (19 - n .«distance_calls»)) ∙ inv)
+  pub call-overlaps : le (x .distance) (Ground.zero f) ≡ true → overlapped o ≡ advance f w a b
+  call-overlaps h = rw h at call
 
-    pub call-overlaps : le (x .distance) (Ground.zero f) ≡ true → overlapped o ≡ whole
-    call-overlaps h = rw h at call
+  module _ (h : le (x .distance) (Ground.zero f) ≡ false) where
+    pub call-hits : le (x .distance) (high f w) ≡ true → hit t1 x o ≡ advance f w a b
+    call-hits v = rw (h, v) at call
 
-    module _ (h : le (x .distance) (Ground.zero f) ≡ false) where
-      pub call-hits : le (x .distance) (high f w) ≡ true → hit t1 x o ≡ whole
-      call-hits v = rw (h, v) at call
+    pub call-goes-on : le (x .distance) (high f w) ≡ false → (g : SeparationFunction) →
+        g ≡ newSeparation f (w .«sweep_a») (w .«sweep_b») a b (x .cache) t1 → pushing f w a b g x t1 (w .«t_max») 0 o ≡ advance f w a b
+    unfolding pushing
+    call-goes-on v g y = rw y (rw (h, v) at call)
 
-      pub call-goes-on : le (x .distance) (high f w) ≡ false → (g : SeparationFunction) →
-          g ≡ newSeparation f (w .«sweep_a») (w .«sweep_b») a b (x .cache) t1 → pushing g x t1 (w .«t_max») 0 o ≡ whole
-      unfolding pushing
-      call-goes-on v g y = rw y (rw (h, v) at call)
-
-  module _ (x : Closest) (t : Float) (n : Counts) {whole : SweepAnswer} (inv : resuming x t n ≡ whole) where
-    pub last-call : n .«distance_calls» ≡ 20 → failedAt t x n ≡ whole
-    unfolding after
-    last-call h = let y : 20 - n .«distance_calls» ≡ 0 = omega arith in rw y at inv
-
-    pub next-call : n .«distance_calls» ≤ 19 → calling t (x .cache) n ≡ whole
-    unfolding after calling
-    next-call h = let y : 20 - n .«distance_calls» ≡ suc (19 - n .«distance_calls») = omega arith in rw y at inv
-
--- the push-backs of one call left at the time t with no answer; n were the counts before the call, and o are they now
+-- ---- between two calls: the push-backs of one are left at the time t with no answer; n were the counts before it, and o are they now
 pub record Resumed (f : Format) (w : SweepTask) (a b : List Float) (x : Closest) (t : Float) (n o : Counts) : Type 0 where
   pub one-call : o .«distance_calls» ≡ n .«distance_calls» + 1
   pub bounded : Bounded o
-  pub left : resuming f w a b x t o ≡ advance f w a b
+  pub rest : resuming f w a b x t o ≡ advance f w a b
 
--- n before the call, o after it, u and v before and after a search
-pub same-calls : (n u : Counts) {o v : Counts} → v ≡ searched u → u .«distance_calls» ≡ o .«distance_calls» → o ≡ called n →
+-- u and v are the counts before and after a search
+pub one-call-made : (n u : Counts) {o v : Counts} → v ≡ searched u → u .«distance_calls» ≡ o .«distance_calls» → o ≡ called n →
     v .«distance_calls» ≡ n .«distance_calls» + 1
-same-calls n u p q r = rw p (q ∙ rw r)
+one-call-made n u p q r = rw p (q ∙ rw r)
 
-pub less-calls : {k : ℕ} → k ≤ 20 → (k ≡ 20 → ⊥) → k + (19 - k) ≤ 19
-less-calls h n = omega (arith, h, n)
+pub all-pushed : (f : Format) (w : SweepTask) (a b : List Float) (g : SeparationFunction) (x : Closest) (t1 t2 : Float) (p : ℕ) (n : Counts) →
+    p ≡ 8 → pushing f w a b g x t1 t2 p n ≡ advance f w a b → resuming f w a b x t1 n ≡ advance f w a b
+unfolding pushing pushFrom
+all-pushed f w a b g x t1 t2 p n h rest = let y : 8 - p ≡ 0 = omega arith in rw y at rest
+
+module _ {f : Format} {w : SweepTask} {a b : List Float} {x : Closest} {t : Float} {n o : Counts} (made : Resumed f w a b x t n o) where
+  pub last-call : o .«distance_calls» ≡ 20 → failedAt t x o ≡ advance f w a b
+  unfolding after
+  last-call h = let y : 20 - o .«distance_calls» ≡ 0 = omega arith in rw y at (made .rest)
+
+  module _ (not-last : o .«distance_calls» ≡ 20 → ⊥) where
+    pub next-ready : Ready (19 - o .«distance_calls») o
+    next-ready = next-is-ready (19 - o .«distance_calls») (made .bounded) (omega (arith, made .bounded .few-calls, not-last))
+
+    pub next-call : calling f w a b t (x .cache) o ≡ advance f w a b
+    unfolding after calling
+    next-call =
+        let y : 20 - o .«distance_calls» ≡ suc (19 - o .«distance_calls») = omega (arith, made .bounded .few-calls, not-last) in
+        rw y at (made .rest)
+
+pub closest : (f : Format) (w : SweepTask) (a b : List Float) (t : Float) (k : SimplexCache) (pa pb p : Pose) (m : Measurement) →
+    pa ≡ transformAt f (w .«sweep_a») t → pb ≡ transformAt f (w .«sweep_b») t → p ≡ inverseTimes f pa pb →
+    m ≡ measure f p a (w .«radius_a») b (w .«radius_b») false k → closestBy f w pa m ≡ closestAt f w a b t k
+unfolding closestAt
+closest f w a b t k pa pb p m e g h r = rw (r, h, g, e)

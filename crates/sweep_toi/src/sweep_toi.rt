@@ -39,7 +39,9 @@ ghost use lib.Ieee.{binary32};
 ghost use Rattle.model.specs.SweepToi as SweepToi;
 
 const MAX_DISTANCE_ITERATIONS: u32 = 20;
+
 const MAX_PUSH_BACK_ITERATIONS: u32 = 8;
+
 const MAX_ROOT_ITERATIONS: u32 = 50;
 
 // What a distance call tells, put into the world by the pose of A: the normal, and the point midway between the two rounded outlines.
@@ -318,7 +320,8 @@ pub fn sweep_time_of_impact(
     max_fraction: f32,
     linear_slop: f32,
 ) -> SweepAnswer
-    ensures { λ r. ⌜ r ≡ SweepToi.sweepTimeOfImpact binary32 (now («points_a» .entry)) «radius_a» «sweep_a» (now («points_b» .entry)) «radius_b» «sweep_b» «max_fraction» «linear_slop» ⌝ }
+    ensures { λ r. ⌜ r ≡ SweepToi.sweepTimeOfImpact binary32 (now («points_a» .entry)) «radius_a» «sweep_a»
+        (now («points_b» .entry)) «radius_b» «sweep_b» «max_fraction» «linear_slop» ⌝ }
 {
     let pair = check_pair(points_a, points_b, radius_a, radius_b);
     let CheckedPair::Points(_, _) = pair else {

@@ -6,10 +6,10 @@ use mathlib.Core.Path.{_≡_, refl, _∙_}
 use mathlib.Core.Logic.{⊎-elim}
 use lib.Ieee.{binary32}
 use Rattle.model.specs.SweepToi.{stepped, advance}
-use Rattle.model.proofs.SweepToi.{Ready, Room, nothing-counted, room-after-call, room-is-bounded, searched-is-bounded, room-after-steps, next-is-ready}
-use Rattle.sweep_toi.proofs.Laws.{resuming, calling, pushing, searching, at-the-start, root-lands, root-above, root-below, root-runs-out}
-use Rattle.sweep_toi.proofs.Laws.{push-ends, push-separates, push-moves, push-fails, push-hits, push-searches}
-use Rattle.sweep_toi.proofs.Laws.{call-overlaps, call-hits, call-goes-on, last-call, next-call, Resumed, same-calls, less-calls}
+use Rattle.model.proofs.SweepToi.{Ready, Room, nothing-counted, room-after-call, room-is-bounded, searched-is-bounded, room-after-steps}
+use Rattle.sweep_toi.proofs.Laws.{calling, pushing, searching, at-the-start, Tried, root-lands, root-above, root-below, root-runs-out}
+use Rattle.sweep_toi.proofs.Laws.{Searched, push-separates, push-moves, push-fails, push-hits, push-searches}
+use Rattle.sweep_toi.proofs.Laws.{Called, call-overlaps, call-hits, call-goes-on, Resumed, one-call-made, all-pushed, last-call, next-ready, next-call}
 use borrow.Author.Needs.{needs}
 use Rattle.sweep_toi.proofs.sweep_toi.advance.Statement.{statement}
 use Rattle.sweep_toi.proofs.sweep_toi.advance.Tie as tie
@@ -40,60 +40,111 @@ Inv-advance task points-a points-b _ _ _ _ _ t1 cache counts =
 abbrev μ-advance : tie.MeasureT-advance
 μ-advance _ _ _ _ _ _ _ _ _ _ counts = 20 - counts .«distance_calls»
 
--- where the root search is left: the push-backs go on from what it yields
-landed : (c : tie.Joined7 Inv-loop μ-loop Inv-push-back μ-push-back Inv-advance μ-advance) →
-    let l = c .before .before .before .before in
-    let m = l .before .before .before .before .before .before .before in
-    let q = m .before in
+-- a distance call, up to its count
+call : (c : tie.After-called Inv-loop μ-loop Inv-push-back μ-push-back Inv-advance μ-advance) →
+    let l = c .before .before .before in
+    let e = l .before .before .before in
+    let a = e .args in
+    Called binary32 (a .task) (a .points-a .now) (a .points-b .now)
+    (l .advance .t1) (l .advance .cache) (l .advance .counts) (c .before .before .closest-at .result) (c .called .result)
+call c = record { there = c .before .before .closest-at .ensures; counted = c .called .ensures; rest = c .before .before .before .advance .inv .1 }
+
+-- a push-back, up to its count
+least : (c : tie.After-searched Inv-loop μ-loop Inv-push-back μ-push-back Inv-advance μ-advance) →
+    let q = c .before .before in
     let h = q .before .before .before .before .before .before .before .before in
     let e = h .before .before .before .before in
     let a = e .args in
+    let p = q .push-back in
+    Searched binary32 (a .task) (a .points-a .now) (a .points-b .now) (q .before .new-separation .result) (h .closest-at .result)
+    (p .t1) (p .t2) (p .push-back-iterations) (p .counts) (c .before .find-min-separation .result) (c .searched .result)
+least c =
+    let q = c .before .before in
+    let p = q .push-back in
+    record { left = p .inv .0; least = c .before .find-min-separation .ensures; counted = c .searched .ensures; rest = p .inv .3 }
+
+-- a root step, up to its test
+tried : (c : tie.After-abs Inv-loop μ-loop Inv-push-back μ-push-back Inv-advance μ-advance) →
+    let i = c .before .before .before in
+    let s = i .before .before .before .before .before .before in
+    let q = s .before .before in
+    let h = q .before .before .before .before .before .before .before .before in
+    let e = h .before .before .before .before in
+    let a = e .args in
+    let p = q .push-back in
+    let l = i .loop in
+    Tried binary32 (a .task) (a .points-a .now) (a .points-b .now) (q .before .new-separation .result) (h .closest-at .result)
+    (p .t1) (p .t2) (p .push-back-iterations) (s .searched .result) (s .before .find-min-separation .result)
+    (l .a1) (l .a2) (l .s1) (l .s2) (l .root-iteration-count) (c .before .before .tried .result) (c .before .evaluate2 .result) (c .abs .result)
+tried c =
+    let i = c .before .before .before in
+    let l = i .loop .inv in
+    record { left = l .0; time = c .before .before .tried .ensures; value = c .before .evaluate2 .ensures; off = c .abs .ensures; rest = l .1 }
+
+-- where the root search is left: the push-backs go on from what it yields
+landed : (c : tie.Joined7 Inv-loop μ-loop Inv-push-back μ-push-back Inv-advance μ-advance) →
+    let i = c .before .before .before .before in
+    let s = i .before .before .before .before .before .before in
+    let q = s .before .before in
+    let h = q .before .before .before .before .before .before .before .before in
+    let e = h .before .before .before .before in
+    let a = e .args in
+    let p = q .push-back in
+    let o = stepped (s .searched .result) (i .loop .root-iteration-count + 1) in
     pushing binary32 (a .task) (a .points-a .now) (a .points-b .now) (q .before .new-separation .result) (h .closest-at .result)
-    (q .push-back .t1) (c .if7 .t2) (q .push-back .push-back-iterations + 1) (stepped (l .before .before .before .before .before .before .searched .result) (l .loop .root-iteration-count + 1))
+    (p .t1) (c .if7 .t2) (p .push-back-iterations + 1) o
     ≡ advance binary32 (a .task) (a .points-a .now) (a .points-b .now)
 landed c =
-    let l = c .before .before .before .before in
-    let i = l .loop .inv in
-    let t = c .before .before .before .tried .ensures in
-    let s = c .before .before .evaluate2 .ensures in
-    let d = c .before .abs .ensures in
     ⊎-elim
-    (λ w. rw (w .5) (root-lands binary32 _ _ _ _ _ _ _ _ _ _ _ _ _ _ _ (i .1) (i .0) _ _ _ t s d (w .0 .taken)))
-    (λ w. rw (w .7) (root-runs-out binary32 _ _ _ _ _ _ _ _ _ _ _ _ _ _ _ (i .1) (i .0) _ _ _ t s d (w .0 .left) (w .2 .taken)))
+    (λ w. rw (w .5) (root-lands (tried (c .before)) (w .0 .taken)))
+    (λ w. rw (w .7) (root-runs-out (tried (c .before)) (w .0 .left) (w .2 .taken)))
     (c .if7 .came)
+
+-- and the counts have room for them
+roomy : (c : tie.Joined7 Inv-loop μ-loop Inv-push-back μ-push-back Inv-advance μ-advance) →
+    let i = c .before .before .before .before in
+    let s = i .before .before .before .before .before .before in
+    let q = s .before .before in
+    Room (8 - (q .push-back .push-back-iterations + 1)) (stepped (s .searched .result) (i .loop .root-iteration-count + 1))
+roomy c =
+    let i = c .before .before .before .before in
+    let s = i .before .before .before .before .before .before in
+    let q = s .before .before in
+    let p = q .push-back in
+    rw (s .searched .ensures) (room-after-steps _ _ (p .inv .1) (omega (arith, p .inv .0)) (omega (arith, i .loop .inv .0)))
 
 -- where the push-backs are left with no answer
 resumed : (c : tie.Joined4 Inv-loop μ-loop Inv-push-back μ-push-back Inv-advance μ-advance) →
-    let q = c .before .before .before .before in
-    let h = q .before .before .before .before .before .before .before .before in
+    let h = c .before .before .before .before .before .before .before .before .before .before .before .before in
     let l = h .before in
     let e = l .before .before .before in
     let a = e .args in
     Resumed binary32 (a .task) (a .points-a .now) (a .points-b .now) (h .closest-at .result) (c .if4 .t1) (l .advance .counts) (c .if4 .counts)
 resumed c =
-    let m = c .before .before .before in
-    let q = m .before in
-    let l = q .before .before .before .before .before .before .before .before .before in
+    let s = c .before .before in
+    let q = s .before .before in
+    let k = q .before .before .before .before .before .before in
     let p = q .push-back in
-    let s = c .before .before .searched .ensures in
-    let calls = same-calls (l .advance .counts) (p .counts) s (p .inv .2) (q .before .before .before .before .before .before .called .ensures) in
+    let calls = one-call-made (k .before .before .before .advance .counts) (p .counts) (s .searched .ensures) (p .inv .2) (k .called .ensures) in
     ⊎-elim
     (λ w. record {
       one-call = rw (w .2) calls;
-      bounded = rw (w .2, s) (searched-is-bounded (p .inv .1) (omega (arith, p .inv .0)));
-      left = rw (w .1, w .2) (push-moves binary32 _ _ _ _ _ _ _ _ _ (p .inv .3) (p .inv .0) _ (m .find-min-separation .ensures) _ s (c .before .if3 .left) (w .0 .taken));
+      bounded = rw (w .2, s .searched .ensures) (searched-is-bounded (p .inv .1) (omega (arith, p .inv .0)));
+      rest = rw (w .1, w .2) (push-moves (least s) (c .before .if3 .left) (w .0 .taken));
     })
     (λ w.
+    let b4 : tie.Else4 Inv-loop μ-loop Inv-push-back μ-push-back Inv-advance μ-advance = record { before = c .before; if4 = w .0 } in
     let b6 : tie.Else6 Inv-loop μ-loop Inv-push-back μ-push-back Inv-advance μ-advance =
-    record { before = record { before = record { before = record { before = c .before; if4 = w .0 }; evaluate = w .1 }; if5 = w .2 }; if6 = w .3 } in
+    record { before = record { before = record { before = b4; evaluate = w .1 }; if5 = w .2 }; if6 = w .3 } in
+    let b8 : tie.After-tried Inv-loop μ-loop Inv-push-back μ-push-back Inv-advance μ-advance =
+    record { before = record { before = b6; loop = w .4 }; tried = w .5 } in
     let b7 : tie.Joined7 Inv-loop μ-loop Inv-push-back μ-push-back Inv-advance μ-advance =
-    record { before = record { before = record { before = record { before = record { before = b6; loop = w .4 }; tried = w .5 }; evaluate2 = w .6 }; abs = w .7 }; if7 = w .8 } in
+    record { before = record { before = record { before = b8; evaluate2 = w .6 }; abs = w .7 }; if7 = w .8 } in
     let o = w .9 .ensures in
-    let k = w .4 .root-iteration-count + 1 in
-    let roomy = room-after-steps (8 - (p .push-back-iterations + 1)) k (p .inv .1) (omega (arith, p .inv .0)) (omega (arith, w .4 .inv .0)) in record {
+    record {
       one-call = rw (w .12, o) calls;
-      bounded = rw (w .12, o, s) (room-is-bounded roomy);
-      left = rw (w .11, w .12, o) (push-ends binary32 _ _ _ _ _ _ _ _ _ (landed b7) (w .10 .taken));
+      bounded = rw (w .12, o) (room-is-bounded (roomy b7));
+      rest = rw (w .11, w .12, o) (all-pushed binary32 _ _ _ _ _ _ _ _ _ (w .10 .taken) (landed b7));
     })
     (c .if4 .came)
 
@@ -117,13 +168,11 @@ new-separation-requires c κs = search needs
 
 push-back-holds : tie.Need-push-back-holds Inv-loop μ-loop Inv-push-back μ-push-back Inv-advance μ-advance
 push-back-holds c =
-    let l = c .before .before .before .before .before .before .before .before in
-    (
+    let k = c .before .before .before .before .before in (
       omega arith,
-      rw (c .before .before .before .before .before .called .ensures) (room-after-call (l .advance .inv .0)),
+      rw (k .called .ensures) (room-after-call (k .before .before .before .advance .inv .0)),
       refl,
-      call-goes-on binary32 _ _ _ _ _ _ (l .advance .inv .1) _ (c .before .before .before .before .before .before .before .closest-at .ensures) _ (c .before .before .before .before .before .called .ensures)
-          (c .before .before .before .if1 .left) (c .before .if2 .left) _ (c .new-separation .ensures),
+      call-goes-on (call k) (c .before .before .before .if1 .left) (c .before .if2 .left) _ (c .new-separation .ensures),
     )
 
 find-min-separation-requires : tie.Need-find-min-separation-requires Inv-loop μ-loop Inv-push-back μ-push-back Inv-advance μ-advance
@@ -131,8 +180,8 @@ find-min-separation-requires c κs = search needs
 
 searched-requires : tie.Need-searched-requires Inv-loop μ-loop Inv-push-back μ-push-back Inv-advance μ-advance
 searched-requires c κs =
-    let p = c .before in
-    omega (arith, p .push-back .inv .0, p .push-back .inv .1 .few-calls, p .push-back .inv .1 .few-searches)
+    let q = c .before in
+    omega (arith, q .push-back .inv .0, q .push-back .inv .1 .few-calls, q .push-back .inv .1 .few-searches)
 
 separated-requires : tie.Need-separated-requires Inv-loop μ-loop Inv-push-back μ-push-back Inv-advance μ-advance
 separated-requires c κs = search needs
@@ -148,11 +197,10 @@ hit-requires-2 c κs = search needs
 
 loop-holds : tie.Need-loop-holds Inv-loop μ-loop Inv-push-back μ-push-back Inv-advance μ-advance
 loop-holds c =
-    let m = c .before .before .before .before .before .before in
-    let q = m .before in
-    let p = q .push-back in
-    (omega arith, push-searches binary32 _ _ _ _ _ _ _ _ _ (p .inv .3) (p .inv .0) _ (m .find-min-separation .ensures) _ (c .before .before .before .before .before .searched .ensures) 
-    (c .before .before .before .before .if3 .left) (c .before .before .before .if4 .left) _ (c .before .before .evaluate .ensures) (c .before .if5 .left) (c .if6 .left))
+    let v = c .before .before in
+    let s = v .before .before .before in
+    let far = push-searches (least s) (v .before .before .if3 .left) (v .before .if4 .left) _ (v .evaluate .ensures) in
+    (omega arith, far (c .before .if5 .left) (c .if6 .left))
 
 tried-requires : tie.Need-tried-requires Inv-loop μ-loop Inv-push-back μ-push-back Inv-advance μ-advance
 tried-requires c κs = search needs
@@ -171,25 +219,18 @@ loop-less c = omega arith
 
 loop-again : tie.Need-loop-again Inv-loop μ-loop Inv-push-back μ-push-back Inv-advance μ-advance
 loop-again c =
-    let l = c .before .before .before .before .before .before in
-    let i = l .loop .inv in
-    let t = c .before .before .before .before .before .tried .ensures in
-    let s = c .before .before .before .before .evaluate2 .ensures in
-    let d = c .before .before .before .abs .ensures in (
+    let t = c .before .before .before in (
       omega arith,
       ⊎-elim
-          (λ w. rw (w .1, w .2, w .3, w .4) (root-above binary32 _ _ _ _ _ _ _ _ _ _ _ _ _ _ _ (i .1) (i .0) _ _ _ t s d (c .before .before .if7 .left) (w .0 .taken)))
-          (λ w. rw (w .1, w .2, w .3, w .4) (root-below binary32 _ _ _ _ _ _ _ _ _ _ _ _ _ _ _ (i .1) (i .0) _ _ _ t s d (c .before .before .if7 .left) (w .0 .left)))
+          (λ w. rw (w .1, w .2, w .3, w .4) (root-above (tried t) (c .before .before .if7 .left) (w .0 .taken)))
+          (λ w. rw (w .1, w .2, w .3, w .4) (root-below (tried t) (c .before .before .if7 .left) (w .0 .left)))
           (c .before .if8 .came),
     )
 
 stepped-requires : tie.Need-stepped-requires Inv-loop μ-loop Inv-push-back μ-push-back Inv-advance μ-advance
 stepped-requires c κs =
-    let l = c .before .before .before .before in
-    let s = l .before .before .before .before .before .before in
-    let p = s .before .before in
-    let r = p .push-back .inv .1 in
-    rw (s .searched .ensures) (omega (arith, l .loop .inv .0, p .push-back .inv .0, r .few-calls, r .few-searches, r .few-steps))
+    let r = roomy c in
+    omega (arith, r .few-calls, r .few-searches, r .few-steps)
 
 add-push-back-iterations : tie.Need-add-push-back-iterations Inv-loop μ-loop Inv-push-back μ-push-back Inv-advance μ-advance
 add-push-back-iterations c = omega arith
@@ -199,73 +240,53 @@ push-back-less c = omega arith
 
 push-back-again : tie.Need-push-back-again Inv-loop μ-loop Inv-push-back μ-push-back Inv-advance μ-advance
 push-back-again c =
-    let l = c .before .before .before .before .before .before in
-    let s = l .before .before .before .before .before .before in
-    let q = s .before .before in
-    let p = q .push-back in
-    let k = l .loop .root-iteration-count + 1 in
-    let o = c .before .stepped .ensures in (
-      omega arith,
-      rw (o, s .searched .ensures)
-          (room-after-steps (8 - (p .push-back-iterations + 1)) k (p .inv .1) (omega (arith, p .inv .0)) (omega (arith, l .loop .inv .0))),
-      rw (o, s .searched .ensures) (p .inv .2),
-      rw o (landed (c .before .before)),
-    )
+    let j = c .before .before in
+    let s = j .before .before .before .before .before .before .before .before .before .before in
+    let o = c .before .stepped .ensures in
+    (omega arith, rw o (roomy j), rw (o, s .searched .ensures) (s .before .before .push-back .inv .2), rw o (landed j))
 
 failed-at-requires : tie.Need-failed-at-requires Inv-loop μ-loop Inv-push-back μ-push-back Inv-advance μ-advance
 failed-at-requires c κs = search needs
 
 advance-less : tie.Need-advance-less Inv-loop μ-loop Inv-push-back μ-push-back Inv-advance μ-advance
 advance-less c =
-    let q = c .before .before .before .before .before .before in
-    let l = q .before .before .before .before .before .before .before .before .before in
-    let o = resumed (c .before .before) in
-    omega (arith, o .one-call, o .bounded .few-calls, l .advance .inv .0 .few-calls)
+    let j = c .before .before in
+    omega (arith, resumed j .one-call, resumed j .bounded .few-calls)
 
 advance-again : tie.Need-advance-again Inv-loop μ-loop Inv-push-back μ-push-back Inv-advance μ-advance
-advance-again c = let o = resumed (c .before .before) in
-    let more = less-calls (o .bounded .few-calls) (c .if11 .left) in
-    (next-is-ready _ (o .bounded) more, next-call binary32 _ _ _ _ _ _ (o .left) (omega (arith, more)))
+advance-again c =
+    let j = c .before .before in
+    (next-ready (resumed j) (c .if11 .left), next-call (resumed j) (c .if11 .left))
 
 returns : tie.Need-returns Inv-loop μ-loop Inv-push-back μ-push-back Inv-advance μ-advance
-returns c =
-    let l = c .before .before .before .before .before .before in
-    c .overlapped .ensures
-    ∙ call-overlaps binary32 _ _ _ _ _ _ (l .advance .inv .1) _ (c .before .before .before .before .before .closest-at .ensures) _ (c .before .before .before .called .ensures) (c .before .if1 .taken)
+returns c = c .overlapped .ensures ∙ call-overlaps (call (c .before .before .before)) (c .before .if1 .taken)
 
 returns-2 : tie.Need-returns-2 Inv-loop μ-loop Inv-push-back μ-push-back Inv-advance μ-advance
 returns-2 c =
-    let l = c .before .before .before .before .before .before .before .before in
-    c .hit .ensures
-    ∙ call-hits binary32 _ _ _ _ _ _ (l .advance .inv .1) _ (c .before .before .before .before .before .before .before .closest-at .ensures) _ (c .before .before .before .before .before .called .ensures) (c .before .before .before .if1 .left) (c .before .if2 .taken)
+    let k = c .before .before .before .before .before in
+    c .hit .ensures ∙ call-hits (call k) (c .before .before .before .if1 .left) (c .before .if2 .taken)
 
 returns-3 : tie.Need-returns-3 Inv-loop μ-loop Inv-push-back μ-push-back Inv-advance μ-advance
 returns-3 c =
-    let q = c .before .before .before .before in
-    let p = q .push-back in
-    c .separated .ensures ∙ push-separates binary32 _ _ _ _ _ _ _ _ _ (p .inv .3) (p .inv .0) _ (c .before .before .before .find-min-separation .ensures) _ (c .before .before .searched .ensures) (c .before .if3 .taken)
+    let s = c .before .before in
+    c .separated .ensures ∙ push-separates (least s) (c .before .if3 .taken)
 
 returns-4 : tie.Need-returns-4 Inv-loop μ-loop Inv-push-back μ-push-back Inv-advance μ-advance
 returns-4 c =
-    let m = c .before .before .before .before .before .before in
-    let q = m .before in
-    let p = q .push-back in
-    c .failed .ensures
-    ∙ push-fails binary32 _ _ _ _ _ _ _ _ _ (p .inv .3) (p .inv .0) _ (m .find-min-separation .ensures) _ (c .before .before .before .before .before .searched .ensures) 
-    (c .before .before .before .before .if3 .left) (c .before .before .before .if4 .left) _ (c .before .before .evaluate .ensures) (c .before .if5 .taken)
+    let v = c .before .before in
+    let s = v .before .before .before in
+    let far = push-fails (least s) (v .before .before .if3 .left) (v .before .if4 .left) _ (v .evaluate .ensures) in
+    c .failed .ensures ∙ far (c .before .if5 .taken)
 
 returns-5 : tie.Need-returns-5 Inv-loop μ-loop Inv-push-back μ-push-back Inv-advance μ-advance
 returns-5 c =
-    let m = c .before .before .before .before .before .before .before in
-    let q = m .before in
-    let p = q .push-back in
-    c .hit2 .ensures
-    ∙ push-hits binary32 _ _ _ _ _ _ _ _ _ (p .inv .3) (p .inv .0) _ (m .find-min-separation .ensures) _ (c .before .before .before .before .before .before .searched .ensures) 
-    (c .before .before .before .before .before .if3 .left) (c .before .before .before .before .if4 .left) _ (c .before .before .before .evaluate .ensures) (c .before .before .if5 .left) (c .before .if6 .taken)
+    let v = c .before .before .before in
+    let s = v .before .before .before in
+    let far = push-hits (least s) (v .before .before .if3 .left) (v .before .if4 .left) _ (v .evaluate .ensures) in
+    c .hit2 .ensures ∙ far (c .before .before .if5 .left) (c .before .if6 .taken)
 
 returns-6 : tie.Need-returns-6 Inv-loop μ-loop Inv-push-back μ-push-back Inv-advance μ-advance
-returns-6 c = let o = resumed (c .before .before .before) in
-    c .failed-at .ensures ∙ last-call binary32 _ _ _ _ _ _ (o .left) (c .before .if11 .taken)
+returns-6 c = c .failed-at .ensures ∙ last-call (resumed (c .before .before .before)) (c .before .if11 .taken)
 
 pub advance-spec : {M : Type 1} → statement M
 advance-spec =
