@@ -15,7 +15,7 @@ use Rattle.model.specs.declared.SimplexCache.{SimplexCache}
 use Rattle.model.specs.declared.SeparationFunction.{SeparationFunction}
 use Rattle.model.specs.declared.SweepTask.{SweepTask}
 use Rattle.model.specs.declared.Totals.{Totals}
-use Rattle.model.specs.declared.CheckedPair.{CheckedPair}
+use Rattle.model.specs.declared.Checked.{Checked}
 use Rattle.model.specs.declared.CheckedPose.{CheckedPose}
 use Rattle.model.specs.Nearest.{Rooted}
 use Rattle.model.specs.Ground as Ground
@@ -29,7 +29,6 @@ use Rattle.model.specs.SweepToi as SweepToi
 use Rattle.model.specs.Wire as Wire
 use Rattle.model.specs.Block as Block
 use Rattle.model.specs.Sheet as Sheet
-use Rattle.outline.specs.Refusal as Refusal
 use Rattle.toi_proxy.specs.Points as Points
 use Rattle.block.specs.Answer as Answer
 use Rattle.foldflake.specs.Entry.{LineTold, SweepTold, DistanceTold}
@@ -104,6 +103,34 @@ from-bits bits = by-value _
 pub to-bits : (x : Float) → OneResult (λ r. r ≡ toBits binary32 x)
 to-bits x = by-value _
 
+-- ---- domain
+pub bad-vector : (v : Vector) → OneResult (λ r. r ≡ Domain.badVector binary32 v)
+bad-vector v = by-value _
+
+pub check-outline : (s : List Float) → OneResult (λ r. r ≡ Domain.checked (Domain.outlineRefusal binary32 s))
+check-outline s = by-value _
+
+pub check-pair : (a b : List Float) (ra rb : Float) → OneResult (λ r. r ≡ Domain.checked (Domain.pairRefusal binary32 a b ra rb))
+check-pair a b ra rb = by-value _
+
+pub check-pose : (p : Pose) → OneResult (λ r. r ≡ Domain.checkedPose (Domain.checked (Domain.poseRefusal binary32 p)) p)
+check-pose p = by-value _
+
+pub check-sweeps : (a b : Sweep) → OneResult (λ r. r ≡ Domain.checked (Domain.sweepsRefusal binary32 a b))
+check-sweeps a b = by-value _
+
+pub check-fraction : (t : Float) → OneResult (λ r. r ≡ Domain.checked (Domain.fractionRefusal binary32 t))
+check-fraction t = by-value _
+
+pub check-slop : (x : Float) → OneResult (λ r. r ≡ Domain.checked (Domain.slopRefusal binary32 x))
+check-slop x = by-value _
+
+pub refusal : (x : Checked) → OneResult (λ r. r ≡ Domain.refusal x)
+refusal x = by-value _
+
+pub pose-refusal : (x : CheckedPose) → OneResult (λ r. r ≡ Domain.refusalOfPose x)
+pose-refusal x = by-value _
+
 -- ---- outline
 pub point : (s : List Float) (i : ℕ) → OneResult (λ r. r ≡ Support.point s i)
 point s i = by-value _
@@ -113,36 +140,6 @@ support-index s d = by-value _
 
 pub support : (s : List Float) (d : Vector) → OneResult (λ r. r ≡ Support.supportAnswer binary32 s d)
 support s d = by-value _
-
-pub bad-outline : (s : List Float) → OneResult (λ r. r ≡ Domain.badOutline s)
-bad-outline s = by-value _
-
-pub bad-part : (x : Float) → OneResult (λ r. r ≡ Domain.badPart binary32 x)
-bad-part x = by-value _
-
-pub bad-parts : (s : List Float) → OneResult (λ r. r ≡ Domain.badParts binary32 s)
-bad-parts s = by-value _
-
-pub bad-vector : (v : Vector) → OneResult (λ r. r ≡ Domain.badVector binary32 v)
-bad-vector v = by-value _
-
-pub bad-radius : (x : Float) → OneResult (λ r. r ≡ Domain.badRadius binary32 x)
-bad-radius x = by-value _
-
-pub bad-rotation : (q : Rotation) → OneResult (λ r. r ≡ Domain.badRotation binary32 q)
-bad-rotation q = by-value _
-
-pub check-pair : (a b : List Float) (ra rb : Float) → OneResult (λ r. r ≡ Domain.checkedPair binary32 a b ra rb)
-check-pair a b ra rb = by-value _
-
-pub check-pose : (p : Pose) → OneResult (λ r. r ≡ Domain.checkedPose binary32 p)
-check-pose p = by-value _
-
-pub pair-refusal : (x : CheckedPair) → OneResult (λ r. r ≡ Refusal.ofPair x)
-pair-refusal x = by-value _
-
-pub pose-refusal : (x : CheckedPose) → OneResult (λ r. r ≡ Refusal.ofPose x)
-pose-refusal x = by-value _
 
 -- ---- simplex
 pub solve-simplex2 : (s : List SimplexVertex) → OneResult (λ r. r ≡ Simplex.solveSimplex2 binary32 s)
@@ -158,9 +155,6 @@ pub witness-points : (s : List SimplexVertex) (n : ℕ) → OneResult (λ r. r �
 witness-points s n = by-value _
 
 -- ---- distance
-pub cache-is-valid : (c : SimplexCache) (na nb : ℕ) → OneResult (λ r. r ≡ Distance.cacheIsValid c na nb)
-cache-is-valid c na nb = by-value _
-
 pub measure : (p : Pose) (a : List Float) (ra : Float) (b : List Float) (rb : Float) (radii : Bool) (c : SimplexCache) → OneResult (λ r. r ≡ Distance.measure binary32 p a ra b rb radii c)
 measure p a ra b rb radii c = by-value _
 
@@ -184,15 +178,6 @@ pub find-min-separation : (g : SeparationFunction) (a b : List Float) (t : Float
 find-min-separation g a b t = by-value _
 
 -- ---- sweep_toi
-pub check-sweeps : (a b : Sweep) → OneResult (λ r. r ≡ Domain.checkedSweeps binary32 a b)
-check-sweeps a b = by-value _
-
-pub check-fraction : (t : Float) → OneResult (λ r. r ≡ Domain.checkedFraction binary32 t)
-check-fraction t = by-value _
-
-pub check-slop : (x : Float) → OneResult (λ r. r ≡ Domain.checkedSlop binary32 x)
-check-slop x = by-value _
-
 pub advance : (w : SweepTask) (a b : List Float) → OneResult (λ r. r ≡ SweepToi.advance binary32 w a b)
 advance w a b = by-value _
 
