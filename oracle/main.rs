@@ -6,16 +6,19 @@
 //!   oracle lines SEED COUNT              blocks with their lines
 //!   oracle sheet                         the sheet of the batch on standard input
 //!   oracle squared-paper MILLIONS SEED   demand 3 tested by running (squared_paper.rs)
+//!   oracle turns SEED COUNT              what S misses when something turns, COUNT moves of each of ten kinds (turns.rs)
 mod counts;
 mod distance;
 mod domain;
 mod ground;
+mod known;
 mod pool;
 mod prelude;
 mod random;
 mod sheet;
 mod squared_paper;
 mod sweep;
+mod turns;
 mod words;
 
 /// The module's text, as build.sh lays it out.
@@ -41,6 +44,7 @@ fn main() {
         "batch" => sheet::batch(number(2), number(3)),
         "lines" => sheet::rows(number(2), number(3)),
         "sheet" => sheet::sheet(),
+        "turns" => turns::run(number(2), number(3)),
         "squared-paper" => squared_paper::run(number(2), number(3)),
         other => {
             eprintln!("oracle: no such job: {other:?}");

@@ -1,4 +1,5 @@
 //! The sheet of a batch by the oracle, and seeded batches.
+use crate::known::{known, SLOP};
 use crate::math::{Rotation, Vector};
 use crate::pool::{angle, edge_rotations, movement, outline, ABOVE_LIMIT};
 use crate::random::{Random, SPECIAL};
@@ -238,13 +239,21 @@ pub fn batch(seed: u64, count: u64) {
     }
 }
 
-/// Rows of 160 words: a block, the bytes of its line as block i of a file, zeros, and the line's kind.
+/// The known jobs as blocks, by their place.
+fn known_blocks() -> Vec<[u8; SIZE]> {
+    let k = known();
+    let of = |&[a, b, move_a, move_b]: &[usize; 4]| Job { a: k.outlines[a].clone(), b: k.outlines[b].clone(), head: [0.0, 0.0, 1.0, SLOP], moves: [k.moves[move_a], k.moves[move_b]] };
+    (1..).zip(&k.jobs).map(|(number, job)| block(number, &of(job))).collect()
+}
+
+/// Rows of 160 words: a block, the bytes of its line as block i of a file, zeros, and the line's kind. The known jobs come first.
 pub fn rows(seed: u64, count: u64) {
     let mut r = Random(seed);
     let mut out = crate::words::Chunks::new();
     let mut seen = [0u32; 20];
+    let known = known_blocks();
     for i in 1..=count {
-        let b = made(&mut r, i);
+        let b = known.get(i as usize - 1).copied().unwrap_or_else(|| made(&mut r, i));
         let (text, kind) = line(i, &b);
         seen[kind as usize] += 1;
         let mut bytes = [&b[..], text.as_bytes()].concat();

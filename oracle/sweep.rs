@@ -2,6 +2,7 @@
 use crate::counts;
 use crate::domain;
 use crate::ground::bits;
+use crate::known::known;
 use crate::pool::{self, points, Outline, Pool, GOOD};
 use crate::random::Random;
 use crate::sweep_toi::sweep::Sweep;
@@ -124,10 +125,14 @@ fn rare(x: &Answer, max_fraction: f32) -> Option<usize> {
     found.iter().position(|&y| y)
 }
 
-/// Half of the rows come as they fall, a quarter has parts outside the domain, and a quarter was looked for among `effort` sweeps for each row.
+/// The known jobs come first. Half of the rows come as they fall, a quarter has parts outside the domain, and a quarter was looked for among
+/// `effort` sweeps for each row.
 pub fn rows(seed: u64, count: usize, effort: u64) {
     let mut r = Random(seed);
-    let p = pool::pool(&mut r);
+    let mut p = pool::pool(&mut r);
+    let known = known();
+    p.outlines[..known.outlines.len()].clone_from_slice(&known.outlines);
+    p.moves[..known.moves.len()].copy_from_slice(&known.moves);
     let mut out = words::Chunks::new();
     out.chunk(&pool_words(&p));
     let call = |r: &mut Random, bad: bool| {
@@ -144,7 +149,11 @@ pub fn rows(seed: u64, count: usize, effort: u64) {
         out.row(&w);
     };
     for i in 0..count - count / 4 {
-        let k = call(&mut r, i % 3 == 2);
+        // the pool's first radii, fraction and slop are 0, 1 and 0.005
+        let k = match known.jobs.get(i) {
+            Some(&[a, b, move_a, move_b]) => Call { a, b, move_a, move_b, radii: 0, fraction: 0, slop: 0 },
+            None => call(&mut r, i % 3 == 2),
+        };
         write(k, &ask(&p, k));
     }
     let (mut kept, mut met) = ([0usize; 12], [0usize; 12]);
