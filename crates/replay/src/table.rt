@@ -30,7 +30,7 @@ fn shape(size: usize, kind: usize, answer: usize, words: usize) -> RowShape
     }
 }
 
-// No part has a row of an unknown table.
+// What the rows of a table are like. Of an unknown table no part has a row.
 fn shape_of(table: u32) -> RowShape
     ensures { λ r. ⌜ (1 ≤ r .size) × (r .answer ≤ 512) × (r .words ≤ 32) ⌝ }
 {
