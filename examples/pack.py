@@ -1,29 +1,90 @@
 #!/usr/bin/env python3
-"""pack.py JOBS BATCH: packs jobs written as text into blocks. A job is a paragraph of lines `name: numbers`; `#` starts a comment.
-Lengths are in the shop's unit, angles in degrees. Missing lines: radii 0, fraction 1, slop 0.005, centre (0 0), still and unturned.
-It only packs: what `sheet` prints of the block is what counts."""
-import math, struct, sys
+"""pack.py JOBS BATCH: packs jobs written as text into blocks of 512 bytes.
+
+A job is a paragraph of lines `name: numbers`, the numbers parted by blanks; `#` starts a comment. Lengths are in the shop's unit, angles in
+degrees, counterclockwise. Names, and what a missing line means:
+
+    job              a whole number, 1 to 4294967295: must be there
+    a, b             the corners, x y x y ..: 1 to 16 points: must be there
+    radius a         0                        radius b      0
+    fraction         1                        slop          0.005
+    a centre         0 0 (the turning centre, in the outline's own numbers)
+    a from, a to     0 0, and where it started (where the turning centre stands in the hall, first and last)
+    a turned         0 (one angle: turned but not turning; two: from the first to the second, less than 180 degrees apart)
+
+and the last three for b. A file in which anything does not fit is refused whole, each fault told with its line and its job, and BATCH is not
+touched. That a number lies in the domain is not looked at: `sheet` refuses the block."""
+import math
+import struct
+import sys
+
+# how many numbers each name takes, least and most
+TAKES = {"job": (1, 1), "a": (2, 32), "b": (2, 32), "radius a": (1, 1), "radius b": (1, 1), "fraction": (1, 1), "slop": (1, 1)}
+for side in "ab":
+    TAKES.update({f"{side} centre": (2, 2), f"{side} from": (2, 2), f"{side} to": (2, 2), f"{side} turned": (1, 2)})
+
+
+class Fault(Exception):
+    pass
 
 
 def paragraphs(text):
-    job = {}
-    for line in text.splitlines() + [""]:
-        line = line.split("#")[0].strip()
-        if line:
-            name, numbers = line.split(":")
-            job[name.strip()] = [float(x) for x in numbers.split()]
-        elif job:
+    """Each job as a list of (line number, text), comments gone."""
+    job = []
+    for at, line in enumerate(text.splitlines() + [""], 1):
+        said = line.split("#")[0].strip()
+        if said:
+            job.append((at, said))
+        elif job and not line.strip():
             yield job
-            job = {}
+            job = []
+
+
+def number(word):
+    """A number that f32 can hold; Python's own `nan`, `inf` and `1_000` are words here."""
+    if word.strip("+-.0123456789eE"):
+        raise Fault(f"{word!r} is not a number" + (": blanks part numbers, not commas" if "," in word else ""))
+    try:
+        struct.pack("<f", float(word))
+        return float(word)
+    except ValueError:
+        raise Fault(f"{word!r} is not a number") from None
+    except OverflowError:
+        raise Fault(f"{word} is too large for a float of 32 bits") from None
+
+
+def field(name, words):
+    """The numbers of one line, fitting its name."""
+    if name not in TAKES:
+        raise Fault(f"no such name: {name!r}")
+    if name == "job":
+        if len(words) != 1 or not words[0].isascii() or not words[0].isdigit() or not 1 <= int(words[0]) <= 0xFFFFFFFF:
+            raise Fault("a job number is one whole number from 1 to 4294967295")
+        return [int(words[0])]
+    numbers = [number(word) for word in words]
+    least, most = TAKES[name]
+    if name in ("a", "b"):
+        if len(numbers) % 2:
+            raise Fault(f"{len(numbers)} numbers are no points: x y for each")
+        if not least <= len(numbers) <= most:
+            raise Fault(f"{len(numbers) // 2} points: a batch takes 1 to 16")
+    elif not least <= len(numbers) <= most:
+        takes = {(1, 1): "one number", (2, 2): "two numbers", (1, 2): "one number or two"}[TAKES[name]]
+        raise Fault(f"{name!r} takes {takes}, not {len(numbers)}")
+    if name.endswith("turned") and abs(numbers[-1] - numbers[0]) >= 180:
+        raise Fault("a turn of 180 degrees or more goes another way round: cut it into steps")
+    return numbers
 
 
 def turn(degrees):
-    quarter = {0: (1, 0), 90: (0, 1), 180: (-1, 0), 270: (0, -1), -90: (0, -1)}
-    return quarter.get(degrees) or (math.cos(math.radians(degrees)), math.sin(math.radians(degrees)))
+    """Cosine and sine, exact at quarter turns."""
+    quarter = {0: (1, 0), 90: (0, 1), 180: (-1, 0), 270: (0, -1)}
+    return quarter.get(degrees % 360) or (math.cos(math.radians(degrees)), math.sin(math.radians(degrees)))
 
 
 def block(job):
-    get = lambda name, default: job.get(name, default)
+    """The 512 bytes of a job whose fields fit."""
+    get = job.get
     a, b = job["a"], job["b"]
     floats = [get("radius a", [0])[0], get("radius b", [0])[0], get("fraction", [1])[0], get("slop", [0.005])[0]]
     for side in "ab":
@@ -32,12 +93,49 @@ def block(job):
         floats += get(f"{side} centre", [0, 0]) + first + get(f"{side} to", first) + [*turn(turned[0]), *turn(turned[-1])]
     for outline in (a, b):
         floats += outline + [0] * (32 - len(outline))
-    words = [int(job["job"][0]), len(a) // 2 | len(b) // 2 << 8]
+    words = [job["job"][0], len(a) // 2 | len(b) // 2 << 8]
     words += struct.unpack("<88I", struct.pack("<88f", *floats)) + (0,) * 37
     return struct.pack("<128I", *words, 0xFFFFFFFF - sum(words) % 2**32)
 
 
+def read_job(lines, tell):
+    """The fields of one paragraph. Each fault is told: tell(line, job, text)."""
+    job, faults = {}, []
+    for at, line in lines:
+        name, colon, rest = line.partition(":")
+        name = " ".join(name.split())
+        try:
+            if not colon:
+                raise Fault("a line is `name: numbers`")
+            if name in job:
+                raise Fault(f"{name!r} stands twice")
+            job[name] = []
+            job[name] = field(name, rest.split())
+        except Fault as fault:
+            faults.append((at, str(fault)))
+    faults += [(lines[0][0], f"no line {name!r}") for name in ("job", "a", "b") if name not in job]
+    which = f"job {job['job'][0]}" if job.get("job") else "a job without its number"
+    for at, fault in sorted(faults):
+        tell(at, which, fault)
+    return job
+
+
+def main(jobs, batch):
+    with open(jobs, encoding="utf-8") as file:
+        text = file.read()
+    faults = []
+    read = [read_job(lines, lambda at, job, fault: faults.append(f"{jobs}, line {at}, {job}: {fault}")) for lines in paragraphs(text)]
+    if faults:
+        sys.exit("\n".join(faults + [f"{batch} was not written"]))
+    blocks = b"".join(map(block, read))
+    with open(batch, "wb") as file:
+        file.write(blocks)
+
+
 if __name__ == "__main__":
-    with open(sys.argv[2], "wb") as out:
-        for job in paragraphs(open(sys.argv[1], encoding="utf-8").read()):
-            out.write(block(job))
+    if len(sys.argv) != 3:
+        sys.exit("usage: pack.py JOBS BATCH")
+    try:
+        main(*sys.argv[1:])
+    except (OSError, UnicodeDecodeError) as error:
+        sys.exit(f"pack.py: {error}")

@@ -1,5 +1,22 @@
-/* The entry points of libfoldflake.a, for C on x86-64. Each list is a pointer to its first element and then its length in elements. A list that
-   is written may not overlap another; that apart, every call has an answer, whatever the lists hold. */
+/* The entry points of libfoldflake.a, for C and C++ on x86-64 Linux.
+
+   Lists. Each list is a pointer to its first element and then how many elements it has. An outline is a list of numbers, x y x y .., so its length
+   counts numbers and not points: a square has 8.
+
+     const float square[8] = {-1, -1, 1, -1, 1, 1, -1, 1};
+     const float numbers[6] = {1, 0, 4, 0, 0, 0};           B unturned, moved by (4, 0), no radii
+     uint32_t cache[7] = {0};
+     float out[7];
+     uint32_t answer = foldflake_distance(square, 8, square, 8, numbers, 6, 0, cache, 7, out, 7);
+     if (FOLDFLAKE_ENDING(answer) == FOLDFLAKE_DISTANCE_SETTLED) printf("%g apart\n", out[6]);
+
+   A list that is written may not overlap another. That apart, every call has an answer, whatever the lists hold.
+
+   Answers. A number below 16 is a refusal, as README.md lists them; each function has its own names for the others. Functions to come answer
+   from 32 on, so that refusals may go up to 31.
+
+   Floating point. The proofs are for the default environment: rounding to nearest, subnormal numbers kept (no flush-to-zero, no
+   denormals-are-zero). A caller that changed it, as fesetround or a compiler's fast-math start-up code does, restores it around a call. */
 #ifndef FOLDFLAKE_H
 #define FOLDFLAKE_H
 
@@ -10,17 +27,16 @@
 extern "C" {
 #endif
 
-/* What the answers of foldflake_distance and foldflake_sweep mean; the numbers below 16 are refusals, listed in README.md. */
-enum {
-  FOLDFLAKE_TOUCHING = 16,
-  FOLDFLAKE_SETTLED = 17,
-  FOLDFLAKE_ROUND_LIMIT = 18,
-  FOLDFLAKE_OVERLAPPED = 16,
-  FOLDFLAKE_HIT = 17,
-  FOLDFLAKE_SEPARATED = 18,
-  FOLDFLAKE_FAILED = 19,
-  FOLDFLAKE_WRONG_LENGTH = 255
-};
+/* A list has not the length that the function asks for; of both functions. */
+enum { FOLDFLAKE_WRONG_LENGTH = 255 };
+
+/* What foldflake_sweep answers. SEPARATED does not clear a move that turns, and FAILED is no verdict: see README.md, "What a setter must know". */
+enum { FOLDFLAKE_SWEEP_OVERLAPPED = 16, FOLDFLAKE_SWEEP_HIT = 17, FOLDFLAKE_SWEEP_SEPARATED = 18, FOLDFLAKE_SWEEP_FAILED = 19 };
+
+/* How foldflake_distance ends: FOLDFLAKE_ENDING of its answer. A refusal or a wrong length is its own ending, with no rounds. */
+enum { FOLDFLAKE_DISTANCE_TOUCHING = 16, FOLDFLAKE_DISTANCE_SETTLED = 17, FOLDFLAKE_DISTANCE_ROUND_LIMIT = 18 };
+#define FOLDFLAKE_ENDING(answer) ((answer) % 256u)
+#define FOLDFLAKE_ROUNDS(answer) ((answer) / 256u)
 
 /* The square root, rounded to nearest. */
 float foldflake_root(float x);
@@ -29,22 +45,22 @@ float foldflake_root(float x);
    and out as it was, where block_len is not 512, number is 0 or above 2^63, or out_len is below 160. */
 size_t foldflake_line(uint64_t number, const uint8_t *block, size_t block_len, uint8_t *out, size_t out_len);
 
-/* The sweep of two outlines, points x y x y .. each.
+/* The sweep of two outlines.
    numbers, 24: radius of A, of B, max fraction, slop, then the move of A and of B: local centre x y, first centre x y, last centre x y, first
-   rotation c s, last rotation c s.
+   rotation c s, last rotation c s (docs/GLOSSARY.md says what each is).
    out, 5: fraction, point x y, normal x y. counts, 3: distance calls, separation searches, root steps.
-   The answer is a refusal, 1 to 8, or FOLDFLAKE_OVERLAPPED, _HIT, _SEPARATED or _FAILED, or FOLDFLAKE_WRONG_LENGTH. On a refusal or a wrong length
-   out and counts are as they were. */
-uint32_t foldflake_sweep(const float *points_a, size_t points_a_len, const float *points_b, size_t points_b_len, const float *numbers,
+   The answer is a refusal, 1 to 8, or FOLDFLAKE_SWEEP_.., or FOLDFLAKE_WRONG_LENGTH. On a refusal or a wrong length out and counts are as they
+   were. */
+uint32_t foldflake_sweep(const float *points_a, size_t numbers_in_a, const float *points_b, size_t numbers_in_b, const float *numbers,
                          size_t numbers_len, float *out, size_t out_len, uint32_t *counts, size_t counts_len);
 
 /* The distance of two outlines in the frame of A.
    numbers, 6: the rotation c s and the translation x y of B, radius of A, of B; the radii count where use_radii is not 0.
-   cache, 7: how many corner pairs, then three indices of A and three of B; all 0 for a first call.
+   cache, 7: how many corner pairs, then three indices of A and three of B (of points, from 0); all 0 for a first call.
    out, 7: point of A x y, point of B x y, normal x y, distance.
-   The answer is a refusal, 1 to 6; or FOLDFLAKE_TOUCHING, _SETTLED or _ROUND_LIMIT plus 256 times the rounds; or FOLDFLAKE_WRONG_LENGTH, also for
-   a count in the cache above 255. On a refusal or a wrong length cache and out are as they were. */
-uint32_t foldflake_distance(const float *points_a, size_t points_a_len, const float *points_b, size_t points_b_len, const float *numbers,
+   The answer is a refusal, 1 to 6; or FOLDFLAKE_DISTANCE_.. plus 256 times the rounds; or FOLDFLAKE_WRONG_LENGTH, also for a count in the cache
+   above 255. On a refusal or a wrong length cache and out are as they were. */
+uint32_t foldflake_distance(const float *points_a, size_t numbers_in_a, const float *points_b, size_t numbers_in_b, const float *numbers,
                             size_t numbers_len, uint32_t use_radii, uint32_t *cache, size_t cache_len, float *out, size_t out_len);
 
 #ifdef __cplusplus

@@ -1,7 +1,7 @@
 #!/usr/bin/env bash
 # compare-sheet.sh SRC [BATCHES [COUNT]]: makes BATCHES seeded batches of COUNT blocks (default 100 of 10,000) of ten families (see oracle/sheet.rs),
 # runs the oracle's sheet and ours on each, and compares every byte; then files of every length from 1 to 1,023 bytes.
-# SRC is the folder that holds query/sweep_toi/*.rs of parry2d 0.31.1.
+# SRC is the folder that holds query/sweep_toi/*.rs of parry2d 0.31.1. Where the machine is not x86-64, RUN names the emulator for `sheet`.
 set -eu
 src="$1"; batches="${2:-100}"; count="${3:-10000}"
 cd "$(dirname "$0")/.."
@@ -11,7 +11,7 @@ work="$(mktemp -d)"; trap 'rm -r "$work"' EXIT
 differ=0
 same() { # same NAME: the two sheets of the batch in the work folder
   target/oracle/oracle sheet < "$work/batch" > "$work/oracle"
-  target/bin/sheet < "$work/batch" > "$work/ours"
+  ${RUN:-} target/bin/sheet < "$work/batch" > "$work/ours"
   cmp -s "$work/oracle" "$work/ours" || { differ=$((differ + 1)); echo "$1 differs: $(diff "$work/oracle" "$work/ours" | head -n 2 | tr '\n' ' ')"; }
 }
 for seed in $(seq 1 "$batches"); do

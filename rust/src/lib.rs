@@ -1,4 +1,27 @@
-//! A safe face of the proved entry points: every call has an answer, and nothing is asked of the caller.
+//! A safe face of `libfoldflake.a`, the proved entry points of Foldflake: whether two convex outlines, seen from above, meet along one planned
+//! move each, at what fraction of the move, and where; and how far apart two outlines are.
+//!
+//! Every call has an answer, whatever it is given: what lies outside the domain gets a [`Refusal`]. An outline is a flat list of numbers,
+//! `x y x y ..`, of 1 to 64 points; which way round the corners go does not matter. A rotation is a cosine and a sine.
+//!
+//! Read [`Sweep::Separated`] before you rely on it: it does not clear a move that turns.
+//!
+//! ```
+//! use foldflake::{sweep, Move, Sweep};
+//! let square = [-1.0, -1.0, 1.0, -1.0, 1.0, 1.0, -1.0, 1.0];
+//! let stands = Move { local_center: [0.0; 2], first: [6.0, 0.0], last: [6.0, 0.0], first_rotation: [1.0, 0.0], last_rotation: [1.0, 0.0] };
+//! let goes = Move { first: [0.0; 2], last: [8.0, 0.0], ..stands };
+//! match sweep(&square, 0.0, &goes, &square, 0.0, &stands, 1.0, 0.01)? {
+//!     Sweep::Hit(contact, _) => assert!((contact.fraction - 0.5).abs() < 0.01),
+//!     other => panic!("{other:?}"),
+//! }
+//! # Ok::<(), foldflake::Refusal>(())
+//! ```
+//!
+//! The proofs are for rounding to nearest with subnormal numbers kept: the floating-point environment has to be Rust's default.
+#![deny(missing_docs)]
+
+use std::fmt;
 
 mod entry {
     extern "C" {
@@ -6,9 +29,9 @@ mod entry {
         pub fn foldflake_line(number: u64, block: *const u8, block_len: usize, out: *mut u8, out_len: usize) -> usize;
         pub fn foldflake_sweep(
             points_a: *const f32,
-            points_a_len: usize,
+            numbers_in_a: usize,
             points_b: *const f32,
-            points_b_len: usize,
+            numbers_in_b: usize,
             numbers: *const f32,
             numbers_len: usize,
             out: *mut f32,
@@ -18,9 +41,9 @@ mod entry {
         ) -> u32;
         pub fn foldflake_distance(
             points_a: *const f32,
-            points_a_len: usize,
+            numbers_in_a: usize,
             points_b: *const f32,
-            points_b_len: usize,
+            numbers_in_b: usize,
             numbers: *const f32,
             numbers_len: usize,
             use_radii: u32,
@@ -32,78 +55,232 @@ mod entry {
     }
 }
 
-/// The number of a refusal, as README.md lists them.
-#[derive(Clone, Copy, Debug, PartialEq, Eq)]
-pub struct Refusal(pub u32);
+/// Why a call was refused: the first number that applies, in the order of the numbers.
+///
+/// | number | given when |
+/// |---|---|
+/// | 1, 2 | outline A, B is empty, of odd length, or above 64 points |
+/// | 3 | a point's part is not finite or above 1,048,576 in size |
+/// | 4 | a radius is not finite, below 0 or above 1,048,576 |
+/// | 5 | a rotation's part is above 1 in size or NaN, or `c * c + s * s` is below 0.984375 or above 1.015625 |
+/// | 6 | a translation or a centre is as in 3 |
+/// | 7 | the max fraction is not in 0 to 1 |
+/// | 8 | the slop is not above 0, above 1,048,576, or NaN |
+///
+/// ```
+/// use foldflake::{distance, Cache, Refusal};
+/// let refusal = distance([1.0, 0.0], [0.0, 0.0], &[], 0.0, &[0.0, 0.0], 0.0, false, &mut Cache::default()).unwrap_err();
+/// assert_eq!(refusal, Refusal(1));
+/// assert_eq!(refusal.to_string(), "refused by 1: outline A is empty, of odd length, or above 64 points");
+/// ```
+#[derive(Clone, Copy, Debug, PartialEq, Eq, Hash)]
+pub struct Refusal(
+    /// The number.
+    pub u32,
+);
 
-/// A planned move: the centre goes straight from `first` to `last` while the rotation (cosine, sine) goes from `first_rotation` to `last_rotation`.
+impl fmt::Display for Refusal {
+    fn fmt(&self, f: &mut fmt::Formatter<'_>) -> fmt::Result {
+        let why = match self.0 {
+            1 => "outline A is empty, of odd length, or above 64 points",
+            2 => "outline B is empty, of odd length, or above 64 points",
+            3 => "a point's part is not finite or above 1048576 in size",
+            4 => "a radius is not finite, below 0 or above 1048576",
+            5 => "a rotation is not a cosine and a sine",
+            6 => "a translation or a centre is not finite or above 1048576 in size",
+            7 => "the max fraction is not in 0 to 1",
+            8 => "the slop is not above 0, above 1048576, or not a number",
+            _ => "no reason is known",
+        };
+        write!(f, "refused by {}: {why}", self.0)
+    }
+}
+
+impl std::error::Error for Refusal {}
+
+/// A planned move of one body. Its turning centre goes straight from `first` to `last`, while the body turns from one rotation to the other.
+///
+/// At fraction `t` the rotation is `(1 - t) * first_rotation + t * last_rotation`, brought to length 1. So a turn goes the short way round; its
+/// angle grows unevenly, and of a half turn nobody can say which way it goes: never ask for one.
+///
+/// ```
+/// use foldflake::Move;
+/// // a quarter turn about the body's corner (1, 1), which stays at (5, 0) in the hall
+/// let turn = Move { local_center: [1.0, 1.0], first: [5.0, 0.0], last: [5.0, 0.0], first_rotation: [1.0, 0.0], last_rotation: [0.0, 1.0] };
+/// assert_eq!(turn.first, turn.last);
+/// ```
 #[derive(Clone, Copy, Debug, PartialEq)]
 pub struct Move {
+    /// The turning centre, in the frame in which the outline's points are given.
     pub local_center: [f32; 2],
+    /// Where the turning centre stands in the hall at fraction 0.
     pub first: [f32; 2],
+    /// Where it stands at fraction 1.
     pub last: [f32; 2],
+    /// Cosine and sine at fraction 0; counterclockwise is positive where y points to the left of x.
     pub first_rotation: [f32; 2],
+    /// Cosine and sine at fraction 1.
     pub last_rotation: [f32; 2],
 }
 
+/// Where and when two bodies meet. Zeros where nothing is to be told.
+///
+/// ```
+/// use foldflake::{sweep, Move, Sweep};
+/// let stands = Move { local_center: [0.0; 2], first: [4.0, 0.0], last: [4.0, 0.0], first_rotation: [1.0, 0.0], last_rotation: [1.0, 0.0] };
+/// let goes = Move { first: [0.0; 2], ..stands };
+/// // two points; 0.5 is left between them, and the contact lies midway
+/// match sweep(&[0.0, 0.0], 0.0, &goes, &[0.0, 0.0], 0.0, &stands, 1.0, 0.5) {
+///     Ok(Sweep::Hit(contact, _)) => assert_eq!((contact.fraction, contact.point, contact.normal), (0.875, [3.75, 0.0], [1.0, 0.0])),
+///     other => panic!("{other:?}"),
+/// }
+/// ```
 #[derive(Clone, Copy, Debug, PartialEq)]
 pub struct Contact {
+    /// The fraction of the move.
     pub fraction: f32,
+    /// Midway between the two nearest points, each moved out by its radius, in the hall's frame.
     pub point: [f32; 2],
+    /// The direction from A to B, in the hall's frame.
     pub normal: [f32; 2],
 }
 
-/// How much a sweep took.
+/// How much work a sweep took: at most 20, 160 and 8,000.
+///
+/// ```
+/// use foldflake::{sweep, Counts, Move, Sweep};
+/// let still = Move { local_center: [0.0; 2], first: [0.0; 2], last: [0.0; 2], first_rotation: [1.0, 0.0], last_rotation: [1.0, 0.0] };
+/// let answer = sweep(&[0.0, 0.0], 0.0, &still, &[0.0, 0.0], 0.0, &still, 1.0, 0.01);
+/// assert_eq!(answer, Ok(Sweep::Overlapped(Counts { distance_calls: 1, searches: 0, root_steps: 0 })));
+/// ```
 #[derive(Clone, Copy, Debug, PartialEq, Eq)]
 pub struct Counts {
+    /// Distance calls.
     pub distance_calls: u32,
+    /// Searches for the deepest corners along an axis.
     pub searches: u32,
+    /// Steps of the root search.
     pub root_steps: u32,
 }
 
-/// How a sweep ends. `Failed` is no verdict: its fraction is the last safe one.
+/// How a sweep ends.
+///
+/// The target is the larger of the slop and (radius A + radius B) - slop, and the tolerance a quarter of the slop.
+///
+/// ```
+/// use foldflake::{sweep, Move, Sweep};
+/// // a square of half size 5 turns a quarter beside a wall at x = 6: its corners reach 7.07, and the answer is still `Separated`
+/// let square = [-5.0, -5.0, 5.0, -5.0, 5.0, 5.0, -5.0, 5.0];
+/// let wall = [0.0, -20.0, 4.0, -20.0, 4.0, 20.0, 0.0, 20.0];
+/// let stands = Move { local_center: [0.0; 2], first: [6.0, 0.0], last: [6.0, 0.0], first_rotation: [1.0, 0.0], last_rotation: [1.0, 0.0] };
+/// let turned = |degrees: f32| [degrees.to_radians().cos(), degrees.to_radians().sin()];
+/// let step = |from, to| {
+///     let turns = Move { first: [0.0; 2], last: [0.0; 2], first_rotation: turned(from), last_rotation: turned(to), ..stands };
+///     sweep(&square, 0.0, &turns, &wall, 0.0, &stands, 1.0, 0.005)
+/// };
+/// assert!(matches!(step(0.0, 90.0), Ok(Sweep::Separated(..))));
+/// // cut into steps of 10 degrees, the second one tells the hit
+/// assert!(matches!(step(0.0, 10.0), Ok(Sweep::Separated(..))));
+/// assert!(matches!(step(10.0, 20.0), Ok(Sweep::Hit(..))));
+/// ```
 #[derive(Clone, Copy, Debug, PartialEq)]
 pub enum Sweep {
+    /// The outlines touch or overlap where the search stood, which may be later than at fraction 0.
     Overlapped(Counts),
+    /// They come within the target distance at the contact's fraction.
     Hit(Contact, Counts),
+    /// Along one axis they are apart by more than target and tolerance, where the search stood last and at the planned end. A straight move is
+    /// clear then, up to the tolerance; **a body that turns may swing in and out again in between**: cut a turn into steps.
     Separated(Contact, Counts),
+    /// No verdict: the search gave up. The fraction is the last safe one.
     Failed(Contact, Counts),
 }
 
 /// The corner pairs from which the next distance call starts; `Cache::default()` for a first call.
+///
+/// A count above 3, or an index that a list does not have, counts as an empty cache.
+///
+/// ```
+/// use foldflake::{distance, Cache};
+/// let mut cache = Cache::default();
+/// distance([1.0, 0.0], [3.0, 4.0], &[0.0, 0.0], 0.0, &[0.0, 0.0], 0.0, false, &mut cache).unwrap();
+/// assert_eq!(cache, Cache { count: 1, index_a: [0; 3], index_b: [0; 3] });
+/// ```
 #[derive(Clone, Copy, Debug, Default, PartialEq, Eq)]
 pub struct Cache {
+    /// How many of the pairs count.
     pub count: u8,
+    /// The corners of A, by their index.
     pub index_a: [u32; 3],
+    /// The corners of B.
     pub index_b: [u32; 3],
 }
 
+/// How a distance call ends.
+///
+/// ```
+/// use foldflake::{distance, Cache, Ending};
+/// let point = [0.0, 0.0];
+/// let at = |x| distance([1.0, 0.0], [x, 0.0], &point, 0.0, &point, 0.0, false, &mut Cache::default()).unwrap();
+/// assert_eq!(at(0.0).ending, Ending::Touching);
+/// assert_eq!(at(2.0).ending, Ending::Settled);
+/// ```
 #[derive(Clone, Copy, Debug, PartialEq, Eq)]
 pub enum Ending {
+    /// The outlines share a point, or the search direction became too short to go on: distance 0. The cache stays as it came.
     Touching,
+    /// No corner lies nearer than those in the cache.
     Settled,
+    /// 20 rounds did not settle it: with three pairs in the cache the distance told is 0, be the outlines apart or not.
     RoundLimit,
 }
 
 /// What a distance call measures, in the frame of A.
+///
+/// ```
+/// use foldflake::{distance, Cache};
+/// let point = [0.0, 0.0];
+/// let measured = distance([1.0, 0.0], [3.0, 4.0], &point, 1.0, &point, 0.5, true, &mut Cache::default()).unwrap();
+/// assert_eq!(measured.distance, 3.5);
+/// assert_eq!(measured.rounds, 1);
+/// ```
 #[derive(Clone, Copy, Debug, PartialEq)]
 pub struct Distance {
+    /// The point of A nearest to B.
     pub point_a: [f32; 2],
+    /// The point of B nearest to A.
     pub point_b: [f32; 2],
+    /// The direction from A to B; zeros where they touch.
     pub normal: [f32; 2],
+    /// How far apart they are; not below 0.
     pub distance: f32,
+    /// Rounds of the search, at most 20.
     pub rounds: u32,
+    /// How the call ended.
     pub ending: Ending,
 }
 
 /// The square root, rounded to nearest.
+///
+/// ```
+/// assert_eq!(foldflake::root(2.0), 2f32.sqrt());
+/// assert!(foldflake::root(-1.0).is_nan());
+/// ```
 pub fn root(x: f32) -> f32 {
+    // Safety: the call takes and returns a number.
     unsafe { entry::foldflake_root(x) }
 }
 
 /// The line of a block as block `number` of a file, newline included; `None` where the number is 0 or above 2^63.
+///
+/// ```
+/// // 512 bytes that are no block: their words do not add up
+/// assert_eq!(foldflake::line(3, &[0; 512]).as_deref(), Some("3 0 10\n"));
+/// assert_eq!(foldflake::line(0, &[0; 512]), None);
+/// ```
 pub fn line(number: u64, block: &[u8; 512]) -> Option<String> {
     let mut out = [0u8; 160];
+    // Safety: both lists have the lengths handed over, and `out` is ours alone.
     let n = unsafe { entry::foldflake_line(number, block.as_ptr(), block.len(), out.as_mut_ptr(), out.len()) };
     if n == 0 {
         return None;
@@ -111,7 +288,17 @@ pub fn line(number: u64, block: &[u8; 512]) -> Option<String> {
     Some(String::from_utf8_lossy(&out[..n]).into_owned())
 }
 
-/// When, along two moves, two outlines (x y x y ..) come within the target distance.
+/// When, along two moves, two outlines come within the target distance (see [`Sweep`]). Only the part of the moves up to `max_fraction` is planned.
+///
+/// ```
+/// use foldflake::{sweep, Move, Refusal, Sweep};
+/// let stands = Move { local_center: [0.0; 2], first: [9.0, 0.0], last: [9.0, 0.0], first_rotation: [1.0, 0.0], last_rotation: [1.0, 0.0] };
+/// let goes = Move { first: [0.0; 2], ..stands };
+/// let by = |max_fraction, slop| sweep(&[0.0, 0.0], 1.0, &goes, &[0.0, 0.0], 1.0, &stands, max_fraction, slop);
+/// assert!(matches!(by(1.0, 0.01), Ok(Sweep::Hit(..))));
+/// assert!(matches!(by(0.5, 0.01), Ok(Sweep::Separated(..))));
+/// assert_eq!(by(1.5, 0.01), Err(Refusal(7)));
+/// ```
 #[allow(clippy::too_many_arguments)]
 pub fn sweep(
     points_a: &[f32],
@@ -127,9 +314,10 @@ pub fn sweep(
     numbers[..4].copy_from_slice(&[radius_a, radius_b, max_fraction, linear_slop]);
     for (m, part) in [move_a, move_b].into_iter().zip(numbers[4..].chunks_mut(10)) {
         let pairs = [m.local_center, m.first, m.last, m.first_rotation, m.last_rotation];
-        part.copy_from_slice(pairs.as_flattened());
+        part.chunks_mut(2).zip(&pairs).for_each(|(place, pair)| place.copy_from_slice(pair));
     }
     let (mut out, mut counts) = ([0f32; 5], [0u32; 3]);
+    // Safety: each list has the length handed over, and the two that are written are ours alone.
     let answer = unsafe {
         entry::foldflake_sweep(
             points_a.as_ptr(),
@@ -155,8 +343,17 @@ pub fn sweep(
     }
 }
 
-/// The distance of two outlines (x y x y ..), B turned by `rotation` (cosine, sine) and moved by `translation` in the frame of A. A refusal leaves
-/// the cache as it came.
+/// The distance of two outlines, B turned by `rotation` (cosine, sine) and moved by `translation` in the frame of A. The radii count where
+/// `use_radii` says so, and are checked in any case. A refusal leaves the cache as it came.
+///
+/// ```
+/// use foldflake::{distance, Cache};
+/// let square = [-1.0, -1.0, 1.0, -1.0, 1.0, 1.0, -1.0, 1.0];
+/// let mut cache = Cache::default();
+/// let measured = distance([1.0, 0.0], [4.0, 0.0], &square, 0.0, &square, 0.0, false, &mut cache)?;
+/// assert_eq!((measured.distance, measured.normal), (2.0, [1.0, 0.0]));
+/// # Ok::<(), foldflake::Refusal>(())
+/// ```
 #[allow(clippy::too_many_arguments)]
 pub fn distance(
     rotation: [f32; 2],
@@ -172,6 +369,7 @@ pub fn distance(
     let (a, b) = (cache.index_a, cache.index_b);
     let mut words = [cache.count as u32, a[0], a[1], a[2], b[0], b[1], b[2]];
     let mut out = [0f32; 7];
+    // Safety: each list has the length handed over, and the two that are written are ours alone.
     let answer = unsafe {
         entry::foldflake_distance(
             points_a.as_ptr(),

@@ -8,7 +8,7 @@ use borrow.Author.Tests.{eqb-true, lt-ltb, le-ltb}
 use lib.Dec.{eqb, ltb}
 use lib.ListN.{length, getD}
 use lib.Ieee.{Float, binary32}
-use Rattle.model.specs.declared.SweepAnswer.{SweepAnswer}
+use Rattle.model.specs.declared.BlockAnswer.{BlockAnswer}
 use Rattle.model.specs.declared.SimplexCache.{SimplexCache}
 use Rattle.model.specs.declared.Ending.{Ending}
 use Rattle.model.specs.declared.Ending.the-variants.{Touching, Settled, RoundLimit}
@@ -16,7 +16,7 @@ use Rattle.model.specs.declared.DistanceAnswer.{DistanceAnswer}
 use Rattle.model.specs.declared.DistanceAnswer.the-variants.{Measured, Refused}
 use Rattle.model.specs.declared.Distance.{Distance}
 use Rattle.model.proofs.DistanceCall.{rounds-at-most-20}
-use Rattle.foldflake.specs.Entry.{sweepFor, sweepNumber, contactAfter, countsAfter, sweepFits, SweepTold, endingNumber, roundsOf, cacheOf, distanceFor, distanceNumber, cacheAfter, outputAfter, distanceFits, DistanceTold}
+use Rattle.foldflake.specs.Entry.{sweepCall, sweepNumber, contactAfter, countsAfter, sweepFits, SweepTold, endingNumber, roundsOf, cacheOf, distanceFor, distanceNumber, cacheAfter, outputAfter, distanceFits, DistanceTold}
 
 pub both : (a b : Bool) → (a && b) ≡ true → (a ≡ true) × (b ≡ true)
 both true b e = (refl, e)
@@ -31,7 +31,7 @@ module _ (ns out : List Float) (counts : List ℕ) where
       (eqb-true _ _ (first .0), eqb-true _ _ (first .1), eqb-true _ _ (last .1))
 
   module _ (a b : List Float) where
-    pub sweep-told : (x : SweepAnswer) (out' : List Float) (counts' : List ℕ) (r : ℕ) → sweepFits ns out counts ≡ true → x ≡ sweepFor a b ns →
+    pub sweep-told : (x : BlockAnswer) (out' : List Float) (counts' : List ℕ) (r : ℕ) → sweepFits ns out counts ≡ true → x ≡ sweepCall a b ns →
         (r ≡ sweepNumber x) × (out' ≡ contactAfter x out) × (counts' ≡ countsAfter x counts) → SweepTold a b ns out counts out' counts' r
     sweep-told x out' counts' r fits is told =
         record { number = rw (fits, ← is) (told .0); contact = rw (fits, ← is) (told .1); counted = rw (fits, ← is) (told .2) }

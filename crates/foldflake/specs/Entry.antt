@@ -5,10 +5,7 @@ use mathlib.Core.Bool.{Bool, _&&_, _||_, cond}
 use mathlib.Core.List.{List, [], _∷_, _++_}
 use lib.Dec.{eqb, ltb}
 use lib.ListN.{length, getD, drop}
-use lib.Ieee.{Float, nan, binary32}
-use Rattle.model.specs.declared.Vector.{Vector}
-use Rattle.model.specs.declared.Rotation.{Rotation}
-use Rattle.model.specs.declared.Sweep.{Sweep}
+use lib.Ieee.{Float, binary32}
 use Rattle.model.specs.declared.SimplexCache.{SimplexCache}
 use Rattle.model.specs.declared.Ending.{Ending}
 use Rattle.model.specs.declared.Ending.the-variants.{Touching, Settled, RoundLimit}
@@ -18,79 +15,64 @@ use Rattle.model.specs.declared.DistanceAnswer.the-variants.{Measured, Refused 
 use Rattle.model.specs.declared.Distance.{Distance}
 use Rattle.model.specs.declared.Counts.{Counts}
 use Rattle.model.specs.declared.Contact.{Contact}
-use Rattle.model.specs.declared.SweepAnswer.{SweepAnswer}
-use Rattle.model.specs.declared.SweepAnswer.the-variants.{Overlapped, Hit, Separated, Failed, Refused}
-use Rattle.model.specs.Ground.{vector, rotation, pose, origin}
-use Rattle.model.specs.Ground as Ground
+use Rattle.model.specs.declared.Status.{Status}
+use Rattle.model.specs.declared.Status.the-variants.{Overlapped, Hit, Separated, Failed}
+use Rattle.model.specs.declared.BlockAnswer.{BlockAnswer}
+use Rattle.model.specs.declared.BlockAnswer.the-variants.{Worked, Refused}
+use Rattle.model.specs.Ground.{pose}
+use Rattle.model.specs.Support.{point}
 use Rattle.model.specs.Distance.{cache, proxyDistance}
-use Rattle.model.specs.SweepToi.{contact, sweepTimeOfImpact}
-use Rattle.model.specs.Sheet.{blockLine}
+use Rattle.model.specs.Block.{blockSize}
+use Rattle.model.specs.Work.{turn, sweepFor, told, blockAnswer}
+use Rattle.lines.specs.Part.{countLimit, lineFor}
 
 -- ---- one block to one line
 -- block n of a file; nothing where the block is not one, no file has the number, or there is no room
-abbrev pub lineFor : ℕ → List ℕ → List ℕ → List ℕ
-lineFor n block out =
-    cond (eqb (length block) 512) (cond (eqb n 0 || ltb 0x8000_0000_0000_0000 n) [] (cond (ltb (length out) 160) [] (blockLine binary32 n block))) []
+abbrev pub lineTo : ℕ → List ℕ → List ℕ → List ℕ
+lineTo n block out =
+    cond (eqb (length block) blockSize) (cond (eqb n 0 || ltb countLimit n) [] (lineFor n (blockAnswer binary32 block) (length out))) []
 
 -- the line stands at the start of out, and the answer is its length
 pub record LineTold (n : ℕ) (block out out' : List ℕ) (r : ℕ) : Type 0 where
-  pub size : r ≡ length (lineFor n block out)
-  pub bytes : out' ≡ lineFor n block out ++ drop (length (lineFor n block out)) out
+  pub size : r ≡ length (lineTo n block out)
+  pub bytes : out' ≡ lineTo n block out ++ drop (length (lineTo n block out)) out
 
 -- ---- the sweep
-abbrev pub at : List Float → ℕ → Float
-at ns k = getD ns k nan
+abbrev pub sweepCall : List Float → List Float → List Float → BlockAnswer
+sweepCall a b ns = told binary32 0 (sweepFor binary32 a b ns)
 
-abbrev pub vectorAt : List Float → ℕ → Vector
-vectorAt ns k = vector (at ns k) (at ns (k + 1))
+abbrev pub statusNumber : Status → ℕ
+statusNumber Overlapped = 16
+statusNumber Hit = 17
+statusNumber Separated = 18
+statusNumber Failed = 19
 
-abbrev pub rotationAt : List Float → ℕ → Rotation
-rotationAt ns k = rotation (at ns k) (at ns (k + 1))
-
--- ten numbers, in the order of a block
-unfoldable pub moveAt : List Float → ℕ → Sweep
-moveAt ns k =
-    record { «local_center» = vectorAt ns k; c1 = vectorAt ns (k + 2); c2 = vectorAt ns (k + 4); q1 = rotationAt ns (k + 6); q2 = rotationAt ns (k + 8) }
-
--- both radii, the max fraction, the slop, and the two moves
-unfoldable pub sweepFor : List Float → List Float → List Float → SweepAnswer
-sweepFor a b ns = sweepTimeOfImpact binary32 a (at ns 0) (moveAt ns 4) b (at ns 1) (moveAt ns 14) (at ns 2) (at ns 3)
-
-abbrev pub sweepNumber : SweepAnswer → ℕ
-sweepNumber (Overlapped n) = 16
-sweepNumber (Hit c n) = 17
-sweepNumber (Separated c n) = 18
-sweepNumber (Failed c n) = 19
-sweepNumber (Refused k) = k
+abbrev pub sweepNumber : BlockAnswer → ℕ
+sweepNumber (Worked job v) = statusNumber (v .status)
+sweepNumber (Refused job k) = k
 
 abbrev pub contactFloats : Contact → List Float
 contactFloats c = c .fraction ∷ c .point .x ∷ c .point .y ∷ c .normal .x ∷ c .normal .y ∷ []
 
--- an overlap has fraction 0 and zeros; a refusal leaves the list
-abbrev pub contactAfter : SweepAnswer → List Float → List Float
-contactAfter (Overlapped n) out = contactFloats (contact (Ground.zero binary32) (origin binary32) (origin binary32))
-contactAfter (Hit c n) out = contactFloats c
-contactAfter (Separated c n) out = contactFloats c
-contactAfter (Failed c n) out = contactFloats c
-contactAfter (Refused k) out = out
+-- a refusal leaves the list
+abbrev pub contactAfter : BlockAnswer → List Float → List Float
+contactAfter (Worked job v) out = contactFloats (v .contact)
+contactAfter (Refused job k) out = out
 
 abbrev pub countsWords : Counts → List ℕ
 countsWords n = n .«distance_calls» ∷ n .searches ∷ n .«root_steps» ∷ []
 
-abbrev pub countsAfter : SweepAnswer → List ℕ → List ℕ
-countsAfter (Overlapped n) out = countsWords n
-countsAfter (Hit c n) out = countsWords n
-countsAfter (Separated c n) out = countsWords n
-countsAfter (Failed c n) out = countsWords n
-countsAfter (Refused k) out = out
+abbrev pub countsAfter : BlockAnswer → List ℕ → List ℕ
+countsAfter (Worked job v) out = countsWords (v .counts)
+countsAfter (Refused job k) out = out
 
 abbrev pub sweepFits : List Float → List Float → List ℕ → Bool
 sweepFits ns out counts = eqb (length ns) 24 && eqb (length out) 5 && eqb (length counts) 3
 
 pub record SweepTold (a b ns out : List Float) (counts : List ℕ) (out' : List Float) (counts' : List ℕ) (r : ℕ) : Type 0 where
-  pub number : r ≡ cond (sweepFits ns out counts) (sweepNumber (sweepFor a b ns)) 255
-  pub contact : out' ≡ cond (sweepFits ns out counts) (contactAfter (sweepFor a b ns) out) out
-  pub counted : counts' ≡ cond (sweepFits ns out counts) (countsAfter (sweepFor a b ns) counts) counts
+  pub number : r ≡ cond (sweepFits ns out counts) (sweepNumber (sweepCall a b ns)) 255
+  pub contact : out' ≡ cond (sweepFits ns out counts) (contactAfter (sweepCall a b ns) out) out
+  pub counted : counts' ≡ cond (sweepFits ns out counts) (countsAfter (sweepCall a b ns) counts) counts
 
 -- ---- the distance
 -- the count, three indices of A, three of B
@@ -102,9 +84,9 @@ cacheWords c =
     c .count ∷ getD (c .«index_a») 0 0 ∷ getD (c .«index_a») 1 0 ∷ getD (c .«index_a») 2 0 ∷ getD (c .«index_b») 0 0 ∷ getD (c .«index_b») 1 0
     ∷ getD (c .«index_b») 2 0 ∷ []
 
--- the pose of B in the frame of A, then both radii
+-- three pairs: the turn and the shift of the pose of B in the frame of A, then the radii
 unfoldable pub distanceFor : List Float → List Float → List Float → Bool → SimplexCache → Distance
-distanceFor a b ns radii c = proxyDistance binary32 (pose (rotationAt ns 0) (vectorAt ns 2)) a (at ns 4) b (at ns 5) radii c
+distanceFor a b ns radii c = proxyDistance binary32 (pose (turn (point ns 0)) (point ns 1)) a (point ns 2 .x) b (point ns 2 .y) radii c
 
 abbrev pub endingNumber : Ending → ℕ
 endingNumber Touching = 16

@@ -2,10 +2,8 @@
 mod numbers;
 mod tell;
 
-use model::Totals;
 use numbers::cache_of;
 use numbers::distance_of;
-use numbers::sweep_of;
 use tell::tell_distance;
 use tell::tell_sweep;
 ghost use lib.Ieee.{binary32};
@@ -17,7 +15,7 @@ ghost use Rattle.foldflake.specs.Entry.{LineTold, SweepTold, DistanceTol
 pub extern "C" fn foldflake_root(x: f32) -> f32
     ensures { λ r. ⌜ Rooted binary32 x r ⌝ }
 {
-    ground::root(x)
+    root::root(x)
 }
 
 // The line of a block as block `number` of a file, at the start of out, and its length. 0, and nothing written, where the block has not 512
@@ -32,17 +30,8 @@ pub extern "C" fn foldflake_line(number: u64, block: &[u8], out: &mut [u8]) -> u
     if (number == 0) | (number > 0x8000_0000_0000_0000) {
         return 0;
     }
-    if out.len() < 160 {
-        return 0;
-    }
-    let before = Totals {
-        blocks: number - 1,
-        clear: 0,
-        contact: 0,
-        refused: 0,
-    };
-    let written = line::write_blocks(block, out, before);
-    written.at
+    let answer = work::answer_block(block);
+    lines::write_line(number, answer, out)
 }
 
 // The sweep of two outlines. Numbers: both radii, the max fraction, the slop, and two moves of ten as in a block. The answer: a refusal, 1 to 8;
@@ -59,8 +48,8 @@ pub extern "C" fn foldflake_sweep(
     ensures { λ r. ⌜ SweepTold (now («points_a» .entry)) (now («points_b» .entry)) (now (numbers .entry)) (now (out .entry)) (now (counts .entry)) (now (out .exit)) (now (counts .exit)) r ⌝ }
 {
     if (numbers.len() == 24) & (out.len() == 5) & (counts.len() == 3) {
-        let answer = sweep_of(points_a, points_b, numbers);
-        tell_sweep(answer, out, counts)
+        let answer = work::sweep_of(points_a, points_b, numbers);
+        tell_sweep(work::told(0, answer), out, counts)
     } else {
         255
     }

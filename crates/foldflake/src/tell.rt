@@ -1,4 +1,5 @@
 // Answers, told by a number and by what is written into lent lists.
+use model::BlockAnswer;
 use model::Contact;
 use model::Counts;
 use model::Distance;
@@ -6,12 +7,12 @@ use model::DistanceAnswer;
 use model::Ending;
 use model::ProxyDistanceOutput;
 use model::SimplexCache;
-use model::SweepAnswer;
-use model::Vector;
+use model::Status;
+use model::Verdict;
 ghost use mathlib.Core.Path.{_≡_};
 ghost use Prim.Native.Nat.{_+_, _*_, _≤_};
 ghost use lib.ListN.{length};
-ghost use Rattle.foldflake.specs.Entry.{contactFloats, countsWords, sweepNumber, contactAfter, countsAfter, endingNumber, outputNumber, outputFloats, cacheWords, roundsOf, distanceNumber, outputAfter, cacheAfter};
+ghost use Rattle.foldflake.specs.Entry.{contactFloats, countsWords, statusNumber, sweepNumber, contactAfter, countsAfter, endingNumber, outputNumber, outputFloats, cacheWords, roundsOf, distanceNumber, outputAfter, cacheAfter};
 
 fn put_contact(out: &mut [f32], c: Contact)
     requires { ⌜ length (now out) ≡ 5 ⌝ }
@@ -33,33 +34,38 @@ fn put_counts(out: &mut [u32], n: Counts)
     out[2] = n.root_steps;
 }
 
-// A contact and its counts, under the number of the ending.
-fn put_both(out: &mut [f32], counts: &mut [u32], c: Contact, n: Counts, ending: u32) -> u32
-    requires { ⌜ (length (now out) ≡ 5) × (length (now counts) ≡ 3) ⌝ }
-    ensures { λ r. ⌜ (r ≡ ending) × (now (out .exit) ≡ contactFloats c) × (now (counts .exit) ≡ countsWords n) ⌝ }
+fn status_number(status: Status) -> u32
+    ensures { λ r. ⌜ r ≡ statusNumber status ⌝ }
 {
-    put_contact(out, c);
-    put_counts(counts, n);
-    ending
+    match status {
+        Status::Overlapped => 16,
+        Status::Hit => 17,
+        Status::Separated => 18,
+        Status::Failed => 19,
+    }
 }
 
-// An overlap has fraction 0 and zeros. A refusal writes nothing.
-pub fn tell_sweep(x: SweepAnswer, out: &mut [f32], counts: &mut [u32]) -> u32
+// A contact and its counts, under the number of the status.
+fn put_verdict(out: &mut [f32], counts: &mut [u32], v: Verdict) -> u32
+    requires { ⌜ (length (now out) ≡ 5) × (length (now counts) ≡ 3) ⌝ }
+    ensures { λ r. ⌜ (r ≡ statusNumber (v .status)) × (now (out .exit) ≡ contactFloats (v .contact)) × (now (counts .exit) ≡ countsWords (v .counts)) ⌝ }
+{
+    let contact = v.contact;
+    let n = v.counts;
+    put_contact(out, contact);
+    put_counts(counts, n);
+    let status = v.status;
+    status_number(status)
+}
+
+// A refusal writes nothing.
+pub fn tell_sweep(x: BlockAnswer, out: &mut [f32], counts: &mut [u32]) -> u32
     requires { ⌜ (length (now out) ≡ 5) × (length (now counts) ≡ 3) ⌝ }
     ensures { λ r. ⌜ (r ≡ sweepNumber x) × (now (out .exit) ≡ contactAfter x (now (out .entry))) × (now (counts .exit) ≡ countsAfter x (now (counts .entry))) ⌝ }
 {
-    let zero = Vector { x: 0.0, y: 0.0 };
-    let none = Contact {
-        fraction: 0.0,
-        point: zero,
-        normal: zero,
-    };
     match x {
-        SweepAnswer::Overlapped(n) => put_both(out, counts, none, n, 16),
-        SweepAnswer::Hit(c, n) => put_both(out, counts, c, n, 17),
-        SweepAnswer::Separated(c, n) => put_both(out, counts, c, n, 18),
-        SweepAnswer::Failed(c, n) => put_both(out, counts, c, n, 19),
-        SweepAnswer::Refused(number) => number,
+        BlockAnswer::Worked(_, verdict) => put_verdict(out, counts, verdict),
+        BlockAnswer::Refused(_, number) => number,
     }
 }
 

@@ -1,9 +1,10 @@
--- What each loop of a sweep meets, one law for each way that a turn goes: root steps, push-backs, distance calls. Assumes nothing.
-use Prim.Native.Nat.{ℕ, zero, suc, _+_, _-_, _<_}
+-- What each loop of a sweep meets. What is left at the head of a loop gives the whole answer; here is one law for each way that a turn goes on from
+-- there. Assumes nothing.
+use Prim.Native.Nat.{ℕ, zero, suc, _+_, _-_, _<_, _≤_}
 use native.Mathlib.Omega.{arith}
 use mathlib.Core.Bool.{true, false, cond}
 use mathlib.Core.List.{List}
-use mathlib.Core.Path.{_≡_, refl, _∙_}
+use mathlib.Core.Path.{_≡_, refl, sym, ap, _∙_}
 use lib.Ieee.{Float, Format, sub, lt, le}
 use Rattle.model.specs.declared.Pose.{Pose}
 use Rattle.model.specs.declared.SimplexCache.{SimplexCache}
@@ -15,122 +16,209 @@ use Rattle.model.specs.declared.Closest.{Closest}
 use Rattle.model.specs.declared.RootSearch.{RootSearch}
 use Rattle.model.specs.declared.Counts.{Counts}
 use Rattle.model.specs.declared.SweepAnswer.{SweepAnswer}
-use Rattle.model.specs.declared.SweepAnswer.the-variants.{Overlapped, Hit, Separated, Failed}
-use Rattle.model.specs.Ground.{origin, abs, inverseTimes}
+use Rattle.model.specs.Ground.{abs, inverseTimes}
 use Rattle.model.specs.Ground as Ground
 use Rattle.model.specs.Distance.{measure}
 use Rattle.model.specs.Sweep.{transformAt}
 use Rattle.model.specs.Separation.{newSeparation, evaluate, findMinSeparation}
-use Rattle.model.specs.SweepToi.{counts, contact, ended, moved, closestBy, closestAt, tried, found, rootFrom, low, high, pushFrom, onward, advanceBy, advanceFrom}
+use Rattle.model.specs.SweepToi.{called, searched, stepped, overlapped, hit, separated, failed, failedAt, PushEnd, ended, moved, onward, found}
+use Rattle.model.proofs.SweepToi.{Bounded, Ready, next-is-ready}
+use Rattle.model.specs.SweepToi.{noCorners, noCounts, closestBy, closestAt, tried, rootFrom, low, high, pushFrom, advanceBy, advanceFrom, advance}
 
-module _ (f : Format) (a b : List Float) (w : SweepTask) where
-  -- ---- root steps: n made, t tried, s found there at the distance d from the target
-  module _ (g : SeparationFunction) (i j : ℕ) (t2 a1 a2 s1 s2 : Float) (n : ℕ) where
-    module _ (less : n < 50) (t s d : Float) (p : t ≡ tried f a b w n a1 a2 s1 s2) (q : s ≡ evaluate f a b g i j t) (r : d ≡ abs (sub f s (w .target))) where
-      step : rootFrom f a b w g i j t2 (50 - n) a1 a2 s1 s2 n
-          ≡ cond (le d (w .tolerance)) (found f a b w t (n + 1))
-          (rootFrom f a b w g i j t2 (50 - (n + 1)) (cond (lt (w .target) s) t a1) (cond (lt (w .target) s) a2 t) (cond (lt (w .target) s) s s1) (cond (lt (w .target) s) s2 s) (n + 1))
-      unfolding rootFrom
-      step =
-          let x : 50 - n ≡ suc (49 - n) = omega arith in
-          let y : 50 - (n + 1) ≡ 49 - n = omega arith in
-          rw (x, y, r, q, p)
-
-      pub root-lands : le d (w .tolerance) ≡ true → rootFrom f a b w g i j t2 (50 - n) a1 a2 s1 s2 n ≡ found f a b w t (n + 1)
-      root-lands h = step ∙ rw h
-
-      pub root-above : le d (w .tolerance) ≡ false → lt (w .target) s ≡ true →
-          rootFrom f a b w g i j t2 (50 - n) a1 a2 s1 s2 n ≡ rootFrom f a b w g i j t2 (50 - (n + 1)) t a2 s s2 (n + 1)
-      root-above h u = step ∙ rw (h, u)
-
-      pub root-below : le d (w .tolerance) ≡ false → lt (w .target) s ≡ false →
-          rootFrom f a b w g i j t2 (50 - n) a1 a2 s1 s2 n ≡ rootFrom f a b w g i j t2 (50 - (n + 1)) a1 t s1 s (n + 1)
-      root-below h u = step ∙ rw (h, u)
-
-      pub root-runs-out : le d (w .tolerance) ≡ false → n + 1 ≡ 50 → rootFrom f a b w g i j t2 (50 - n) a1 a2 s1 s2 n ≡ found f a b w t2 (n + 1)
-      unfolding rootFrom
-      root-runs-out h l = let x : 50 - (n + 1) ≡ 0 = omega arith in step ∙ rw (h, x)
-
-  -- ---- push-backs: p made, m the least separation at t2, s1 that of the same corners at t1
-  module _ (g : SeparationFunction) (t1 : Float) (x : Closest) (t2 : Float) (p c se st : ℕ) where
-    pub push-ends : p ≡ 8 → pushFrom f a b w g t1 x (8 - p) t2 (counts c se st) ≡ moved t1 (counts c se st)
-    unfolding pushFrom
-    push-ends h = let y : 8 - p ≡ 0 = omega arith in rw y
-
-    module _ (less : p < 8) (m : MinSeparation) (e : m ≡ findMinSeparation f a b g t2) where
-      module _ (s1 : Float) (q : s1 ≡ evaluate f a b g (m .«index_a») (m .«index_b») t1) (r : RootSearch)
-          (u : r ≡ rootFrom f a b w g (m .«index_a») (m .«index_b») t2 50 t1 t2 s1 (m .separation) 0) where
-        push : pushFrom f a b w g t1 x (8 - p) t2 (counts c se st)
-            ≡ cond (lt (w .tolerance) (sub f (m .separation) (w .target))) (ended (Separated (contact (w .«t_max») (origin f) (origin f)) (counts c (se + 1) st)))
-            (cond (le (low f a b w) (m .separation)) (moved t2 (counts c (se + 1) st))
-            (cond (lt s1 (low f a b w)) (ended (Failed (contact t1 (origin f) (origin f)) (counts c (se + 1) st)))
-            (cond (le s1 (high f a b w)) (ended (Hit (contact t1 (x .point) (x .normal)) (counts c (se + 1) st)))
-            (pushFrom f a b w g t1 x (8 - (p + 1)) (r .t) (counts c (se + 1) (st + r .steps))))))
-        unfolding pushFrom
-        push =
-            let y : 8 - p ≡ suc (7 - p) = omega arith in
-            let z : 8 - (p + 1) ≡ 7 - p = omega arith in
-            rw (y, z, u, q, e)
-
-      pub push-separates : lt (w .tolerance) (sub f (m .separation) (w .target)) ≡ true →
-          pushFrom f a b w g t1 x (8 - p) t2 (counts c se st) ≡ ended (Separated (contact (w .«t_max») (origin f) (origin f)) (counts c (se + 1) st))
-      push-separates h = push _ refl _ refl ∙ rw h
-
-      module _ (h : lt (w .tolerance) (sub f (m .separation) (w .target)) ≡ false) where
-        pub push-moves : le (low f a b w) (m .separation) ≡ true →
-            pushFrom f a b w g t1 x (8 - p) t2 (counts c se st) ≡ moved t2 (counts c (se + 1) st)
-        push-moves k = push _ refl _ refl ∙ rw (h, k)
-
-        module _ (k : le (low f a b w) (m .separation) ≡ false) (s1 : Float) (q : s1 ≡ evaluate f a b g (m .«index_a») (m .«index_b») t1) where
-          pub push-fails : lt s1 (low f a b w) ≡ true →
-              pushFrom f a b w g t1 x (8 - p) t2 (counts c se st) ≡ ended (Failed (contact t1 (origin f) (origin f)) (counts c (se + 1) st))
-          push-fails l = push s1 q _ refl ∙ rw (h, k, l)
-
-          pub push-hits : lt s1 (low f a b w) ≡ false → le s1 (high f a b w) ≡ true →
-              pushFrom f a b w g t1 x (8 - p) t2 (counts c se st) ≡ ended (Hit (contact t1 (x .point) (x .normal)) (counts c (se + 1) st))
-          push-hits l o = push s1 q _ refl ∙ rw (h, k, l, o)
-
-          pub push-goes-on : lt s1 (low f a b w) ≡ false → le s1 (high f a b w) ≡ false → (t : Float) (n : ℕ) →
-              found f a b w t n ≡ rootFrom f a b w g (m .«index_a») (m .«index_b») t2 50 t1 t2 s1 (m .separation) 0 →
-              pushFrom f a b w g t1 x (8 - p) t2 (counts c se st) ≡ pushFrom f a b w g t1 x (8 - (p + 1)) t (counts c (se + 1) (st + n))
-          push-goes-on l o t n r = push s1 q (found f a b w t n) r ∙ rw (h, k, l, o)
-
-  -- ---- distance calls
-  pub closest : (t : Float) (k : SimplexCache) (pa pb p : Pose) (m : Measurement) →
-      pa ≡ transformAt f (w .«sweep_a») t → pb ≡ transformAt f (w .«sweep_b») t → p ≡ inverseTimes f pa pb →
-      m ≡ measure f p a (w .«radius_a») b (w .«radius_b») false k → closestBy f a b w pa m ≡ closestAt f a b w t k
-  unfolding closestAt
-  closest t k pa pb p m e g h r = rw (r, h, g, e)
-
-  -- c made, x what the call at t1 found
-  -- what follows where l calls may come after this one
+module _ (f : Format) (w : SweepTask) (a b : List Float) where
+  -- ---- what is left
+  -- after a distance call that found x, where k more may follow
   unfoldable pub after : ℕ → Closest → Float → Counts → SweepAnswer
-  after zero x t n = Failed (contact t (x .point) (x .normal)) n
-  after (suc l) x t n = advanceFrom f a b w l t (x .cache) n
+  after zero x t n = failedAt t x n
+  after (suc k) x t n = advanceFrom f w a b k t (x .cache) n
 
-  module _ (t1 : Float) (k : SimplexCache) (c se st : ℕ) (x : Closest) (e : x ≡ closestAt f a b w t1 k) where
-    call : (l : ℕ) → advanceFrom f a b w l t1 k (counts c se st) ≡ advanceBy f a b w t1 x (counts (c + 1) se st) (after l x)
-    unfolding advanceFrom after
-    call zero = rw e
-    call (suc l) = rw e
+  -- at the head of a distance call
+  unfoldable pub calling : Float → SimplexCache → Counts → SweepAnswer
+  calling t1 c n = advanceFrom f w a b (19 - n .«distance_calls») t1 c n
 
-    pub call-overlaps : le (x .distance) (Ground.zero f) ≡ true → advanceFrom f a b w (19 - c) t1 k (counts c se st) ≡ Overlapped (counts (c + 1) se st)
-    call-overlaps h = call (19 - c) ∙ rw h
+  -- where the push-backs after one are left at t1 with no answer
+  abbrev pub resuming : Closest → Float → Counts → SweepAnswer
+  resuming x t1 n = after (20 - n .«distance_calls») x t1 n
 
-    module _ (h : le (x .distance) (Ground.zero f) ≡ false) where
-      pub call-hits : le (x .distance) (high f a b w) ≡ true →
-          advanceFrom f a b w (19 - c) t1 k (counts c se st) ≡ Hit (contact t1 (x .point) (x .normal)) (counts (c + 1) se st)
-      call-hits u = call (19 - c) ∙ rw (h, u)
+  -- at the head of a push-back, p of them made
+  unfoldable pub pushing : SeparationFunction → Closest → Float → Float → ℕ → Counts → SweepAnswer
+  pushing g x t1 t2 p n = onward (pushFrom f w a b g t1 x (8 - p) t2 n) (after (20 - n .«distance_calls») x)
 
-      pub call-goes-on : le (x .distance) (high f a b w) ≡ false → (g : SeparationFunction) → g ≡ newSeparation f (w .«sweep_a») (w .«sweep_b») a b (x .cache) t1 →
-          advanceFrom f a b w (19 - c) t1 k (counts c se st) ≡ onward f a b w (pushFrom f a b w g t1 x 8 (w .«t_max») (counts (c + 1) se st)) (after (19 - c) x)
-      call-goes-on u g v = call (19 - c) ∙ rw (h, u, v)
+  -- the root search of a push-back whose deepest corners are those of m, k steps made
+  abbrev pub rootAt : SeparationFunction → Float → MinSeparation → Float → Float → Float → Float → ℕ → RootSearch
+  rootAt g t2 m a1 a2 s1 s2 k = rootFrom f w a b g (m .«index_a») (m .«index_b») t2 (50 - k) a1 a2 s1 s2 k
 
-  module _ (x : Closest) (t : Float) (n : Counts) (c : ℕ) where
-    pub last-call : c + 1 ≡ 20 → after (19 - c) x t n ≡ Failed (contact t (x .point) (x .normal)) n
-    unfolding after
-    last-call h = let y : 19 - c ≡ 0 = omega arith in rw y
+  -- at the head of a root step
+  unfoldable pub searching : SeparationFunction → Closest → Float → Float → ℕ → Counts → MinSeparation →
+      Float → Float → Float → Float → ℕ → SweepAnswer
+  searching g x t1 t2 p n m a1 a2 s1 s2 k =
+      let r = rootAt g t2 m a1 a2 s1 s2 k in
+      pushing g x t1 (r .t) (p + 1) (stepped n (r .steps))
 
-    pub next-call : c + 1 < 20 → after (19 - c) x t n ≡ advanceFrom f a b w (19 - (c + 1)) t (x .cache) n
-    unfolding after
-    next-call h = let y : 19 - c ≡ suc (19 - (c + 1)) = omega arith in rw y
+  pub at-the-start : calling (Ground.zero f) noCorners noCounts ≡ advance f w a b
+  unfolding calling
+  at-the-start = refl
+
+-- ---- a root step: t is tried, and s is found there, d from the target
+pub record Tried (f : Format) (w : SweepTask) (a b : List Float) (g : SeparationFunction) (x : Closest) (t1 t2 : Float) (p : ℕ) (n : Counts)
+    (m : MinSeparation) (a1 a2 s1 s2 : Float) (k : ℕ) (t s d : Float) : Type 0 where
+  pub left : k < 50
+  pub time : t ≡ tried f w k a1 a2 s1 s2
+  pub value : s ≡ evaluate f a b g (m .«index_a») (m .«index_b») t
+  pub off : d ≡ abs (sub f s (w .target))
+  pub rest : searching f w a b g x t1 t2 p n m a1 a2 s1 s2 k ≡ advance f w a b
+
+module _ {f : Format} {w : SweepTask} {a b : List Float} {g : SeparationFunction} {x : Closest} {t1 t2 : Float} {p : ℕ} {n : Counts}
+    {m : MinSeparation} {a1 a2 s1 s2 : Float} {k : ℕ} {t s d : Float} (made : Tried f w a b g x t1 t2 p n m a1 a2 s1 s2 k t s d) where
+  step : let up = lt (w .target) s in
+      rootAt f w a b g t2 m a1 a2 s1 s2 k
+      ≡ cond (le d (w .tolerance)) (found t (k + 1))
+      (rootAt f w a b g t2 m (cond up t a1) (cond up a2 t) (cond up s s1) (cond up s2 s) (k + 1))
+  unfolding rootFrom
+  step =
+      let h = made .left in
+      let y : 50 - k ≡ suc (49 - k) = omega arith in
+      let z : 50 - (k + 1) ≡ 49 - k = omega arith in
+      rw (y, z, made .off, made .value, made .time)
+
+  -- the push-backs go on as the search r ends
+  as-found : (r : RootSearch) → rootAt f w a b g t2 m a1 a2 s1 s2 k ≡ r →
+      pushing f w a b g x t1 (r .t) (p + 1) (stepped n (r .steps)) ≡ advance f w a b
+  unfolding searching
+  as-found r e = rw e at (made .rest)
+
+  pub root-lands : le d (w .tolerance) ≡ true → pushing f w a b g x t1 t (p + 1) (stepped n (k + 1)) ≡ advance f w a b
+  root-lands h = as-found (found t (k + 1)) (step ∙ rw h)
+
+  module _ (h : le d (w .tolerance) ≡ false) where
+    pub root-above : lt (w .target) s ≡ true → searching f w a b g x t1 t2 p n m t a2 s s2 (k + 1) ≡ advance f w a b
+    unfolding searching
+    root-above u = as-found (rootAt f w a b g t2 m t a2 s s2 (k + 1)) (step ∙ rw (h, u))
+
+    pub root-below : lt (w .target) s ≡ false → searching f w a b g x t1 t2 p n m a1 t s1 s (k + 1) ≡ advance f w a b
+    unfolding searching
+    root-below u = as-found (rootAt f w a b g t2 m a1 t s1 s (k + 1)) (step ∙ rw (h, u))
+
+    pub root-runs-out : k + 1 ≡ 50 → pushing f w a b g x t1 t2 (p + 1) (stepped n (k + 1)) ≡ advance f w a b
+    unfolding rootFrom
+    root-runs-out l = let y : 50 - (k + 1) ≡ 0 = omega arith in as-found (found t2 (k + 1)) (step ∙ rw (h, y))
+
+-- ---- a push-back: m is the least separation at t2, o the counts with this search
+pub record Searched (f : Format) (w : SweepTask) (a b : List Float) (g : SeparationFunction) (x : Closest) (t1 t2 : Float) (p : ℕ) (n : Counts)
+    (m : MinSeparation) (o : Counts) : Type 0 where
+  pub left : p < 8
+  pub least : m ≡ findMinSeparation f a b g t2
+  pub counted : o ≡ searched n
+  pub rest : pushing f w a b g x t1 t2 p n ≡ advance f w a b
+
+module _ {f : Format} {w : SweepTask} {a b : List Float} {g : SeparationFunction} {x : Closest} {t1 t2 : Float} {p : ℕ} {n : Counts}
+    {m : MinSeparation} {o : Counts} (made : Searched f w a b g x t1 t2 p n m o) where
+  -- s1 is the separation of the same corners at t1
+  push : (s1 : Float) → s1 ≡ evaluate f a b g (m .«index_a») (m .«index_b») t1 →
+      let r = rootAt f w a b g t2 m t1 t2 s1 (m .separation) 0 in
+      pushFrom f w a b g t1 x (8 - p) t2 n
+      ≡ cond (lt (w .tolerance) (sub f (m .separation) (w .target))) (ended (separated f (w .«t_max») o))
+      (cond (le (low f w) (m .separation)) (moved t2 o)
+      (cond (lt s1 (low f w)) (ended (failed f t1 o))
+      (cond (le s1 (high f w)) (ended (hit t1 x o))
+      (pushFrom f w a b g t1 x (8 - (p + 1)) (r .t) (stepped o (r .steps))))))
+  unfolding pushFrom
+  push s1 q =
+      let h = made .left in
+      let y : 8 - p ≡ suc (7 - p) = omega arith in
+      let z : 8 - (p + 1) ≡ 7 - p = omega arith in
+      rw (y, z, q, made .least, made .counted)
+
+  -- the sweep goes on as the push-backs end
+  as-pushed : (r : PushEnd) → pushFrom f w a b g t1 x (8 - p) t2 n ≡ r → onward r (after f w a b (20 - o .«distance_calls») x) ≡ advance f w a b
+  unfolding pushing
+  as-pushed r y = rw (made .counted) (rw y at (made .rest))
+
+  pub push-separates : lt (w .tolerance) (sub f (m .separation) (w .target)) ≡ true → separated f (w .«t_max») o ≡ advance f w a b
+  push-separates h = as-pushed (ended (separated f (w .«t_max») o)) (push _ refl ∙ rw h)
+
+  module _ (h : lt (w .tolerance) (sub f (m .separation) (w .target)) ≡ false) where
+    pub push-moves : le (low f w) (m .separation) ≡ true → resuming f w a b x t2 o ≡ advance f w a b
+    push-moves k = as-pushed (moved t2 o) (push _ refl ∙ rw (h, k))
+
+    module _ (k : le (low f w) (m .separation) ≡ false) (s1 : Float) (q : s1 ≡ evaluate f a b g (m .«index_a») (m .«index_b») t1) where
+      pub push-fails : lt s1 (low f w) ≡ true → failed f t1 o ≡ advance f w a b
+      push-fails l = as-pushed (ended (failed f t1 o)) (push s1 q ∙ rw (h, k, l))
+
+      module _ (l : lt s1 (low f w) ≡ false) where
+        pub push-hits : le s1 (high f w) ≡ true → hit t1 x o ≡ advance f w a b
+        push-hits v = as-pushed (ended (hit t1 x o)) (push s1 q ∙ rw (h, k, l, v))
+
+        pub push-searches : le s1 (high f w) ≡ false → searching f w a b g x t1 t2 p o m t1 t2 s1 (m .separation) 0 ≡ advance f w a b
+        unfolding searching pushing
+        push-searches v =
+            let r = rootAt f w a b g t2 m t1 t2 s1 (m .separation) 0 in
+            as-pushed (pushFrom f w a b g t1 x (8 - (p + 1)) (r .t) (stepped o (r .steps))) (push s1 q ∙ rw (h, k, l, v))
+
+-- ---- a distance call at t1: x is what it found, o the counts with it
+pub record Called (f : Format) (w : SweepTask) (a b : List Float) (t1 : Float) (k : SimplexCache) (n : Counts) (x : Closest) (o : Counts) : Type 0 where
+  pub there : x ≡ closestAt f w a b t1 k
+  pub counted : o ≡ called n
+  pub rest : calling f w a b t1 k n ≡ advance f w a b
+
+module _ {f : Format} {w : SweepTask} {a b : List Float} {t1 : Float} {k : SimplexCache} {n : Counts} {x : Closest} {o : Counts}
+    (made : Called f w a b t1 k n x o) where
+  call-by : (l : ℕ) → advanceFrom f w a b l t1 k n ≡ advanceBy f w a b t1 x o (after f w a b l x)
+  unfolding advanceFrom after
+  call-by zero = rw (made .counted, made .there)
+  call-by (suc l) = rw (made .counted, made .there)
+
+  call : advanceBy f w a b t1 x o (after f w a b (20 - o .«distance_calls») x) ≡ advance f w a b
+  unfolding calling
+  call =
+      let same : 20 - o .«distance_calls» ≡ 19 - n .«distance_calls» = rw (made .counted) (omega arith) in
+      rw same (sym (call-by (19 - n .«distance_calls»)) ∙ made .rest)
+
+  pub call-overlaps : le (x .distance) (Ground.zero f) ≡ true → overlapped o ≡ advance f w a b
+  call-overlaps h = rw h at call
+
+  module _ (h : le (x .distance) (Ground.zero f) ≡ false) where
+    pub call-hits : le (x .distance) (high f w) ≡ true → hit t1 x o ≡ advance f w a b
+    call-hits v = rw (h, v) at call
+
+    pub call-goes-on : le (x .distance) (high f w) ≡ false → (g : SeparationFunction) →
+        g ≡ newSeparation f (w .«sweep_a») (w .«sweep_b») a b (x .cache) t1 → pushing f w a b g x t1 (w .«t_max») 0 o ≡ advance f w a b
+    unfolding pushing
+    call-goes-on v g y = rw y (rw (h, v) at call)
+
+-- ---- between two calls: the push-backs of one are left at the time t with no answer; n were the counts before it, and o are they now
+pub record Resumed (f : Format) (w : SweepTask) (a b : List Float) (x : Closest) (t : Float) (n o : Counts) : Type 0 where
+  pub one-call : o .«distance_calls» ≡ n .«distance_calls» + 1
+  pub bounded : Bounded o
+  pub rest : resuming f w a b x t o ≡ advance f w a b
+
+-- u and v are the counts before and after a search
+pub one-call-made : (n u : Counts) {o v : Counts} → v ≡ searched u → u .«distance_calls» ≡ o .«distance_calls» → o ≡ called n →
+    v .«distance_calls» ≡ n .«distance_calls» + 1
+one-call-made n u p q r = rw p (q ∙ rw r)
+
+pub all-pushed : (f : Format) (w : SweepTask) (a b : List Float) (g : SeparationFunction) (x : Closest) (t1 t2 : Float) (p : ℕ) (n : Counts) →
+    p ≡ 8 → pushing f w a b g x t1 t2 p n ≡ advance f w a b → resuming f w a b x t1 n ≡ advance f w a b
+unfolding pushing pushFrom
+all-pushed f w a b g x t1 t2 p n h rest = let y : 8 - p ≡ 0 = omega arith in rw y at rest
+
+module _ {f : Format} {w : SweepTask} {a b : List Float} {x : Closest} {t : Float} {n o : Counts} (made : Resumed f w a b x t n o) where
+  pub last-call : o .«distance_calls» ≡ 20 → failedAt t x o ≡ advance f w a b
+  unfolding after
+  last-call h = let y : 20 - o .«distance_calls» ≡ 0 = omega arith in rw y at (made .rest)
+
+  module _ (not-last : o .«distance_calls» ≡ 20 → ⊥) where
+    pub next-ready : Ready (19 - o .«distance_calls») o
+    next-ready = next-is-ready (19 - o .«distance_calls») (made .bounded) (omega (arith, made .bounded .few-calls, not-last))
+
+    pub next-call : calling f w a b t (x .cache) o ≡ advance f w a b
+    unfolding after calling
+    next-call =
+        let y : 20 - o .«distance_calls» ≡ suc (19 - o .«distance_calls») = omega (arith, made .bounded .few-calls, not-last) in
+        rw y at (made .rest)
+
+pub closest : (f : Format) (w : SweepTask) (a b : List Float) (t : Float) (k : SimplexCache) (pa pb p : Pose) (m : Measurement) →
+    pa ≡ transformAt f (w .«sweep_a») t → pb ≡ transformAt f (w .«sweep_b») t → p ≡ inverseTimes f pa pb →
+    m ≡ measure f p a (w .«radius_a») b (w .«radius_b») false k → closestBy f w pa m ≡ closestAt f w a b t k
+unfolding closestAt
+closest f w a b t k pa pb p m e g h r = rw (r, h, g, e)

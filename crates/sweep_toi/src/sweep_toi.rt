@@ -1,10 +1,10 @@
 // The sweep by conservative advancement: a distance call gives an axis, and a push-back along it brings the time closer to the first contact.
-use crate::checks::check_fraction;
-use crate::checks::check_slop;
-use crate::checks::check_sweeps;
-use crate::checks::number_refusal;
-use crate::checks::sweeps_refusal;
 use distance::proxy_distance::measure;
+use domain::check_fraction;
+use domain::check_pair;
+use domain::check_slop;
+use domain::check_sweeps;
+use domain::refusal;
 use ground::abs;
 use ground::add;
 use ground::inv_mul;
@@ -13,9 +13,7 @@ use ground::rotate_vec;
 use ground::scale;
 use ground::sub;
 use ground::transform_point;
-use model::CheckedNumber;
-use model::CheckedPair;
-use model::CheckedSweeps;
+use model::Checked;
 use model::Closest;
 use model::Contact;
 use model::Counts;
@@ -26,22 +24,25 @@ use model::Sweep;
 use model::SweepAnswer;
 use model::SweepTask;
 use model::Vector;
-use outline::domain::check_pair;
-use outline::domain::pair_refusal;
 use separation::evaluate;
 use separation::find_min_separation;
 use separation::new_separation;
 use separation::shifted;
 use separation::transform_at;
-ghost use mathlib.Core.List.{List};
+ghost use Prim.Native.Nat.{_<_, _≤_, _+_};
 ghost use mathlib.Core.Path.{_≡_};
-ghost use lib.Ieee.{Float, binary32};
-ghost use Rattle.model.specs.Ground as Ground;
+ghost use lib.Ieee.{binary32};
 ghost use Rattle.model.specs.SweepToi as SweepToi;
+
+const MAX_DISTANCE_ITERATIONS: u32 = 20;
+
+const MAX_PUSH_BACK_ITERATIONS: u32 = 8;
+
+const MAX_ROOT_ITERATIONS: u32 = 50;
 
 // What a distance call tells, put into the world by the pose of A: the normal, and the point midway between the two rounded outlines.
 fn in_world(task: SweepTask, xf_a: Pose, measured: Measurement) -> Closest
-    ensures { λ r. ⌜ ((a b : List Float) → r ≡ SweepToi.closestBy binary32 a b task «xf_a» measured) ⌝ }
+    ensures { λ r. ⌜ r ≡ SweepToi.closestBy binary32 task «xf_a» measured ⌝ }
 {
     let normal = rotate_vec(xf_a.rotation, measured.output.normal);
     let point_a = add(
@@ -70,7 +71,7 @@ fn closest_at(
     t: f32,
     cache: SimplexCache,
 ) -> Closest
-    ensures { λ r. ⌜ r ≡ SweepToi.closestAt binary32 (now («points_a» .entry)) (now («points_b» .entry)) task t cache ⌝ }
+    ensures { λ r. ⌜ r ≡ SweepToi.closestAt binary32 task (now («points_a» .entry)) (now («points_b» .entry)) t cache ⌝ }
 {
     let xf_a = transform_at(task.sweep_a, t);
     let xf_b = transform_at(task.sweep_b, t);
@@ -89,7 +90,7 @@ fn closest_at(
 
 // The time that root step n tries: the bracket's middle where n is even, to guarantee progress; the secant where it is odd, to converge.
 fn tried(task: SweepTask, n: u32, a1: f32, a2: f32, s1: f32, s2: f32) -> f32
-    ensures { λ r. ⌜ ((a b : List Float) → r ≡ SweepToi.tried binary32 a b task n a1 a2 s1 s2) ⌝ }
+    ensures { λ r. ⌜ r ≡ SweepToi.tried binary32 task n a1 a2 s1 s2 ⌝ }
 {
     if n % 2 == 1 {
         a1 + (task.target - s1) * (a2 - a1) / (s2 - s1)
@@ -98,9 +99,49 @@ fn tried(task: SweepTask, n: u32, a1: f32, a2: f32, s1: f32, s2: f32) -> f32
     }
 }
 
-// The contact at time t, where the distance call found it.
+// The trail, with one more distance call, one more search, n more root steps.
+fn called(counts: Counts) -> Counts
+    requires { ⌜ counts .«distance_calls» < SweepToi.maxDistanceIterations ⌝ }
+    ensures { λ r. ⌜ r ≡ SweepToi.called counts ⌝ }
+{
+    Counts {
+        distance_calls: counts.distance_calls + 1,
+        searches: counts.searches,
+        root_steps: counts.root_steps,
+    }
+}
+
+fn searched(counts: Counts) -> Counts
+    requires { ⌜ counts .searches < 160 ⌝ }
+    ensures { λ r. ⌜ r ≡ SweepToi.searched counts ⌝ }
+{
+    Counts {
+        distance_calls: counts.distance_calls,
+        searches: counts.searches + 1,
+        root_steps: counts.root_steps,
+    }
+}
+
+fn stepped(counts: Counts, n: u32) -> Counts
+    requires { ⌜ counts .«root_steps» + n ≤ 8000 ⌝ }
+    ensures { λ r. ⌜ r ≡ SweepToi.stepped counts n ⌝ }
+{
+    Counts {
+        distance_calls: counts.distance_calls,
+        searches: counts.searches,
+        root_steps: counts.root_steps + n,
+    }
+}
+
+// The exits: with no place, or with the one that the distance call found.
+fn overlapped(counts: Counts) -> SweepAnswer
+    ensures { λ r. ⌜ r ≡ SweepToi.overlapped counts ⌝ }
+{
+    SweepAnswer::Overlapped(counts)
+}
+
 fn contact_at(t: f32, closest: Closest) -> Contact
-    ensures { λ r. ⌜ r ≡ SweepToi.contact t (closest .point) (closest .normal) ⌝ }
+    ensures { λ r. ⌜ r ≡ SweepToi.there t closest ⌝ }
 {
     let point = closest.point;
     let normal = closest.normal;
@@ -111,9 +152,8 @@ fn contact_at(t: f32, closest: Closest) -> Contact
     }
 }
 
-// Time t, with no place and no normal.
 fn no_contact(t: f32) -> Contact
-    ensures { λ r. ⌜ r ≡ SweepToi.contact t (Ground.origin binary32) (Ground.origin binary32) ⌝ }
+    ensures { λ r. ⌜ r ≡ SweepToi.nowhere binary32 t ⌝ }
 {
     let nowhere = Vector { x: 0.0, y: 0.0 };
     Contact {
@@ -123,20 +163,34 @@ fn no_contact(t: f32) -> Contact
     }
 }
 
-fn tally(distance_calls: u32, searches: u32, root_steps: u32) -> Counts
-    ensures { λ r. ⌜ r ≡ SweepToi.counts «distance_calls» searches «root_steps» ⌝ }
+fn hit(t: f32, closest: Closest, counts: Counts) -> SweepAnswer
+    ensures { λ r. ⌜ r ≡ SweepToi.hit t closest counts ⌝ }
 {
-    Counts {
-        distance_calls,
-        searches,
-        root_steps,
-    }
+    SweepAnswer::Hit(contact_at(t, closest), counts)
+}
+
+fn separated(t: f32, counts: Counts) -> SweepAnswer
+    ensures { λ r. ⌜ r ≡ SweepToi.separated binary32 t counts ⌝ }
+{
+    SweepAnswer::Separated(no_contact(t), counts)
+}
+
+fn failed(t: f32, counts: Counts) -> SweepAnswer
+    ensures { λ r. ⌜ r ≡ SweepToi.failed binary32 t counts ⌝ }
+{
+    SweepAnswer::Failed(no_contact(t), counts)
+}
+
+fn failed_at(t: f32, closest: Closest, counts: Counts) -> SweepAnswer
+    ensures { λ r. ⌜ r ≡ SweepToi.failedAt t closest counts ⌝ }
+{
+    SweepAnswer::Failed(contact_at(t, closest), counts)
 }
 
 // The answer of a task. Three loops inside one another: a distance call gives an axis, the push-backs along it look for the time at which the
 // deepest corners reach the target, and the root search ends with the new t2.
 pub fn advance(task: SweepTask, points_a: &[f32], points_b: &[f32]) -> SweepAnswer
-    ensures { λ r. ⌜ r ≡ SweepToi.advanceFrom binary32 (now («points_a» .entry)) (now («points_b» .entry)) task 19 (Ground.zero binary32) SweepToi.noCorners (SweepToi.counts 0 0 0) ⌝ }
+    ensures { λ r. ⌜ r ≡ SweepToi.advance binary32 task (now («points_a» .entry)) (now («points_b» .entry)) ⌝ }
 {
     let target = task.target;
     let tolerance = task.tolerance;
@@ -146,38 +200,30 @@ pub fn advance(task: SweepTask, points_a: &[f32], points_b: &[f32]) -> SweepAnsw
         index_a: [0; 3],
         index_b: [0; 3],
     };
-    let mut distance_iterations = 0u32;
-    let mut searches = 0u32;
-    let mut root_steps = 0u32;
+    let mut counts = Counts {
+        distance_calls: 0,
+        searches: 0,
+        root_steps: 0,
+    };
     'advance: loop {
         let closest = closest_at(task, points_a, points_b, t1, cache);
         cache = closest.cache;
-        distance_iterations += 1;
+        counts = called(counts);
         if closest.distance <= 0.0 {
-            break 'advance SweepAnswer::Overlapped(tally(
-                distance_iterations,
-                searches,
-                root_steps,
-            ));
+            break 'advance overlapped(counts);
         }
         if closest.distance <= target + tolerance {
-            break 'advance SweepAnswer::Hit(
-                contact_at(t1, closest),
-                tally(distance_iterations, searches, root_steps),
-            );
+            break 'advance hit(t1, closest, counts);
         }
         let fcn = new_separation(cache, points_a, task.sweep_a, points_b, task.sweep_b, t1);
         let mut t2 = task.t_max;
         let mut push_back_iterations = 0u32;
         'push_back: loop {
             let deepest = find_min_separation(fcn, points_a, points_b, t2);
-            searches += 1;
+            counts = searched(counts);
             let mut s2 = deepest.separation;
             if s2 - target > tolerance {
-                break 'advance SweepAnswer::Separated(
-                    no_contact(task.t_max),
-                    tally(distance_iterations, searches, root_steps),
-                );
+                break 'advance separated(task.t_max, counts);
             }
             if s2 >= target - tolerance {
                 t1 = t2;
@@ -193,16 +239,10 @@ pub fn advance(task: SweepTask, points_a: &[f32], points_b: &[f32]) -> SweepAnsw
             );
             // the root search before this one may have run out of steps
             if s1 < target - tolerance {
-                break 'advance SweepAnswer::Failed(
-                    no_contact(t1),
-                    tally(distance_iterations, searches, root_steps),
-                );
+                break 'advance failed(t1, counts);
             }
             if s1 <= target + tolerance {
-                break 'advance SweepAnswer::Hit(
-                    contact_at(t1, closest),
-                    tally(distance_iterations, searches, root_steps),
-                );
+                break 'advance hit(t1, closest, counts);
             }
             let mut a1 = t1;
             let mut a2 = t2;
@@ -222,21 +262,18 @@ pub fn advance(task: SweepTask, points_a: &[f32], points_b: &[f32]) -> SweepAnsw
                     a2 = t;
                     s2 = s;
                 }
-                if root_iteration_count == 50 {
+                if root_iteration_count == MAX_ROOT_ITERATIONS {
                     break t2;
                 }
             };
-            root_steps += root_iteration_count;
+            counts = stepped(counts, root_iteration_count);
             push_back_iterations += 1;
-            if push_back_iterations == 8 {
+            if push_back_iterations == MAX_PUSH_BACK_ITERATIONS {
                 break 'push_back;
             }
         }
-        if distance_iterations == 20 {
-            break 'advance SweepAnswer::Failed(
-                contact_at(t1, closest),
-                tally(distance_iterations, searches, root_steps),
-            );
+        if counts.distance_calls == MAX_DISTANCE_ITERATIONS {
+            break 'advance failed_at(t1, closest, counts);
         }
     }
 }
@@ -250,7 +287,7 @@ fn sweep_task(
     max_fraction: f32,
     linear_slop: f32,
 ) -> SweepTask
-    ensures { λ r. ⌜ ((a b : List Float) → r ≡ SweepToi.sweepTask binary32 a «radius_a» «sweep_a» b «radius_b» «sweep_b» «max_fraction» «linear_slop») ⌝ }
+    ensures { λ r. ⌜ r ≡ SweepToi.sweepTask binary32 «radius_a» «sweep_a» «radius_b» «sweep_b» «max_fraction» «linear_slop» ⌝ }
 {
     let origin = sweep_a.c1;
     let sweep_a = shifted(sweep_a, origin);
@@ -279,24 +316,32 @@ pub fn sweep_time_of_impact(
     max_fraction: f32,
     linear_slop: f32,
 ) -> SweepAnswer
-    ensures { λ r. ⌜ r ≡ SweepToi.sweepTimeOfImpact binary32 (now («points_a» .entry)) «radius_a» «sweep_a» (now («points_b» .entry)) «radius_b» «sweep_b» «max_fraction» «linear_slop» ⌝ }
+    ensures { λ r. ⌜ r ≡ SweepToi.sweepTimeOfImpact binary32 (now («points_a» .entry)) «radius_a» «sweep_a»
+        (now («points_b» .entry)) «radius_b» «sweep_b» «max_fraction» «linear_slop» ⌝ }
 {
     let pair = check_pair(points_a, points_b, radius_a, radius_b);
-    let CheckedPair::Points(_, _) = pair else {
-        return SweepAnswer::Refused(pair_refusal(pair));
+    let Checked::Passed = pair else {
+        return SweepAnswer::Refused(refusal(pair));
     };
     let sweeps = check_sweeps(sweep_a, sweep_b);
-    let CheckedSweeps::Good(good_a, good_b) = sweeps else {
-        return SweepAnswer::Refused(sweeps_refusal(sweeps));
+    let Checked::Passed = sweeps else {
+        return SweepAnswer::Refused(refusal(sweeps));
     };
     let fraction = check_fraction(max_fraction);
-    let CheckedNumber::Good(t_max) = fraction else {
-        return SweepAnswer::Refused(number_refusal(fraction));
+    let Checked::Passed = fraction else {
+        return SweepAnswer::Refused(refusal(fraction));
     };
-    let checked_slop = check_slop(linear_slop);
-    let CheckedNumber::Good(slop) = checked_slop else {
-        return SweepAnswer::Refused(number_refusal(checked_slop));
+    let slop = check_slop(linear_slop);
+    let Checked::Passed = slop else {
+        return SweepAnswer::Refused(refusal(slop));
     };
-    let task = sweep_task(radius_a, good_a, radius_b, good_b, t_max, slop);
+    let task = sweep_task(
+        radius_a,
+        sweep_a,
+        radius_b,
+        sweep_b,
+        max_fraction,
+        linear_slop,
+    );
     advance(task, points_a, points_b)
 }

@@ -1,4 +1,4 @@
-// Words and floats in lent bytes, little-endian. A byte that is missing counts as 0, so every place can be asked.
+// Bytes and words in lent bytes, little-endian. A byte that is missing counts as 0, so every place can be asked.
 ghost use mathlib.Core.Path.{_≡_};
 ghost use Prim.Native.Nat.{_<_};
 ghost use Rattle.model.specs.Wire as Wire;
@@ -28,11 +28,4 @@ pub fn word(bytes: &[u8], k: usize) -> u32
         + wide(byte(rest, 1)) * 256
         + wide(byte(rest, 2)) * 65536
         + wide(byte(rest, 3)) * 16777216
-}
-
-// The float whose pattern that word is.
-pub fn float(bytes: &[u8], k: usize) -> f32
-    ensures { λ r. ⌜ r ≡ Wire.float (now (bytes .entry)) k ⌝ }
-{
-    ground::from_bits(word(bytes, k))
 }

@@ -16,9 +16,7 @@ cache-of-requires c κs =
     (distance-lengths (a .numbers .now) (a .cache .now) (a .out .now) (c .before .before .before .if1 .taken) .1, c .before .if2 .taken)
 
 distance-of-requires : tie.Need-distance-of-requires
-distance-of-requires c κs =
-    let a = c .before .before .before .before .before .before .before .before .before .before .args in
-    distance-lengths (a .numbers .now) (a .cache .now) (a .out .now) (c .before .before .before .before .if1 .taken) .0
+distance-of-requires c κs = search needs
 
 tell-distance-requires : tie.Need-tell-distance-requires
 tell-distance-requires c κs =

@@ -4,32 +4,23 @@ use borrow.Author.Needs.{needs}
 use Rattle.foldflake.proofs.numbers.distance_of.Statement.{statement}
 use Rattle.foldflake.proofs.numbers.distance_of.Tie as tie
 
-rotation-at-requires : tie.Need-rotation-at-requires
-rotation-at-requires c κs = search needs
+point-requires : tie.Need-point-requires
+point-requires c κs = search needs
 
-vector-at-requires : tie.Need-vector-at-requires
-vector-at-requires c κs = search needs
+point-requires-2 : tie.Need-point-requires-2
+point-requires-2 c κs = search needs
 
-shared-slice-read-proxy-distance : tie.Need-shared-slice-read-proxy-distance
-shared-slice-read-proxy-distance c = search needs
-
-shared-slice-read-proxy-distance-2 : tie.Need-shared-slice-read-proxy-distance-2
-shared-slice-read-proxy-distance-2 c = search needs
+point-requires-3 : tie.Need-point-requires-3
+point-requires-3 c κs = search needs
 
 proxy-distance-requires : tie.Need-proxy-distance-requires
 proxy-distance-requires c κs = search needs
 
 returns : tie.Need-returns
 unfolding distanceFor
-returns c = rw (← c .before .before .before .before .rotation-at .ensures, ← c .before .before .before .vector-at .ensures) (c .proxy-distance .ensures)
+returns c = rw (c .proxy-distance .ensures, c .before .point3 .ensures, c .before .before .point2 .ensures, c .before .before .before .point .ensures)
 
 pub distance-of-spec : {M : Type 1} → statement M
 distance-of-spec =
     tie.close
-    (tie.spec
-    rotation-at-requires
-    vector-at-requires
-    shared-slice-read-proxy-distance
-    shared-slice-read-proxy-distance-2
-    proxy-distance-requires
-    returns)
+    (tie.spec point-requires point-requires-2 point-requires-3 proxy-distance-requires returns)

@@ -1,4 +1,0 @@
-mod Pasted
-mod Digits
-mod Pieces
-mod Parts

@@ -1,9 +1,0 @@
-// The lines of the sheet, written into lent bytes.
-mod answer;
-mod part;
-mod put;
-mod write;
-
-pub use part::Written;
-pub use part::write_blocks;
-pub use part::write_ending;

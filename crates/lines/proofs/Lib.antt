@@ -1,0 +1,5 @@
+mod Pasted
+mod Digits
+mod Pieces
+mod Parts
+pub mod Run

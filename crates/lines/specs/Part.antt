@@ -1,0 +1,68 @@
+-- A part of the input worked into lent bytes: what there is room for, what is written, and whether it was the last part.
+use mathlib.Core.Path.{_≡_}
+use Prim.Native.Nat.{ℕ, _+_, _/_, _<_}
+use mathlib.Core.Bool.{Bool, true, _&&_, cond}
+use mathlib.Core.List.{List, [], _∷_, _++_}
+use lib.Dec.{ltb, leb}
+use lib.Ieee.{binary32}
+use lib.ListN.{length}
+use Rattle.model.specs.declared.BlockAnswer.{BlockAnswer}
+use Rattle.model.specs.declared.Totals.{Totals}
+use Rattle.model.specs.Block.{blockSize}
+use Rattle.model.specs.Sheet.{answers, answerLine, totalsFrom, partText}
+
+-- no line is longer: two numbers of 20 digits, four floats more than one of eight, the status, three counts, and what stands between
+abbrev pub longestLine : ℕ
+longestLine = 160
+
+-- totals below this can be counted on through any part without wrapping
+abbrev pub countLimit : ℕ
+countLimit = 0x8000_0000_0000_0000
+
+-- a shorter part is the last one
+abbrev pub partSize : ℕ
+partSize = 65536
+
+-- ---- one answer
+abbrev pub lineFor : ℕ → BlockAnswer → ℕ → List ℕ
+lineFor n x room = cond (ltb room longestLine) [] (answerLine binary32 n x)
+
+-- ---- a part
+-- every total is below n
+pub record Below (n : ℕ) (t : Totals) : Type 0 where
+  pub blocks : t .blocks < n
+  pub clear : t .clear < n
+  pub contact : t .contact < n
+  pub refused : t .refused < n
+
+abbrev pub countable : Totals → Bool
+countable t = ltb (t .blocks) countLimit && ltb (t .clear) countLimit && ltb (t .contact) countLimit && ltb (t .refused) countLimit
+
+-- room for a line of each block, of a rest and of the totals
+abbrev pub fits : ℕ → ℕ → Totals → Bool
+fits size room t = leb (size / blockSize + 2) (room / longestLine) && countable t
+
+abbrev pub isLast : List ℕ → Bool
+isLast part = ltb (length part) partSize
+
+-- where there is no room nothing is written or counted, and the run is over
+module _ (t : Totals) (part : List ℕ) (room : ℕ) where
+  abbrev pub textFor : List ℕ
+  textFor = cond (fits (length part) room t) (partText binary32 t part (isLast part)) []
+
+  abbrev pub totalsFor : Totals
+  totalsFor = cond (fits (length part) room t) (totalsFrom t (answers binary32 part)) t
+
+  abbrev pub lastFor : Bool
+  lastFor = cond (fits (length part) room t) (isLast part) true
+
+-- ---- a run over parts, with that room for each: it ends with the part that was the last
+unfoldable pub run : ℕ → Totals → List (List ℕ) → List ℕ
+run room t [] = []
+run room t (p ∷ ps) = textFor t p room ++ cond (lastFor t p room) [] (run room (totalsFor t p room) ps)
+
+-- all parts are whole but the last, which is shorter
+unfoldable pub Cut : List (List ℕ) → Type 0
+Cut [] = ⊥
+Cut (p ∷ []) = length p < partSize
+Cut (p ∷ q ∷ r) = (length p ≡ partSize) × Cut (q ∷ r)

@@ -1,0 +1,123 @@
+//! The safe face against answers worked out by hand or listed in README.md.
+use foldflake::{distance, line, root, sweep, Cache, Ending, Move, Refusal, Sweep};
+
+const SQUARE: [f32; 8] = [-1.0, -1.0, 1.0, -1.0, 1.0, 1.0, -1.0, 1.0];
+const POINT: [f32; 2] = [0.0, 0.0];
+const WALL: [f32; 8] = [0.0, -20.0, 4.0, -20.0, 4.0, 20.0, 0.0, 20.0];
+
+fn still(x: f32, y: f32) -> Move {
+    Move { local_center: [0.0; 2], first: [x, y], last: [x, y], first_rotation: [1.0, 0.0], last_rotation: [1.0, 0.0] }
+}
+
+fn goes(from: [f32; 2], to: [f32; 2]) -> Move {
+    Move { first: from, last: to, ..still(0.0, 0.0) }
+}
+
+#[test]
+fn root_is_the_processors() {
+    for bits in [0x4080_0000u32, 0x4000_0000, 1, 0x7f7f_ffff, 0x8000_0000, 0x7f80_0000, 0x3f80_0001] {
+        let x = f32::from_bits(bits);
+        assert_eq!(root(x).to_bits(), x.sqrt().to_bits(), "{bits:08X}");
+    }
+}
+
+/// README's example: job 7, a point goes from (4, 0) to a point at (0, 0).
+fn example_block() -> [u8; 512] {
+    let mut words = [0u32; 128];
+    words[0] = 7;
+    words[1] = 0x0101;
+    for (place, x) in [(4, 1.0f32), (5, 0.5), (12, 1.0), (14, 1.0), (18, 4.0), (22, 1.0), (24, 1.0)] {
+        words[place] = x.to_bits();
+    }
+    words[127] = !words.iter().fold(0u32, |sum, w| sum.wrapping_add(*w));
+    assert_eq!(words[127], 0x42ff_fef7);
+    let mut block = [0u8; 512];
+    block.chunks_mut(4).zip(&words).for_each(|(place, w)| place.copy_from_slice(&w.to_le_bytes()));
+    block
+}
+
+#[test]
+fn a_block_has_its_line() {
+    let block = example_block();
+    let text = line(1, &block).unwrap();
+    assert!(text.starts_with("1 7 0 H 3F600000 3E800000 00000000 3F800000 00000000 2 2 2"), "{text}");
+    assert!(line(u64::MAX, &block).is_none() && line(0, &block).is_none());
+    assert!(line(1 << 63, &block).unwrap().starts_with("9223372036854775808 7 0 H "));
+    let mut damaged = block;
+    damaged[3] ^= 1;
+    assert_eq!(line(2, &damaged).unwrap(), "2 0 10\n");
+}
+
+#[test]
+fn every_refusal_of_a_sweep() {
+    let stands = still(4.0, 0.0);
+    let by = |a: &[f32], b: &[f32], radius, m: &Move, fraction, slop| sweep(a, radius, m, b, 0.0, &stands, fraction, slop);
+    let m = goes([0.0, 0.0], [4.0, 0.0]);
+    let far = [1_048_576.125, 0.0];
+    assert_eq!(by(&[], &SQUARE, 0.0, &m, 1.0, 0.01), Err(Refusal(1)));
+    assert_eq!(by(&SQUARE, &[0.0; 3], 0.0, &m, 1.0, 0.01), Err(Refusal(2)));
+    assert_eq!(by(&[0.0; 130], &SQUARE, 0.0, &m, 1.0, 0.01), Err(Refusal(1)));
+    assert_eq!(by(&far, &SQUARE, 0.0, &m, 1.0, 0.01), Err(Refusal(3)));
+    assert_eq!(by(&SQUARE, &SQUARE, -1.0, &m, 1.0, 0.01), Err(Refusal(4)));
+    assert_eq!(by(&SQUARE, &SQUARE, 0.0, &Move { last_rotation: [1.0, 1.0], ..m }, 1.0, 0.01), Err(Refusal(5)));
+    assert_eq!(by(&SQUARE, &SQUARE, 0.0, &Move { last: far, ..m }, 1.0, 0.01), Err(Refusal(6)));
+    assert_eq!(by(&SQUARE, &SQUARE, 0.0, &m, f32::NAN, 0.01), Err(Refusal(7)));
+    assert_eq!(by(&SQUARE, &SQUARE, 0.0, &m, 1.0, 0.0), Err(Refusal(8)));
+    assert!(matches!(by(&[0.0; 128], &SQUARE, 0.0, &m, 1.0, 0.01), Ok(Sweep::Hit(..))));
+}
+
+#[test]
+fn a_refusal_is_an_error_that_says_why() {
+    let told: Vec<String> = (1..=8).map(|n| Refusal(n).to_string()).collect();
+    assert!(told.iter().enumerate().all(|(i, text)| text.starts_with(&format!("refused by {}: ", i + 1))));
+    let error: Box<dyn std::error::Error> = Refusal(8).into();
+    assert_eq!(error.to_string(), "refused by 8: the slop is not above 0, above 1048576, or not a number");
+}
+
+#[test]
+fn every_status() {
+    let by = |m: &Move, b: &Move| sweep(&SQUARE, 0.0, m, &SQUARE, 0.0, b, 1.0, 0.01);
+    assert!(matches!(by(&goes([0.0, 0.0], [4.0, 0.0]), &still(4.0, 0.0)), Ok(Sweep::Hit(..))));
+    assert!(matches!(by(&goes([0.0, 0.0], [0.0, 9.0]), &still(4.0, 0.0)), Ok(Sweep::Separated(..))));
+    assert!(matches!(by(&still(3.5, 0.5), &still(4.0, 0.0)), Ok(Sweep::Overlapped(_))));
+    // a half turn has no direction: the search gives up
+    let half = Move { last_rotation: [-1.0, 0.0], ..still(0.0, 0.0) };
+    let gave_up = sweep(&SQUARE.map(|x| 5.0 * x), 0.0, &half, &WALL, 0.0, &still(6.0, 0.0), 1.0, 0.005);
+    assert!(matches!(gave_up, Ok(Sweep::Failed(_, counts)) if counts.distance_calls == 20 && counts.searches == 160 && counts.root_steps == 8000));
+}
+
+/// What `Separated` does not see: the second is a bar that would sweep through the point whichever way it turned.
+#[test]
+fn separated_does_not_clear_a_turn() {
+    let big = SQUARE.map(|x| 5.0 * x);
+    let turned = |degrees: f32| [degrees.to_radians().cos(), degrees.to_radians().sin()];
+    let kind = |from: f32, to: f32| {
+        let turns = Move { first_rotation: turned(from), last_rotation: turned(to), ..still(0.0, 0.0) };
+        match sweep(&big, 0.0, &turns, &WALL, 0.0, &still(6.0, 0.0), 1.0, 0.005).unwrap() {
+            Sweep::Separated(..) => 'S',
+            Sweep::Hit(..) => 'H',
+            Sweep::Overlapped(_) => 'O',
+            Sweep::Failed(..) => 'F',
+        }
+    };
+    assert_eq!(kind(0.0, 90.0), 'S');
+    let steps: String = (0..9).map(|i| kind(10.0 * i as f32, 10.0 * (i + 1) as f32)).collect();
+    assert_eq!(steps, "SHOOOOOOS");
+    let half = Move { last_rotation: [-1.0, 0.0], ..still(0.0, 0.0) };
+    assert!(matches!(sweep(&[0.0, 0.0, 4.0, 0.0], 0.0, &half, &POINT, 0.0, &still(0.0, 3.0), 1.0, 0.005), Ok(Sweep::Separated(..))));
+}
+
+#[test]
+fn a_distance_call_and_its_cache() {
+    let mut cache = Cache::default();
+    let measured = distance([1.0, 0.0], [4.0, 0.0], &SQUARE, 0.0, &SQUARE, 0.0, false, &mut cache).unwrap();
+    assert_eq!((measured.distance, measured.normal, measured.ending), (2.0, [1.0, 0.0], Ending::Settled));
+    assert!((1..=3).contains(&cache.count));
+    let kept = cache;
+    assert_eq!(distance([1.0, 0.0], [0.5, 0.5], &SQUARE, 0.0, &SQUARE, 0.0, false, &mut cache).unwrap().ending, Ending::Touching);
+    assert_eq!(cache, kept, "touching leaves the cache");
+    assert_eq!(distance([1.0, 0.0], [f32::INFINITY, 0.0], &SQUARE, 0.0, &SQUARE, 0.0, false, &mut cache), Err(Refusal(6)));
+    assert_eq!(cache, kept, "a refusal leaves the cache");
+    let mut wild = Cache { count: 255, index_a: [u32::MAX; 3], index_b: [7, 8, 9] };
+    assert_eq!(distance([1.0, 0.0], [3.0, 4.0], &POINT, 0.0, &POINT, 0.0, false, &mut wild).unwrap().distance, 5.0);
+}
