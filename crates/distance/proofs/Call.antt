@@ -16,15 +16,17 @@ use Rattle.model.specs.declared.ProxyDistanceOutput.{ProxyDistanceOutput}
 use Rattle.model.specs.declared.Measurement.{Measurement}
 use Rattle.model.specs.declared.DistanceAnswer.the-variants.{Measured, Refused}
 use Rattle.model.specs.declared.Distance.{Distance}
-use Rattle.model.specs.declared.CheckedPair.{CheckedPair}
-use Rattle.model.specs.declared.CheckedPair.the-variants as CheckedPair
+use Rattle.model.specs.declared.Checked.{Checked}
+use Rattle.model.specs.declared.Checked.the-variants as Checked
 use Rattle.model.specs.declared.CheckedPose.{CheckedPose}
 use Rattle.model.specs.declared.CheckedPose.the-variants as CheckedPose
 use Rattle.model.specs.Ground.{origin}
 use Rattle.model.specs.Ground as Ground
-use Rattle.model.specs.Domain.{pairRefusal, poseRefusal, orElse, pairBy, poseBy, checkedPair, checkedPose}
+use Rattle.model.specs.Domain.{pairRefusal, poseRefusal, orElse, checked, checkedPose, refusalOfPose}
+use Rattle.model.specs.Domain.{refusal as numberOf}
 use Rattle.model.specs.Distance.{written, rounds, witnessPoints, output, apart, measuredBy, cacheBy, measuredFrom, measure, distanceBy, proxyDistance}
-use Rattle.outline.specs.Refusal.{ofPair, ofPose}
+use Rattle.model.proofs.Domain.{passed, refused, pose-passed}
+use Rattle.model.proofs.Domain as Domain
 
 abbrev measurement : ProxyDistanceOutput → SimplexCache → Measurement
 measurement o k = record { output = o; cache = k }
@@ -64,44 +66,28 @@ module _ (f : Format) (p : Pose) (a : List Float) (ra : Float) (b : List Float) 
   abbrev by : ℕ → Distance
   by k = distanceBy f p a ra b rb radii c k
 
-  pair-refused-by : (k m na nb n : ℕ) → pairBy k na nb ≡ CheckedPair.Refused n → refusal n c ≡ by (orElse k m)
-  pair-refused-by zero m na nb n e = absurd (let z : _≡_ {A = ℕ} 0 1 = cc in omega arith)
-  pair-refused-by (suc k) m na nb n e = let same : n ≡ suc k = cc in rw same
+  -- what the pair's number gives before the pose's
+  abbrev first : ℕ → Distance
+  first k = by (orElse k (poseRefusal f p))
 
-  pair-passed : (k na nb x y : ℕ) → pairBy k na nb ≡ CheckedPair.Points x y → k ≡ 0
-  pair-passed zero na nb x y e = refl
-  pair-passed (suc k) na nb x y e = absurd (let z : _≡_ {A = ℕ} 0 1 = cc in omega arith)
+  abbrev refuse : ℕ → Distance
+  refuse n = refusal n c
 
-  pose-refused-by : (k n : ℕ) → poseBy k p ≡ CheckedPose.Refused n → refusal n c ≡ by k
-  pose-refused-by zero n e = absurd (let z : _≡_ {A = ℕ} 0 1 = cc in omega arith)
-  pose-refused-by (suc k) n e = let same : n ≡ suc k = cc in rw same
+  module _ (x : Checked) (ex : x ≡ checked (pairRefusal f a b ra rb)) where
+    pub pair-refused : (n : ℕ) → x ≡ Checked.Refused n → (m : ℕ) → m ≡ numberOf x → refusal m c ≡ proxyDistance f p a ra b rb radii c
+    unfolding proxyDistance
+    pair-refused = refused first refuse (λ n. refl) (pairRefusal f a b ra rb) x ex
 
-  pose-passed : (k : ℕ) (q : Pose) → poseBy k p ≡ CheckedPose.Good q → (k ≡ 0) × (q ≡ p)
-  pose-passed zero q e = (refl, cc)
-  pose-passed (suc k) q e = absurd (let z : _≡_ {A = ℕ} 0 1 = cc in omega arith)
-
-  module _ (x : CheckedPair) (ex : x ≡ checkedPair f a b ra rb) where
-    pub pair-refused : (n : ℕ) → x ≡ CheckedPair.Refused n → (m : ℕ) → m ≡ ofPair x → refusal m c ≡ proxyDistance f p a ra b rb radii c
-    unfolding checkedPair proxyDistance
-    pair-refused n g m em = rw (em ∙ ap ofPair g) (pair-refused-by (pairRefusal f a b ra rb) (poseRefusal f p) _ _ n (sym ex ∙ g))
-
-    module _ (na nb : ℕ) (good : x ≡ CheckedPair.Points na nb) where
-      passed : pairRefusal f a b ra rb ≡ 0
-      unfolding checkedPair
-      passed = pair-passed (pairRefusal f a b ra rb) _ _ na nb (sym ex ∙ good)
-
-      call-is : by (poseRefusal f p) ≡ proxyDistance f p a ra b rb radii c
+    module _ (good : x ≡ Checked.Passed) (y : CheckedPose) (ey : y ≡ checkedPose (checked (poseRefusal f p)) p) where
+      after-pair : by (poseRefusal f p) ≡ proxyDistance f p a ra b rb radii c
       unfolding proxyDistance
-      call-is = ap (λ (k : ℕ). by (orElse k (poseRefusal f p))) (sym passed)
+      after-pair = passed first refuse (λ n. refl) (pairRefusal f a b ra rb) x ex good
 
-      module _ (y : CheckedPose) (ey : y ≡ checkedPose f p) where
-        pub pose-refused : (n : ℕ) → y ≡ CheckedPose.Refused n → (m : ℕ) → m ≡ ofPose y → refusal m c ≡ proxyDistance f p a ra b rb radii c
-        unfolding checkedPose
-        pose-refused n g m em = rw (em ∙ ap ofPose g) (pose-refused-by (poseRefusal f p) n (sym ey ∙ g) ∙ call-is)
+      pub pose-refused : (n : ℕ) → y ≡ CheckedPose.Refused n → (m : ℕ) → m ≡ refusalOfPose y → refusal m c ≡ proxyDistance f p a ra b rb radii c
+      pose-refused n g m em = Domain.pose-refused by refuse (λ n. refl) (poseRefusal f p) p y ey n g m em ∙ after-pair
 
-        pub both-passed : (q : Pose) → y ≡ CheckedPose.Good q → (m : Measurement) → m ≡ measure f q a ra b rb radii c →
-            answered (m .output) (m .cache) ≡ proxyDistance f p a ra b rb radii c
-        unfolding checkedPose
-        both-passed q g m em =
-            let pose = pose-passed (poseRefusal f p) q (sym ey ∙ g) in
-            rw (em, pose .1) (ap by (sym (pose .0)) ∙ call-is)
+      pub both-passed : (q : Pose) → y ≡ CheckedPose.Good q → (m : Measurement) → m ≡ measure f q a ra b rb radii c →
+          answered (m .output) (m .cache) ≡ proxyDistance f p a ra b rb radii c
+      both-passed q g m em =
+          let (goes-on, same) = pose-passed by refuse (λ n. refl) (poseRefusal f p) p y ey q g in
+          rw (em, same) (goes-on ∙ after-pair)

@@ -1,5 +1,3 @@
 // The distance between two outlines, started from a cache of corner pairs.
 mod cache;
 pub mod proxy_distance;
-
-pub use cache::cache_is_valid;

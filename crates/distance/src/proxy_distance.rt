@@ -2,6 +2,10 @@
 // comes again or the outlines touch. All is done in the frame of A.
 use crate::cache::cache_is_valid;
 use crate::cache::write_cache;
+use domain::check_pair;
+use domain::check_pose;
+use domain::pose_refusal;
+use domain::refusal;
 use ground::add;
 use ground::distance;
 use ground::dot;
@@ -12,7 +16,7 @@ use ground::normalize_or_zero;
 use ground::scale;
 use ground::sub;
 use ground::transform_point;
-use model::CheckedPair;
+use model::Checked;
 use model::CheckedPose;
 use model::Distance;
 use model::DistanceAnswer;
@@ -25,10 +29,6 @@ use model::SimplexCache;
 use model::SimplexVertex;
 use model::Vector;
 use model::WitnessPoints;
-use outline::domain::check_pair;
-use outline::domain::check_pose;
-use outline::domain::pair_refusal;
-use outline::domain::pose_refusal;
 use outline::point;
 use outline::support_index;
 use simplex::solve;
@@ -303,8 +303,8 @@ pub fn proxy_distance(
     ensures { λ r. ⌜ r ≡ Model.proxyDistance binary32 pos12 (now («points_a» .entry)) «radius_a» (now («points_b» .entry)) «radius_b» «use_radii» cache ⌝ }
 {
     let pair = check_pair(points_a, points_b, radius_a, radius_b);
-    let CheckedPair::Points(_, _) = pair else {
-        let number = pair_refusal(pair);
+    let Checked::Passed = pair else {
+        let number = refusal(pair);
         return Distance {
             answer: DistanceAnswer::Refused(number),
             cache,

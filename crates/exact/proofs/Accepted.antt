@@ -5,7 +5,7 @@ use mathlib.Core.List.{List, [], _∷_}
 use Prim.Native.Nat.{ℕ, zero, suc, _*_, _/_, _%_, _≤_, _<_, suc-le-suc}
 use native.Mathlib.Nat.{zero-lt-suc, one-mul}
 use native.Mathlib.Omega.{arith}
-use lib.Dec.{T, eqb, ltb, eqb→eq, ltb→lt, nltb→le}
+use borrow.Author.Tests.{lt-ltb, le-ltb, ne-eqb}
 use lib.ListN.{length, getD}
 use lib.Ieee.{Float, nan, inf, fin, Format, binary32, binary64, ofBits, up, down}
 use lib.Ieee as I
@@ -24,37 +24,9 @@ use Rattle.exact.specs.SquaredPaper.{IsPoint, Near, SquaredPaper, Fits, 
 use Rattle.exact.proofs.Paper.{Small, cosine-is, sine-is, turn-small, add-small}
 use Rattle.exact.proofs.Answered.{abs-whole, limit-whole}
 
--- ---- tests that come out
-passes : (m n : ℕ) → m < n → ltb m n ≡ true
-passes m n h = go (ltb m n) (nltb→le m n)
-  where
-    go : (t : Bool) → (T (not t) → n ≤ m) → t ≡ true
-    go true g = refl
-    go false g = absurd (clash (g tt))
-      where
-        clash : n ≤ m → ⊥
-        clash l = omega arith
-
-fails : (m n : ℕ) → n ≤ m → ltb m n ≡ false
-fails m n h = go (ltb m n) (ltb→lt m n)
-  where
-    go : (t : Bool) → (T t → m < n) → t ≡ false
-    go false g = refl
-    go true g = absurd (clash (g tt))
-      where
-        clash : m < n → ⊥
-        clash l = omega arith
-
-differ : (m n : ℕ) → (m ≡ n → ⊥) → eqb m n ≡ false
-differ m n h = go (eqb m n) (eqb→eq m n)
-  where
-    go : (t : Bool) → (T t → m ≡ n) → t ≡ false
-    go false g = refl
-    go true g = absurd (h (g tt))
-
 -- ---- an outline's length
 good-length : (s : List Float) → Fits s → badOutline s ≡ false
-good-length s h = rw (differ (length s) 0 (λ e. not-empty e), differ (length s % 2) 1 (λ e. not-odd e), fails 128 (length s) (h .few))
+good-length s h = rw (ne-eqb (length s) 0 not-empty, ne-eqb (length s % 2) 1 not-odd, le-ltb 128 (length s) (h .few))
   where
     not-empty : length s ≡ 0 → ⊥
     not-empty e = omega (arith, h .some)
@@ -134,8 +106,8 @@ around-one f (fin s m e) z i h = at f (subst (λ (t : Bool). t ≡ false) (sym (
 
     at : (f : Format) → s ≡ false → m * up e ≡ down e
         → (I.le (constant f 0x3f7c_0000 0x3fef_8000_0000_0000) (fin s m e) ≡ true) × (I.le (fin s m e) (constant f 0x3f82_0000 0x3ff0_4000_0000_0000) ≡ true)
-    at binary32 p q = let d = down-pos e in rw (p, q) (rw (passes (63 * 1 * down e) (down e * 64) (omega arith)) refl, rw (passes (down e * 64) (65 * 1 * down e) (omega arith)) refl)
-    at binary64 p q = let d = down-pos e in rw (p, q) (rw (passes (63 * 1 * down e) (down e * 64) (omega arith)) refl, rw (passes (down e * 64) (65 * 1 * down e) (omega arith)) refl)
+    at binary32 p q = let d = down-pos e in rw (p, q) (rw (lt-ltb (63 * 1 * down e) (down e * 64) (omega arith)) refl, rw (lt-ltb (down e * 64) (65 * 1 * down e) (omega arith)) refl)
+    at binary64 p q = let d = down-pos e in rw (p, q) (rw (lt-ltb (63 * 1 * down e) (down e * 64) (omega arith)) refl, rw (lt-ltb (down e * 64) (65 * 1 * down e) (omega arith)) refl)
 
 quarter-turn-accepted : (f : Format) {bound : ℕ} {p : Pose} {a b : List Float} (paper : SquaredPaper bound p a b) → badRotation f (p .rotation) ≡ false
 quarter-turn-accepted f {p = p} paper =

@@ -5,7 +5,8 @@ use mathlib.Core.List.{List, [], _∷_}
 use Prim.Native.Nat.{ℕ, zero, suc, _+_, _*_, _/_, _%_, _≤_, _<_}
 use native.Mathlib.Nat.{not-suc-le-zero, le-of-suc-le-suc}
 use native.Mathlib.Omega.{arith}
-use lib.Dec.{T, eqb, ltb, nltb→le, eqb-refl}
+use borrow.Author.Tests.{eqb-false, ltb-false}
+use lib.Dec.{eqb, ltb}
 use lib.ListN.{length, getD}
 use lib.Ieee.{Float, nan, inf, fin, Format, binary32, binary64, ofBits}
 use lib.Ieee as I
@@ -15,38 +16,18 @@ use Rattle.integers.proofs.Compare.{le-exact}
 use Rattle.model.specs.declared.Pose.{Pose}
 use Rattle.model.specs.Ground.{abs}
 use Rattle.model.specs.Domain.{badOutline, limit, badPart, badParts, badRotation, badVector, pairRefusal, poseRefusal, orElse}
+use Rattle.model.proofs.Domain.{test-passed, neither-refused}
+use Rattle.model.proofs.DistanceCall.{neither}
 use Rattle.exact.specs.SquaredPaper.{SquaredPaper}
 use Rattle.exact.proofs.Paper.{InDomain}
-
--- ---- nothing is refused
-none-of : (s t : Bool) → (s || t) ≡ false → (s ≡ false) × (t ≡ false)
-none-of true t h = absurd (true≢false h)
-none-of false t h = (refl, h)
-
-passed : (t : Bool) (n m : ℕ) → cond t (suc n) m ≡ 0 → (t ≡ false) × (m ≡ 0)
-passed true n m h = absurd (clash h)
-  where
-    clash : suc n ≡ 0 → ⊥
-    clash h = omega arith
-passed false n m h = (refl, h)
-
-neither : (m n : ℕ) → orElse m n ≡ 0 → (m ≡ 0) × (n ≡ 0)
-neither zero n h = (refl, h)
-neither (suc m) n h = absurd (clash h)
-  where
-    clash : suc m ≡ 0 → ⊥
-    clash h = omega arith
 
 -- ---- an outline's length
 good-outline : (s : List Float) → badOutline s ≡ false → (0 < length s / 2) × (length s ≤ 128)
 good-outline s h =
-    let (first, long) = none-of (eqb (length s) 0 || eqb (length s % 2) 1) (ltb 128 (length s)) h in
-    let (empty, odd) = none-of (eqb (length s) 0) (eqb (length s % 2) 1) first in
-    sized (length s) (λ e. differs (length s) 0 empty e) (λ e. differs (length s % 2) 1 odd e) (nltb→le 128 (length s) (subst (λ (t : Bool). T (not t)) (sym long) tt))
+    let (first, long) = neither (eqb (length s) 0 || eqb (length s % 2) 1) (ltb 128 (length s)) h in
+    let (empty, odd) = neither (eqb (length s) 0) (eqb (length s % 2) 1) first in
+    sized (length s) (eqb-false (length s) 0 empty) (eqb-false (length s % 2) 1 odd) (ltb-false 128 (length s) long)
   where
-    differs : (m n : ℕ) → eqb m n ≡ false → m ≡ n → ⊥
-    differs m n h e = subst T h (subst (λ (k : ℕ). T (eqb m k)) e (eqb-refl m))
-
     sized : (n : ℕ) → (n ≡ 0 → ⊥) → (n % 2 ≡ 1 → ⊥) → n ≤ 128 → (0 < n / 2) × (n ≤ 128)
     sized zero h k l = absurd (h refl)
     sized (suc zero) h k l = absurd (k refl)
@@ -79,21 +60,21 @@ module _ (f : Format) where
   good-parts : (s : List Float) (i : ℕ) → badParts f s ≡ false → i < length s → badPart f (getD s i nan) ≡ false
   unfolding badParts
   good-parts [] i h l = absurd (not-suc-le-zero l)
-  good-parts (x ∷ s) zero h l = none-of (badPart f x) (badParts f s) h .0
-  good-parts (x ∷ s) (suc i) h l = good-parts s i (none-of (badPart f x) (badParts f s) h .1) (le-of-suc-le-suc l)
+  good-parts (x ∷ s) zero h l = neither (badPart f x) (badParts f s) h .0
+  good-parts (x ∷ s) (suc i) h l = good-parts s i (neither (badPart f x) (badParts f s) h .1) (le-of-suc-le-suc l)
 
 -- ---- the inputs
 pub answered-in-domain : (f : Format) {bound : ℕ} {p : Pose} {a b : List Float} (ra rb : Float) (paper : SquaredPaper bound p a b)
     → orElse (pairRefusal f a b ra rb) (poseRefusal f p) ≡ 0 → InDomain paper
 answered-in-domain f {p = p} {a} {b} ra rb paper h =
-    let (pairs, poses) = neither (pairRefusal f a b ra rb) (poseRefusal f p) h in
-    let (goodA, rest) = passed (badOutline a) 0 _ pairs in
-    let (goodB, rest') = passed (badOutline b) 1 _ rest in
-    let (goodParts, _) = passed (badParts f a || badParts f b) 2 _ rest' in
-    let (_, partsB) = none-of (badParts f a) (badParts f b) goodParts in
-    let (_, moves) = passed (badRotation f (p .rotation)) 4 _ poses in
-    let (goodShift, _) = passed (badVector f (p .translation)) 5 _ moves in
-    let (goodX, goodY) = none-of (badPart f (p .translation .x)) (badPart f (p .translation .y)) goodShift in
+    let (pairs, poses) = neither-refused (pairRefusal f a b ra rb) (poseRefusal f p) h in
+    let (goodA, rest) = test-passed (badOutline a) 0 _ pairs in
+    let (goodB, rest') = test-passed (badOutline b) 1 _ rest in
+    let (goodParts, _) = test-passed (badParts f a || badParts f b) 2 _ rest' in
+    let (_, partsB) = neither (badParts f a) (badParts f b) goodParts in
+    let (_, moves) = test-passed (badRotation f (p .rotation)) 4 _ poses in
+    let (goodShift, _) = test-passed (badVector f (p .translation)) 5 _ moves in
+    let (goodX, goodY) = neither (badPart f (p .translation .x)) (badPart f (p .translation .y)) goodShift in
     let (someA, fewA) = good-outline a goodA in
     let (someB, fewB) = good-outline b goodB in
     record {

@@ -15,7 +15,7 @@ ghost use Rattle.foldflake.specs.Entry.{LineTold, SweepTold, DistanceTol
 pub extern "C" fn foldflake_root(x: f32) -> f32
     ensures { λ r. ⌜ Rooted binary32 x r ⌝ }
 {
-    ground::root(x)
+    root::root(x)
 }
 
 // The line of a block as block `number` of a file, at the start of out, and its length. 0, and nothing written, where the block has not 512

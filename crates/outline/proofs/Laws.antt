@@ -1,19 +1,23 @@
--- What the loops over an outline meet at the place they have reached: one more point, one more part, or the end. Assumes nothing.
+-- What the loop over an outline's points meets at the place it has reached: one more point, or the end; and the two endings of `support`.
+-- Assumes nothing.
 use Prim.Native.Nat.{ℕ, suc, _+_, _*_, _/_, _<_, _≤_}
 use native.Mathlib.Omega.{arith}
 use native.Mathlib.Numerals.{add-one}
-use mathlib.Core.Bool.{Bool, true, false, _||_, cond}
+use mathlib.Core.Bool.{cond}
 use mathlib.Core.List.{List, [], _∷_}
 use mathlib.Core.Path.{_≡_, refl}
 use lib.Ieee.{Float, nan, Format, lt}
-use lib.ListN.{getD, drop, length, length-drop, drop-of-length-le}
+use lib.ListN.{getD, drop, length, length-drop}
 use lib.Seq.{drop-cons}
 use Rattle.model.specs.declared.Vector.{Vector}
 use Rattle.model.specs.Ground.{vector, minus, dot}
-use Rattle.model.specs.Domain.{badPart, badParts}
-use Rattle.model.specs.Support.{point, supportFrom}
+use Rattle.model.specs.declared.Checked.{Checked}
+use Rattle.model.specs.declared.Checked.the-variants.{Passed, Refused}
+use Rattle.model.specs.declared.SupportAnswer.the-variants as SupportAnswer
+use Rattle.model.specs.Domain.{outlineRefusal, checked, refusal}
+use Rattle.model.specs.Support.{point, supportFrom, support, supportBy, supportAnswer}
+use Rattle.model.proofs.Domain.{passed, refused}
 
--- ---- the support loop, at point i
 at-point : (s : List Float) (i : ℕ) → 2 * i + 1 < length s → drop (2 * i) s ≡ getD s (2 * i) nan ∷ getD s (2 * i + 1) nan ∷ drop (2 * (i + 1)) s
 at-point s i h =
     let first : drop (2 * i) s ≡ getD s (2 * i) nan ∷ drop (suc (2 * i)) s = drop-cons s (2 * i) nan (omega arith) in
@@ -40,11 +44,11 @@ pub support-stop : (f : Format) (d o : Vector) (s : List Float) (i best : ℕ) (
     supportFrom f d o (drop (2 * i) s) i best value ≡ best
 support-stop f d o s i best value h = short f d o (drop (2 * i) s) i best value (rw (length-drop (2 * i) s) (omega arith))
 
--- ---- the loop over the parts, at part i
-pub parts-step : (f : Format) (s : List Float) (i : ℕ) → i < length s → badParts f (drop i s) ≡ (badPart f (getD s i nan) || badParts f (drop (i + 1) s))
-unfolding badParts
-parts-step f s i h = rw (add-one, drop-cons s i nan)
+module _ (f : Format) (s : List Float) (d : Vector) (x : Checked) (is : x ≡ checked (outlineRefusal f s)) where
+  pub outline-refused : (n : ℕ) → x ≡ Refused n → (j : ℕ) → j ≡ refusal x → SupportAnswer.Refused j ≡ supportAnswer f s d
+  unfolding supportAnswer
+  outline-refused = refused (λ k. supportBy k (support f s d)) SupportAnswer.Refused (λ n. refl) (outlineRefusal f s) x is
 
-pub parts-stop : (f : Format) (s : List Float) (i : ℕ) → length s ≤ i → badParts f (drop i s) ≡ false
-unfolding badParts
-parts-stop f s i h = rw (drop-of-length-le s h)
+  pub outline-passed : x ≡ Passed → (i : ℕ) → i ≡ support f s d → SupportAnswer.At i ≡ supportAnswer f s d
+  unfolding supportAnswer
+  outline-passed e i ei = rw ei (passed (λ k. supportBy k (support f s d)) SupportAnswer.Refused (λ n. refl) (outlineRefusal f s) x is e)

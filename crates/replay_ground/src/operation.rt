@@ -88,7 +88,7 @@ pub fn answer(op: u32, row: &[u8]) -> Words {
         12 => two(ground::neg(u)),
         13 => one(ground::max(input(row, 0), input(row, 1))),
         14 => one(ground::abs(input(row, 0))),
-        15 => one(ground::root(input(row, 0))),
+        15 => one(root::root(input(row, 0))),
         16 => two(ground::add(u, v)),
         17 => two(ground::sub(u, v)),
         18 => two(ground::scale(u, input(row, 2))),

@@ -1,36 +1,17 @@
 -- The endings of `sweep_time_of_impact`, one law each: the first refusal of four checks, or the sweep. Assumes nothing.
-use Prim.Native.Nat.{ℕ, zero, suc}
-use native.Mathlib.Omega.{arith}
+use Prim.Native.Nat.{ℕ}
 use mathlib.Core.List.{List}
-use mathlib.Core.Path.{_≡_, refl, sym, ap, _∙_}
+use mathlib.Core.Path.{_≡_, refl, _∙_}
 use lib.Ieee.{Float, Format}
 use Rattle.model.specs.declared.Sweep.{Sweep}
 use Rattle.model.specs.declared.SweepTask.{SweepTask}
 use Rattle.model.specs.declared.SweepAnswer.{SweepAnswer}
 use Rattle.model.specs.declared.SweepAnswer.the-variants.{Refused}
-use Rattle.model.specs.declared.CheckedPair.{CheckedPair}
-use Rattle.model.specs.declared.CheckedPair.the-variants as CheckedPair
-use Rattle.model.specs.declared.CheckedSweeps.{CheckedSweeps}
-use Rattle.model.specs.declared.CheckedSweeps.the-variants as CheckedSweeps
-use Rattle.model.specs.declared.CheckedNumber.{CheckedNumber}
-use Rattle.model.specs.declared.CheckedNumber.the-variants as CheckedNumber
-use Rattle.model.specs.Domain.{pairRefusal, sweepsRefusal, fractionRefusal, slopRefusal, orElse, pairBy, sweepsBy, numberBy, checkedPair, checkedSweeps, checkedFraction, checkedSlop}
+use Rattle.model.specs.declared.Checked.{Checked}
+use Rattle.model.specs.declared.Checked.the-variants as Checked
+use Rattle.model.specs.Domain.{pairRefusal, sweepsRefusal, fractionRefusal, slopRefusal, orElse, checked, refusal}
 use Rattle.model.specs.SweepToi.{advance, sweepTask, sweepBy, sweepTimeOfImpact}
-use Rattle.outline.specs.Refusal.{ofPair}
-use Rattle.sweep_toi.specs.Refusal.{ofSweeps, ofNumber}
-
--- ---- what passed has the number 0, and is what came in
-pair-passed : (k na nb x y : ℕ) → pairBy k na nb ≡ CheckedPair.Points x y → k ≡ 0
-pair-passed zero na nb x y e = refl
-pair-passed (suc k) na nb x y e = absurd (let z : _≡_ {A = ℕ} 0 1 = cc in omega arith)
-
-sweeps-passed : (k : ℕ) (a b u v : Sweep) → sweepsBy k a b ≡ CheckedSweeps.Good u v → (k ≡ 0) × (u ≡ a) × (v ≡ b)
-sweeps-passed zero a b u v e = (refl, (cc), (cc))
-sweeps-passed (suc k) a b u v e = absurd (let z : _≡_ {A = ℕ} 0 1 = cc in omega arith)
-
-number-passed : (k : ℕ) (x y : Float) → numberBy k x ≡ CheckedNumber.Good y → (k ≡ 0) × (y ≡ x)
-number-passed zero x y e = (refl, (cc))
-number-passed (suc k) x y e = absurd (let z : _≡_ {A = ℕ} 0 1 = cc in omega arith)
+use Rattle.model.proofs.Domain.{passed, refused}
 
 module _ (f : Format) (a : List Float) (ra : Float) (wa : Sweep) (b : List Float) (rb : Float) (wb : Sweep) (tmax slop : Float) where
   abbrev by : ℕ → SweepAnswer
@@ -39,22 +20,16 @@ module _ (f : Format) (a : List Float) (ra : Float) (wa : Sweep) (b : List Float
   abbrev answer : SweepAnswer
   answer = sweepTimeOfImpact f a ra wa b rb wb tmax slop
 
-  -- ---- what did not pass has the number that it carries
-  pair-refused-by : (k m na nb n : ℕ) → pairBy k na nb ≡ CheckedPair.Refused n → Refused n ≡ by (orElse k m)
-  pair-refused-by zero m na nb n e = absurd (let z : _≡_ {A = ℕ} 0 1 = cc in omega arith)
-  pair-refused-by (suc k) m na nb n e = let same : n ≡ suc k = cc in rw same
+  -- a check that other checks follow, whose first refusal is m: what its number k gives, and what it means that it passed or not
+  abbrev before : ℕ → ℕ → SweepAnswer
+  before m k = by (orElse k m)
 
-  sweeps-refused-by : (k m n : ℕ) (u v : Sweep) → sweepsBy k u v ≡ CheckedSweeps.Refused n → Refused n ≡ by (orElse k m)
-  sweeps-refused-by zero m n u v e = absurd (let z : _≡_ {A = ℕ} 0 1 = cc in omega arith)
-  sweeps-refused-by (suc k) m n u v e = let same : n ≡ suc k = cc in rw same
+  module _ (m k : ℕ) (x : Checked) (is : x ≡ checked k) where
+    goes-on : x ≡ Checked.Passed → by m ≡ before m k
+    goes-on = passed (before m) Refused (λ n. refl) k x is
 
-  number-refused-by : (k m n : ℕ) (x : Float) → numberBy k x ≡ CheckedNumber.Refused n → Refused n ≡ by (orElse k m)
-  number-refused-by zero m n x e = absurd (let z : _≡_ {A = ℕ} 0 1 = cc in omega arith)
-  number-refused-by (suc k) m n x e = let same : n ≡ suc k = cc in rw same
-
-  last-refused-by : (k n : ℕ) (x : Float) → numberBy k x ≡ CheckedNumber.Refused n → Refused n ≡ by k
-  last-refused-by zero n x e = absurd (let z : _≡_ {A = ℕ} 0 1 = cc in omega arith)
-  last-refused-by (suc k) n x e = let same : n ≡ suc k = cc in rw same
+    stops : (n : ℕ) → x ≡ Checked.Refused n → (j : ℕ) → j ≡ refusal x → Refused j ≡ before m k
+    stops = refused (before m) Refused (λ n. refl) k x is
 
   -- ---- the four checks in their order
   abbrev third : ℕ
@@ -63,49 +38,32 @@ module _ (f : Format) (a : List Float) (ra : Float) (wa : Sweep) (b : List Float
   abbrev second : ℕ
   second = orElse (sweepsRefusal f wa wb) third
 
-  module _ (x : CheckedPair) (ex : x ≡ checkedPair f a b ra rb) where
-    pub pair-refused : (n : ℕ) → x ≡ CheckedPair.Refused n → (m : ℕ) → m ≡ ofPair x → Refused m ≡ answer
-    unfolding checkedPair sweepTimeOfImpact
-    pair-refused n g m em = rw (em ∙ ap ofPair g) (pair-refused-by (pairRefusal f a b ra rb) second _ _ n (sym ex ∙ g))
+  module _ (x : Checked) (ex : x ≡ checked (pairRefusal f a b ra rb)) where
+    pub pair-refused : (n : ℕ) → x ≡ Checked.Refused n → (j : ℕ) → j ≡ refusal x → Refused j ≡ answer
+    unfolding sweepTimeOfImpact
+    pair-refused = stops second (pairRefusal f a b ra rb) x ex
 
-    module _ (na nb : ℕ) (good : x ≡ CheckedPair.Points na nb) where
+    module _ (gx : x ≡ Checked.Passed) (y : Checked) (ey : y ≡ checked (sweepsRefusal f wa wb)) where
       after-pair : by second ≡ answer
-      unfolding checkedPair sweepTimeOfImpact
-      after-pair = ap (λ (k : ℕ). by (orElse k second)) (sym (pair-passed (pairRefusal f a b ra rb) _ _ na nb (sym ex ∙ good)))
+      unfolding sweepTimeOfImpact
+      after-pair = goes-on second (pairRefusal f a b ra rb) x ex gx
 
-      module _ (y : CheckedSweeps) (ey : y ≡ checkedSweeps f wa wb) where
-        pub sweeps-refused : (n : ℕ) → y ≡ CheckedSweeps.Refused n → (m : ℕ) → m ≡ ofSweeps y → Refused m ≡ answer
-        unfolding checkedSweeps
-        sweeps-refused n g m em = rw (em ∙ ap ofSweeps g) (sweeps-refused-by (sweepsRefusal f wa wb) third n wa wb (sym ey ∙ g) ∙ after-pair)
+      pub sweeps-refused : (n : ℕ) → y ≡ Checked.Refused n → (j : ℕ) → j ≡ refusal y → Refused j ≡ answer
+      sweeps-refused n g j ej = stops third (sweepsRefusal f wa wb) y ey n g j ej ∙ after-pair
 
-        module _ (u v : Sweep) (gy : y ≡ CheckedSweeps.Good u v) where
-          moves : (sweepsRefusal f wa wb ≡ 0) × (u ≡ wa) × (v ≡ wb)
-          unfolding checkedSweeps
-          moves = sweeps-passed (sweepsRefusal f wa wb) wa wb u v (sym ey ∙ gy)
+      module _ (gy : y ≡ Checked.Passed) (z : Checked) (ez : z ≡ checked (fractionRefusal f tmax)) where
+        after-sweeps : by third ≡ answer
+        after-sweeps = goes-on third (sweepsRefusal f wa wb) y ey gy ∙ after-pair
 
-          after-sweeps : by third ≡ answer
-          after-sweeps = ap (λ (k : ℕ). by (orElse k third)) (sym (moves .0)) ∙ after-pair
+        pub fraction-refused : (n : ℕ) → z ≡ Checked.Refused n → (j : ℕ) → j ≡ refusal z → Refused j ≡ answer
+        fraction-refused n g j ej = stops (slopRefusal f slop) (fractionRefusal f tmax) z ez n g j ej ∙ after-sweeps
 
-          module _ (z : CheckedNumber) (ez : z ≡ checkedFraction f tmax) where
-            pub fraction-refused : (n : ℕ) → z ≡ CheckedNumber.Refused n → (m : ℕ) → m ≡ ofNumber z → Refused m ≡ answer
-            unfolding checkedFraction
-            fraction-refused n g m em = rw (em ∙ ap ofNumber g) (number-refused-by (fractionRefusal f tmax) (slopRefusal f slop) n tmax (sym ez ∙ g) ∙ after-sweeps)
+        module _ (gz : z ≡ Checked.Passed) (o : Checked) (eo : o ≡ checked (slopRefusal f slop)) where
+          after-fraction : by (slopRefusal f slop) ≡ answer
+          after-fraction = goes-on (slopRefusal f slop) (fractionRefusal f tmax) z ez gz ∙ after-sweeps
 
-            module _ (t : Float) (gz : z ≡ CheckedNumber.Good t) where
-              fraction : (fractionRefusal f tmax ≡ 0) × (t ≡ tmax)
-              unfolding checkedFraction
-              fraction = number-passed (fractionRefusal f tmax) tmax t (sym ez ∙ gz)
+          pub slop-refused : (n : ℕ) → o ≡ Checked.Refused n → (j : ℕ) → j ≡ refusal o → Refused j ≡ answer
+          slop-refused n g j ej = refused by Refused (λ n. refl) (slopRefusal f slop) o eo n g j ej ∙ after-fraction
 
-              after-fraction : by (slopRefusal f slop) ≡ answer
-              after-fraction = ap (λ (k : ℕ). by (orElse k (slopRefusal f slop))) (sym (fraction .0)) ∙ after-sweeps
-
-              module _ (o : CheckedNumber) (eo : o ≡ checkedSlop f slop) where
-                pub slop-refused : (n : ℕ) → o ≡ CheckedNumber.Refused n → (m : ℕ) → m ≡ ofNumber o → Refused m ≡ answer
-                unfolding checkedSlop
-                slop-refused n g m em = rw (em ∙ ap ofNumber g) (last-refused-by (slopRefusal f slop) n slop (sym eo ∙ g) ∙ after-fraction)
-
-                pub all-passed : (s : Float) → o ≡ CheckedNumber.Good s → (w : SweepTask) → w ≡ sweepTask f ra u rb v t s → advance f w a b ≡ answer
-                unfolding checkedSlop
-                all-passed s g w ew =
-                    let last = number-passed (slopRefusal f slop) slop s (sym eo ∙ g) in
-                    rw (ew, moves .1, moves .2, fraction .1, last .1) (ap by (sym (last .0)) ∙ after-fraction)
+          pub all-passed : o ≡ Checked.Passed → (w : SweepTask) → w ≡ sweepTask f ra wa rb wb tmax slop → advance f w a b ≡ answer
+          all-passed g w ew = rw ew (passed by Refused (λ n. refl) (slopRefusal f slop) o eo g ∙ after-fraction)

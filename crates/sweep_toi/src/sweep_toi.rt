@@ -1,10 +1,10 @@
 // The sweep by conservative advancement: a distance call gives an axis, and a push-back along it brings the time closer to the first contact.
-use crate::checks::check_fraction;
-use crate::checks::check_slop;
-use crate::checks::check_sweeps;
-use crate::checks::number_refusal;
-use crate::checks::sweeps_refusal;
 use distance::proxy_distance::measure;
+use domain::check_fraction;
+use domain::check_pair;
+use domain::check_slop;
+use domain::check_sweeps;
+use domain::refusal;
 use ground::abs;
 use ground::add;
 use ground::inv_mul;
@@ -13,9 +13,7 @@ use ground::rotate_vec;
 use ground::scale;
 use ground::sub;
 use ground::transform_point;
-use model::CheckedNumber;
-use model::CheckedPair;
-use model::CheckedSweeps;
+use model::Checked;
 use model::Closest;
 use model::Contact;
 use model::Counts;
@@ -26,8 +24,6 @@ use model::Sweep;
 use model::SweepAnswer;
 use model::SweepTask;
 use model::Vector;
-use outline::domain::check_pair;
-use outline::domain::pair_refusal;
 use separation::evaluate;
 use separation::find_min_separation;
 use separation::new_separation;
@@ -324,21 +320,28 @@ pub fn sweep_time_of_impact(
         (now («points_b» .entry)) «radius_b» «sweep_b» «max_fraction» «linear_slop» ⌝ }
 {
     let pair = check_pair(points_a, points_b, radius_a, radius_b);
-    let CheckedPair::Points(_, _) = pair else {
-        return SweepAnswer::Refused(pair_refusal(pair));
+    let Checked::Passed = pair else {
+        return SweepAnswer::Refused(refusal(pair));
     };
     let sweeps = check_sweeps(sweep_a, sweep_b);
-    let CheckedSweeps::Good(good_a, good_b) = sweeps else {
-        return SweepAnswer::Refused(sweeps_refusal(sweeps));
+    let Checked::Passed = sweeps else {
+        return SweepAnswer::Refused(refusal(sweeps));
     };
     let fraction = check_fraction(max_fraction);
-    let CheckedNumber::Good(t_max) = fraction else {
-        return SweepAnswer::Refused(number_refusal(fraction));
+    let Checked::Passed = fraction else {
+        return SweepAnswer::Refused(refusal(fraction));
     };
-    let checked_slop = check_slop(linear_slop);
-    let CheckedNumber::Good(slop) = checked_slop else {
-        return SweepAnswer::Refused(number_refusal(checked_slop));
+    let slop = check_slop(linear_slop);
+    let Checked::Passed = slop else {
+        return SweepAnswer::Refused(refusal(slop));
     };
-    let task = sweep_task(radius_a, good_a, radius_b, good_b, t_max, slop);
+    let task = sweep_task(
+        radius_a,
+        sweep_a,
+        radius_b,
+        sweep_b,
+        max_fraction,
+        linear_slop,
+    );
     advance(task, points_a, points_b)
 }

@@ -2,11 +2,11 @@
 use Prim.Native.Nat.{ℕ, _+_, _*_, _%_, _^_, _<_, _≤_}
 use native.Mathlib.Omega.{arith}
 use native.Mathlib.Numerals.{add-one}
-use mathlib.Core.Bool.{Bool, true, false, _||_, cond}
+use mathlib.Core.Bool.{Bool, true, false, _||_, cond, or-false, or-assoc}
 use mathlib.Core.Path.{_≡_, refl, sym, ap, subst, _∙_}
 use mathlib.Core.List.{List, [], _∷_}
 use lib.Dec.{T, eqb, ltb, eqb·suc-zero, eqb→eq, eqb-refl, ltb→lt, lt→ltb}
-use lib.ListN.{drop, length, length-drop}
+use lib.ListN.{drop, length, drop-of-length-le}
 use lib.Seq.{drop-cons}
 use lib.Ieee.{Float, Format, lt}
 use Rattle.model.specs.declared.Vector.{Vector}
@@ -66,31 +66,20 @@ goes-on f d ps i s h =
     let e : drop i ps ≡ pointOf ps i ∷ drop (i + 1) ps = rw (add-one i) (drop-cons ps i noPoint h) in
     rw e
 
-none : (l : List Vector) → length l ≡ 0 → l ≡ []
-none [] e = refl
-none (p ∷ ps) e = absurd (omega (arith, e))
-
 ends : (f : Format) (d : Vector) (ps : List Vector) (i : ℕ) (s : Farthest) → length ps ≤ i → takenFrom f d s i (drop i ps) ≡ s
 unfolding takenFrom
-ends f d ps i s h = rw (none (drop i ps) (length-drop i ps ∙ (omega arith)))
+ends f d ps i s h = rw (drop-of-length-le ps h)
 
 -- ---- the whole
-or-false : (a : Bool) → a ≡ (a || false)
-or-false true = refl
-or-false false = refl
-
-or-assoc : (a b c e : Bool) → ((a || (b || c)) || e) ≡ (a || (b || (c || e)))
-or-assoc true b c e = refl
-or-assoc false true c e = refl
-or-assoc false false c e = refl
-
 -- whether a part is bad
 bad-from : (f : Format) (d : Vector) (ps : List Vector) (s : Farthest) (i : ℕ) → takenFrom f d s i ps .bad ≡ (s .bad || badParts f (flat ps))
 unfolding takenFrom badParts
-bad-from f d [] s i = or-false (s .bad)
+bad-from f d [] s i = sym (or-false (s .bad))
 bad-from f d (p ∷ ps) s i =
     bad-from f d ps (taken f d s i p) (i + 1)
-    ∙ (ap (λ (t : Bool). t || badParts f (flat ps)) (bad-taken f d s i p) ∙ or-assoc (s .bad) (badPart f (p .x)) (badPart f (p .y)) (badParts f (flat ps)))
+    ∙ ap (λ (t : Bool). t || badParts f (flat ps)) (bad-taken f d s i p)
+    ∙ or-assoc (s .bad) (badVector f p) (badParts f (flat ps))
+    ∙ ap (λ (t : Bool). s .bad || t) (or-assoc (badPart f (p .x)) (badPart f (p .y)) (badParts f (flat ps)))
 
 -- the best of the later points
 not-first : (i : ℕ) → eqb (i + 1) 0 ≡ false

@@ -1,7 +1,7 @@
 // The support of a lent list of point records: that of the flat list of their parts.
+use domain::bad_vector;
 use model::SupportAnswer;
 use model::Vector;
-use outline::domain::bad_vector;
 ghost use Prim.Native.Nat.{_<_};
 ghost use mathlib.Core.Path.{_≡_};
 ghost use lib.Ieee.{binary32};

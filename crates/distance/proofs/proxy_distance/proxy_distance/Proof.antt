@@ -14,11 +14,13 @@ enum-told c = search needs
 enum-told-2 : tie.Need-enum-told-2
 enum-told-2 c = search needs
 
-pair-refusal-requires : tie.Need-pair-refusal-requires
-pair-refusal-requires c κs = search needs
+refusal-requires : tie.Need-refusal-requires
+refusal-requires c κs = search needs
 
 returns : tie.Need-returns
-returns c = pair-refused binary32 _ _ _ _ _ _ _ _ (c .before .before .before .check-pair .ensures) _ (c .before .enum-told2 .given .1) _ (c .pair-refusal .ensures)
+returns c =
+    let pair = c .before .before .before in
+    pair-refused binary32 _ _ _ _ _ _ _ _ (pair .check-pair .ensures) _ (c .before .enum-told2 .given .1) _ (c .refusal .ensures)
 
 check-pose-requires : tie.Need-check-pose-requires
 check-pose-requires c κs = search needs
@@ -33,13 +35,24 @@ pose-refusal-requires : tie.Need-pose-refusal-requires
 pose-refusal-requires c κs = search needs
 
 returns-2 : tie.Need-returns-2
-returns-2 c = pose-refused binary32 _ _ _ _ _ _ _ _ (c .before .before .before .before .before .before .check-pair .ensures) _ _ (c .before .before .before .before .enum-told .given .1) _ (c .before .before .before .check-pose .ensures) _ (c .before .enum-told3 .given .1) _ (c .pose-refusal .ensures)
+returns-2 c =
+    let pose = c .before .before .before in
+    let pair = pose .before .before .before in
+    pose-refused binary32 _ _ _ _ _ _ _
+    _ (pair .check-pair .ensures) (pose .before .enum-told .given .1)
+    _ (pose .check-pose .ensures) _ (c .before .enum-told3 .given .1) _ (c .pose-refusal .ensures)
 
 measure-requires : tie.Need-measure-requires
 measure-requires c κs = search needs
 
 returns-3 : tie.Need-returns-3
-returns-3 c = both-passed binary32 _ _ _ _ _ _ _ _ (c .before .before .before .before .before .before .before .before .before .check-pair .ensures) _ _ (c .before .before .before .before .before .before .before .enum-told .given .1) _ (c .before .before .before .before .before .before .check-pose .ensures) _ (c .before .before .before .before .pose .given .1) _ (c .before .before .measure .ensures)
+returns-3 c =
+    let told = c .before .before .before .before in
+    let pose = told .before .before in
+    let pair = pose .before .before .before in
+    both-passed binary32 _ _ _ _ _ _ _
+    _ (pair .check-pair .ensures) (pose .before .enum-told .given .1)
+    _ (pose .check-pose .ensures) _ (told .pose .given .1) _ (c .before .before .measure .ensures)
 
 pub proxy-distance-spec : {M : Type 1} → statement M
 proxy-distance-spec =
@@ -48,7 +61,7 @@ proxy-distance-spec =
     check-pair-requires
     enum-told
     enum-told-2
-    pair-refusal-requires
+    refusal-requires
     returns
     check-pose-requires
     enum-known-pose
