@@ -41,7 +41,7 @@ int main(int argc, char **argv) {
   (void)argv;
   uint8_t block[512];
   char line[161];
-  unsigned long long blocks = 0, clear = 0, contact = 0, refused = 0;
+  unsigned long long blocks = 0, clear = 0, contact = 0, undecided = 0, refused = 0;
   if (argc > 1) {
     fputs("sheet: no argument is taken\n", stderr);
     return 2;
@@ -62,8 +62,9 @@ int main(int argc, char **argv) {
     int letter = status(line);
     if (letter == 0) refused++;
     else if (letter == 'S') clear++;
+    else if (letter == 'F') undecided++;
     else contact++;
   }
-  if (printf("TOTAL %llu %llu %llu %llu\n", blocks, clear, contact, refused) < 0 || fflush(stdout) == EOF) return failed("standard output");
+  if (printf("TOTAL %llu %llu %llu %llu %llu\n", blocks, clear, contact, undecided, refused) < 0 || fflush(stdout) == EOF) return failed("standard output");
   return small_calls() ? 0 : 1;
 }

@@ -71,7 +71,7 @@ fn line(number: u64, b: &[u8; SIZE]) -> (String, u32) {
 pub fn sheet() {
     let mut input = std::io::stdin().lock();
     let mut out = std::io::BufWriter::new(std::io::stdout().lock());
-    let mut totals = [0u64; 4];
+    let mut totals = [0u64; 5];
     let mut b = [0u8; SIZE];
     loop {
         let mut n = 0;
@@ -86,13 +86,19 @@ pub fn sheet() {
         }
         totals[0] += 1;
         let (text, kind) = if n < SIZE { (format!("{} 0 9\n", totals[0]), 9) } else { line(totals[0], &b) };
-        totals[if kind < 16 { 3 } else if kind == 18 { 1 } else { 2 }] += 1;
+        let place = match kind {
+            18 => 1,
+            16 | 17 => 2,
+            19 => 3,
+            _ => 4,
+        };
+        totals[place] += 1;
         out.write_all(text.as_bytes()).unwrap();
         if kind == 9 {
             break;
         }
     }
-    writeln!(out, "TOTAL {} {} {} {}", totals[0], totals[1], totals[2], totals[3]).unwrap();
+    writeln!(out, "TOTAL {} {} {} {} {}", totals[0], totals[1], totals[2], totals[3], totals[4]).unwrap();
 }
 
 /// What a block asks for; the head is both radii, the max fraction and the slop.

@@ -32,7 +32,7 @@ type Fault = (&'static str, io::Error);
 fn sheet(input: &mut impl Read, out: &mut impl Write) -> Result<(), Fault> {
     let unread = |error| ("standard input", error);
     let unwritten = |error| ("standard output", error);
-    let [mut blocks, mut clear, mut contact, mut refused] = [0u64; 4];
+    let [mut blocks, mut clear, mut contact, mut undecided, mut refused] = [0u64; 5];
     let mut block = [0u8; 512];
     loop {
         let got = fill(input, &mut block).map_err(unread)?;
@@ -45,6 +45,7 @@ fn sheet(input: &mut impl Read, out: &mut impl Write) -> Result<(), Fault> {
         let mut words = text.split_whitespace().skip(2);
         match (words.next(), words.next()) {
             (Some("0"), Some("S")) => clear += 1,
+            (Some("0"), Some("F")) => undecided += 1,
             (Some("0"), _) => contact += 1,
             _ => refused += 1,
         }
@@ -53,7 +54,7 @@ fn sheet(input: &mut impl Read, out: &mut impl Write) -> Result<(), Fault> {
             break;
         }
     }
-    writeln!(out, "TOTAL {blocks} {clear} {contact} {refused}").map_err(unwritten)?;
+    writeln!(out, "TOTAL {blocks} {clear} {contact} {undecided} {refused}").map_err(unwritten)?;
     out.flush().map_err(unwritten)
 }
 

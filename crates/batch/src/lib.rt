@@ -48,6 +48,7 @@ pub fn run() {
         blocks: 0,
         clear: 0,
         contact: 0,
+        undecided: 0,
         refused: 0,
     };
     for turn in 0..u64::MAX {

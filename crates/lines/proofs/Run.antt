@@ -19,13 +19,14 @@ pub record Counting (t : Totals) (bytes : ℕ) : Type 0 where
 
 counting-on : (t : Totals) (bytes : ℕ) → Counting t bytes → countable t ≡ true
 counting-on t bytes h =
-    let sums : t .blocks ≡ t .clear + t .contact + t .refused = h .sums in
+    let sums : t .blocks ≡ t .clear + t .contact + t .undecided + t .refused = h .sums in
     let left : t .blocks + bytes < countLimit = h .left in
     let blocks : t .blocks < countLimit = omega arith in
     let clear : t .clear < countLimit = omega arith in
     let contact : t .contact < countLimit = omega arith in
+    let undecided : t .undecided < countLimit = omega arith in
     let refused : t .refused < countLimit = omega arith in
-    rw (lt-ltb _ _ blocks, lt-ltb _ _ clear, lt-ltb _ _ contact, lt-ltb _ _ refused)
+    rw (lt-ltb _ _ blocks, lt-ltb _ _ clear, lt-ltb _ _ contact, lt-ltb _ _ undecided, lt-ltb _ _ refused)
 
 fitting : (size : ℕ) (t : Totals) (bytes : ℕ) → size ≤ partSize → Counting t bytes → fits size partSize t ≡ true
 fitting size t bytes small h =

@@ -33,10 +33,13 @@ pub record Below (n : ℕ) (t : Totals) : Type 0 where
   pub blocks : t .blocks < n
   pub clear : t .clear < n
   pub contact : t .contact < n
+  pub undecided : t .undecided < n
   pub refused : t .refused < n
 
 abbrev pub countable : Totals → Bool
-countable t = ltb (t .blocks) countLimit && ltb (t .clear) countLimit && ltb (t .contact) countLimit && ltb (t .refused) countLimit
+countable t =
+    ltb (t .blocks) countLimit && ltb (t .clear) countLimit && ltb (t .contact) countLimit && ltb (t .undecided) countLimit
+    && ltb (t .refused) countLimit
 
 -- room for a line of each block, of a rest and of the totals
 abbrev pub fits : ℕ → ℕ → Totals → Bool

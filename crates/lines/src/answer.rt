@@ -3,7 +3,7 @@ use model::BlockAnswer;
 use model::Status;
 use model::Totals;
 ghost use mathlib.Core.Path.{_≡_};
-ghost use Rattle.model.specs.Sheet.{letterOf, oneClear, oneContact, oneRefused, oneWorked};
+ghost use Rattle.model.specs.Sheet.{letterOf, oneClear, oneContact, oneUndecided, oneRefused, oneWorked};
 ghost use Rattle.model.specs.Sheet as Sheet;
 ghost use Rattle.lines.specs.Part.{Below};
 ghost use Rattle.lines.specs.Part as Part;
@@ -29,6 +29,7 @@ pub fn countable(t: Totals) -> bool
     (t.blocks < COUNT_LIMIT)
         & (t.clear < COUNT_LIMIT)
         & (t.contact < COUNT_LIMIT)
+        & (t.undecided < COUNT_LIMIT)
         & (t.refused < COUNT_LIMIT)
 }
 
@@ -40,6 +41,7 @@ fn one_clear(t: Totals) -> Totals
         blocks: t.blocks + 1,
         clear: t.clear + 1,
         contact: t.contact,
+        undecided: t.undecided,
         refused: t.refused,
     }
 }
@@ -52,6 +54,20 @@ fn one_contact(t: Totals) -> Totals
         blocks: t.blocks + 1,
         clear: t.clear,
         contact: t.contact + 1,
+        undecided: t.undecided,
+        refused: t.refused,
+    }
+}
+
+fn one_undecided(t: Totals) -> Totals
+    requires { ⌜ Below 0xffff_ffff_ffff_ffff t ⌝ }
+    ensures { λ r. ⌜ r ≡ oneUndecided t ⌝ }
+{
+    Totals {
+        blocks: t.blocks + 1,
+        clear: t.clear,
+        contact: t.contact,
+        undecided: t.undecided + 1,
         refused: t.refused,
     }
 }
@@ -64,11 +80,12 @@ fn one_refused(t: Totals) -> Totals
         blocks: t.blocks + 1,
         clear: t.clear,
         contact: t.contact,
+        undecided: t.undecided,
         refused: t.refused + 1,
     }
 }
 
-// S is clear; H, O and F are contact.
+// S is clear; H and O are contact; F is no verdict.
 fn one_worked(t: Totals, status: Status) -> Totals
     requires { ⌜ Below 0xffff_ffff_ffff_ffff t ⌝ }
     ensures { λ r. ⌜ r ≡ oneWorked t status ⌝ }
@@ -77,7 +94,7 @@ fn one_worked(t: Totals, status: Status) -> Totals
         Status::Overlapped => one_contact(t),
         Status::Hit => one_contact(t),
         Status::Separated => one_clear(t),
-        Status::Failed => one_contact(t),
+        Status::Failed => one_undecided(t),
     }
 }
 

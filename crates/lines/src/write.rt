@@ -53,5 +53,6 @@ pub fn put_total(out: &mut [u8], at: usize, t: Totals) -> usize
 {
     let e1 = put(out, at, b"TOTAL ");
     let e2 = put_number(out, e1, t.blocks, b' ');
-    put_three(out, e2, t.clear, t.contact, t.refused)
+    let e3 = put_number(out, e2, t.clear, b' ');
+    put_three(out, e3, t.contact, t.undecided, t.refused)
 }

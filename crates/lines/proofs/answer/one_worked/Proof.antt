@@ -24,8 +24,8 @@ one-clear-requires c κs = search needs
 enum-told-4 : tie.Need-enum-told-4
 enum-told-4 c = search needs
 
-one-contact-requires-3 : tie.Need-one-contact-requires-3
-one-contact-requires-3 c κs = search needs
+one-undecided-requires : tie.Need-one-undecided-requires
+one-undecided-requires c κs = search needs
 
 returns : tie.Need-returns
 returns c = simp (c .one-contact .ensures, c .before .enum-told .given .1)
@@ -37,7 +37,7 @@ returns-3 : tie.Need-returns-3
 returns-3 c = simp (c .one-clear .ensures, c .before .enum-told3 .given .1)
 
 returns-4 : tie.Need-returns-4
-returns-4 c = simp (c .one-contact3 .ensures, c .before .enum-told4 .given .1)
+returns-4 c = simp (c .one-undecided .ensures, c .before .enum-told4 .given .1)
 
 pub one-worked-spec : {M : Type 1} → statement M
 one-worked-spec =
@@ -50,7 +50,7 @@ one-worked-spec =
     enum-told-3
     one-clear-requires
     enum-told-4
-    one-contact-requires-3
+    one-undecided-requires
     returns
     returns-2
     returns-3

@@ -15,17 +15,32 @@ put-requires c κs = search needs
 put-number-requires : tie.Need-put-number-requires
 put-number-requires c κs = search needs
 
-put-three-requires : tie.Need-put-three-requires
-put-three-requires c κs =
+put-number-requires-2 : tie.Need-put-number-requires-2
+put-number-requires-2 c κs =
     let q = c .before .before .before in
     let p = q .before .before .before .before in
     omega (arith, p .put .ensures .place, p .put .kept .0, ends (q .put-number .ensures) (length-number _ _), q .put-number .kept .0)
+
+put-three-requires : tie.Need-put-three-requires
+put-three-requires c κs =
+    let r = c .before .before .before in
+    let q = r .before .before .before .before in
+    let p = q .before .before .before .before in
+    let first = ends (q .put-number .ensures) (length-number _ _) in
+    let second = ends (r .put-number2 .ensures) (length-number _ _) in
+    omega (arith, p .put .ensures .place, p .put .kept .0, first, q .put-number .kept .0, second, r .put-number2 .kept .0)
 
 same-length : tie.Need-same-length
 same-length c = search needs
 
 returns : tie.Need-returns
-returns c = rw total-is (put-then (search needs) (put-then (search needs) (c .before .before .before .before .before .before .before .before .before .before .put .ensures) (c .before .before .before .before .before .before .put-number .ensures)) (c .before .before .put-three .ensures))
+returns c =
+    let s = c .before .before in
+    let r = s .before .before .before .before in
+    let q = r .before .before .before .before in
+    let p = q .before .before .before .before in
+    let numbers = put-then (search needs) (put-then (search needs) (p .put .ensures) (q .put-number .ensures)) (r .put-number2 .ensures) in
+    rw total-is (put-then (search needs) numbers (s .put-three .ensures))
 
 pub put-total-spec : {M : Type 1} → statement M
 put-total-spec =
@@ -34,6 +49,7 @@ put-total-spec =
     slice-aggregate-put
     put-requires
     put-number-requires
+    put-number-requires-2
     put-three-requires
     same-length
     returns)
