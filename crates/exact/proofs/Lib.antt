@@ -19,3 +19,4 @@ pub mod Demand3
 pub mod NoCircles
 mod Sheets
 mod Instances
+mod CircleInstances
