@@ -21,7 +21,8 @@ use Rattle.model.specs.Simplex.{slot, region2, region3, kept, solveSimplex2, so
 use Rattle.model.specs.Distance.{allBelow, held, vertex, startSimplex, roundsFrom, proxyDistance}
 use Rattle.exact.specs.Plane.{Point, difference, scaled, dot, total, weightedSum}
 use Rattle.exact.specs.Sheet.{Sheet, cornerOf, drawn, drawnPose, every, posedCorner, OnPaper}
-use Rattle.exact.specs.NoCircles.{Fraction, _≃ᶠ_, squaredLength, NearestOf, State, GoesOn, start, next, roundsOf, Reaches, first, then, Nearer}
+use Rattle.exact.specs.Fraction.{Fraction, _≃ᶠ_}
+use Rattle.exact.specs.NoCircles.{squaredLength, NearestOf, State, GoesOn, start, next, roundsOf, Reaches, first, then, Nearer}
 use Rattle.exact.proofs.Below.{below1, below2}
 use Rattle.exact.proofs.Kept.{two}
 use Rattle.exact.proofs.Sheets.{on-squared-paper}

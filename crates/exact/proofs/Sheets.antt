@@ -90,6 +90,6 @@ module _ (f : Format) where
       }
 
   -- the vertices of a call on it, by the sheet's own corners
-  pub place-drawn : (s : Sheet) (bound : ℕ) (h : OnPaper s bound) (v : SimplexVertex) → place f (on-squared-paper s bound h) v ≡ difference (cornerOf (s .a) (v .«index_a»)) (posedCorner s (v .«index_b»))
+  pub place-drawn : (s : Sheet) (bound : ℕ) (h : OnPaper s bound) (v : SimplexVertex) → place (on-squared-paper s bound h) v ≡ difference (cornerOf (s .a) (v .«index_a»)) (posedCorner s (v .«index_b»))
   unfolding on-squared-paper
   place-drawn s bound h v = refl

@@ -9,7 +9,8 @@ use Rattle.integers.specs.Polynomial.{var, _:+_, _:-_, _:*_, negated}
 use Rattle.integers.proofs.Signed.{le-or-lt, ⊠-comm, ⊠-zero, ⊠-one, ⊠-cong, ⊠-cong-r, ⊠-square, ⊠-pos}
 use Rattle.integers.proofs.Ring.{ring}
 use Rattle.exact.specs.Plane.{Point, scaled, dot, total, weightedSum}
-use Rattle.exact.specs.NoCircles.{_≤ᶠ_, _<ᶠ_, _≃ᶠ_, squaredLength, NearestOf, OneLength}
+use Rattle.exact.specs.Fraction.{_≤ᶠ_, _<ᶠ_, _≃ᶠ_}
+use Rattle.exact.specs.NoCircles.{squaredLength, NearestOf, OneLength}
 use Rattle.exact.proofs.Weights.{⊠-mono, dot-of-sum, sum-at-most, sum-at-least}
 use Rattle.exact.proofs.Kept.{Kept, Covered}
 use Rattle.exact.proofs.Nearest.{beyond, no-nearer, kept-off-origin}
