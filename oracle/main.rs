@@ -6,7 +6,7 @@
 //!   oracle lines SEED COUNT              rows of blocks with their lines
 //!   oracle known                         a pool, sweeps and blocks whose answers are well known (known.rs)
 //!   oracle sheet                         the sheet of the batch on standard input
-//!   oracle squared-paper MILLIONS SEED   demand 3 tested by running (squared_paper.rs)
+//!   oracle squared-paper MILLIONS SEED   the claims on squared paper tested by running (squared_paper.rs)
 //!   oracle turns SEED COUNT              what S misses when something turns, COUNT moves of each of ten kinds (turns.rs)
 mod counts;
 mod distance;

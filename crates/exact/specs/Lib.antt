@@ -1,5 +1,7 @@
 pub mod Plane
+pub mod Fraction
 pub mod Outline
 pub mod SquaredPaper
 pub mod Regions
 pub mod Sheet
+pub mod NoCircles
