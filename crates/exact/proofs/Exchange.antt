@@ -28,15 +28,18 @@ use Rattle.exact.proofs.Told.{at-origin, is-nothing, told, told-too}
 use Rattle.exact.proofs.Demand3.{demand3, room-of}
 
 -- ---- turns
+negated-squared : (x : Int) → neg x ⊠ neg x ≃ x ⊠ x
+negated-squared x = ring (negated (var 0) :* negated (var 0)) (var 0 :* var 0) (x ∷ []) tt
+
 module _ (c s : Int) (quarter : c ⊠ c ⊞ s ⊠ s ≃ ofNat 1) where
   one-times : (z : Int) → z ⊠ (c ⊠ c ⊞ s ⊠ s) ≃ z
   one-times z = omega (arith, ⊠-cong-r z (c ⊠ c ⊞ s ⊠ s) (ofNat 1) quarter, ⊠-one z)
 
-  -- a turn keeps lengths, negated or not
-  turn-keeps-length : (v : Point) → let w = opposite (turned c s v) in dot w w ≃ dot v v
+  -- a turn keeps lengths
+  turn-keeps-length : (v : Point) → dot (turned c s v) (turned c s v) ≃ dot v v
   turn-keeps-length v =
-      let x = negated (var 0 :* var 2 :- var 1 :* var 3) in
-      let y = negated (var 1 :* var 2 :+ var 0 :* var 3) in
+      let x = var 0 :* var 2 :- var 1 :* var 3 in
+      let y = var 1 :* var 2 :+ var 0 :* var 3 in
       omega (
         arith,
         ring (x :* x :+ y :* y) ((var 2 :* var 2 :+ var 3 :* var 3) :* (var 0 :* var 0 :+ var 1 :* var 1)) (c ∷ s ∷ v .x ∷ v .y ∷ []) tt,
@@ -80,7 +83,7 @@ module _ (c s : Int) (quarter : c ⊠ c ⊞ s ⊠ s ≃ ofNat 1) where
       go (inl h) (inl k) = by-sine (omega arith)
       go (inr h) k = by-cosine (⊠-pos c c (omega arith) (omega arith))
       go (inl h) (inr k) =
-          by-cosine (omega (arith, ⊠-pos (neg c) (neg c) (omega arith) (omega arith), ring (negated (var 0) :* negated (var 0)) (var 0 :* var 0) (c ∷ []) tt))
+          by-cosine (omega (arith, ⊠-pos (neg c) (neg c) (omega arith) (omega arith), negated-squared c))
 
 -- a weighted sum under a pose
 module _ (weight : ℕ → ℕ) (z : ℕ → Point) (c s : Int) (t : Point) where
@@ -172,10 +175,13 @@ module _ {bound : ℕ} {p : Pose} {a b : List Float} (paper : SquaredPaper bound
 
     same-squares : dot here here ≃ dot there there
     same-squares =
-        let w = opposite (turned c s there) in
+        let v = turned c s there in
+        let w = opposite v in
         omega (
           arith,
           turn-keeps-length c s (paper .quarterTurn) there,
+          negated-squared (v .x),
+          negated-squared (v .y),
           ⊠-cong (here .x) (w .x) (here .x) (w .x) (seen-from-A .0) (seen-from-A .0),
           ⊠-cong (here .y) (w .y) (here .y) (w .y) (seen-from-A .1) (seen-from-A .1),
         )
@@ -216,11 +222,12 @@ module _ {bound : ℕ} {p : Pose} {a b : List Float} (paper : SquaredPaper bound
           let A = divisor (outlineA paper) α in
           let B = divisor (posedB paper) β in
           let v = negatedAndTurned paper u .over in
+          let w = turned c s (u .over) in
           omega (
             arith,
             n .least (ownβ α β) (posedα α β),
             ⊠-cong (A ⊠ B ⊠ (A ⊠ B)) (B ⊠ A ⊠ (B ⊠ A)) (dot v v) (dot (u .over) (u .over)) (⊠-cong (A ⊠ B) (B ⊠ A) (A ⊠ B) (B ⊠ A) (⊠-comm A B) (⊠-comm A B))
-                (turn-keeps-length c s (paper .quarterTurn) (u .over)),
+                (omega (arith, turn-keeps-length c s (paper .quarterTurn) (u .over), negated-squared (w .x), negated-squared (w .y))),
             ⊠-cong-r (u .under ⊠ u .under) (dot (here α β) (here α β)) (dot (there α β) (there α β)) (same-squares α β),
           )
 
@@ -254,7 +261,7 @@ module _ {bound : ℕ} {p : Pose} {a b : List Float} (paper : SquaredPaper bound
         }
       where
         transposed : c ⊠ c ⊞ neg s ⊠ neg s ≃ ofNat 1
-        transposed = omega (arith, paper .quarterTurn, ring (negated (var 0) :* negated (var 0)) (var 0 :* var 0) (s ∷ []) tt)
+        transposed = omega (arith, paper .quarterTurn, negated-squared s)
 
     pub exchanged-paper : SquaredPaper bound q b a
     exchanged-paper = record {
@@ -267,7 +274,7 @@ module _ {bound : ℕ} {p : Pose} {a b : List Float} (paper : SquaredPaper bound
       wholeB = paper .wholeA;
       wholeCosine = inverse .cosine;
       wholeSine = inverse .sine;
-      quarterTurn = omega (arith, paper .quarterTurn, ring (negated (var 0) :* negated (var 0)) (var 0 :* var 0) (s ∷ []) tt);
+      quarterTurn = omega (arith, paper .quarterTurn, negated-squared s);
       wholeShift = inverse .shift;
       near = near-there;
     }

@@ -24,3 +24,4 @@ pub mod Shift
 mod Sheets
 mod Instances
 mod CircleInstances
+mod ExchangeInstances

@@ -2,18 +2,19 @@
 -- so they are the same. Assumes nothing.
 use mathlib.Core.Path.{_≡_, refl}
 use mathlib.Core.List.{[], _∷_}
-use Prim.Native.Nat.{ℕ, zero, suc, _+_, _*_}
+use Prim.Native.Nat.{ℕ, zero, suc, _+_, _*_, _<_}
 use native.Mathlib.Nat.{mul-pos}
 use native.Mathlib.Omega.{arith}
 use Rattle.integers.specs.Signed.{Int, 0Int, ofNat, neg, _⊞_, _⊟_, _⊠_, _≼_, _≺_, _≃_}
-use Rattle.integers.specs.Polynomial.{Expr, var, lit, _:+_, _:-_, _:*_}
+use Rattle.integers.specs.Polynomial.{Expr, var, lit, _:+_, _:-_, _:*_, negated}
 use Rattle.integers.proofs.Signed.{expanded-is, ⊠-comm, ⊠-neg, ⊠-zero, ⊠-cong, ⊠-cong-r, ⊠-square, ⊠-pos, ⊠-nonneg-back}
 use Rattle.integers.proofs.Ring.{ring}
-use Rattle.exact.specs.Plane.{Point, dot, total, sumBelow}
+use Rattle.exact.specs.Plane.{Point, difference, opposite, dot, total, sumBelow}
 use Rattle.exact.specs.Fraction.{Place, _≈_, _≤ᶠ_, squared}
 use Rattle.exact.specs.Outline.{Outline, PointOf, divisor, dividend, gap}
-use Rattle.exact.specs.Exchange.{differenceOf, OneNearestDifference}
+use Rattle.exact.specs.Exchange.{differenceOf, NearestDifference, OneNearestDifference}
 use Rattle.exact.proofs.Weights.{⊠-mono}
+use Rattle.exact.proofs.Nearest.{no-nearer, within-reach}
 use Rattle.exact.proofs.Shorter.{both-zero}
 
 -- ---- places that are the same
@@ -251,3 +252,28 @@ one-nearest-difference a b u v h k =
     let some-e : 0Int ≺ e .under = ⊠-pos (divisor a (k .p)) (divisor b (k .q)) (omega (arith, k .p .some)) (omega (arith, k .q .some)) in
     let same = same-difference a b (h .p) (k .p) (h .q) (k .q) (as-short u d m (h .some) (h .is) (h .least p q)) (as-short v e m (k .some) (k .is) (k .least p q)) in
     same-through u d v some-d (h .is) (same-through d e v some-e same (same-back v e (k .is)))
+
+-- a difference is nearest if, along the way to the origin from it, no corner of a lies further than i, none of b less far than j, and their difference not beyond it
+pub nearest-by-corners : (a b : Outline) (u : Place) → 0Int ≺ u .under → (p : PointOf a) (q : PointOf b) → u ≈ differenceOf a b p q → (i j : ℕ)
+    → let d = opposite (u .over) in
+    ((k : ℕ) → k < a .count → dot d (a .corner k) ≼ dot d (a .corner i)) → ((k : ℕ) → k < b .count → dot d (b .corner j) ≼ dot d (b .corner k))
+    → dot (u .over) (u .over) ≼ u .under ⊠ dot (u .over) (difference (a .corner i) (b .corner j)) → NearestDifference a b u
+nearest-by-corners a b u some p q is i j topA topB level = record { some = some; p = p; q = q; is = is; least = least }
+  where
+    least : (p : PointOf a) (q : PointOf b) → squared u ≤ᶠ squared (differenceOf a b p q)
+    least p q =
+        let v = u .over in
+        let k = u .under in
+        let W = divisor a p ⊠ divisor b q in
+        let G = gap a b p q in
+        let z = difference (a .corner i) (b .corner j) in
+        let some-W : 0Int ≺ W = ⊠-pos (divisor a p) (divisor b q) (omega (arith, p .some)) (omega (arith, q .some)) in
+        let back : (w : Point) → dot (opposite v) w ≃ neg (dot v w) = λ w.
+        ring (negated (var 0) :* var 2 :+ negated (var 1) :* var 3) (negated (var 0 :* var 2 :+ var 1 :* var 3)) (v .x ∷ v .y ∷ w .x ∷ w .y ∷ []) tt in
+        no-nearer v G k W (omega arith) (omega (
+          arith,
+          ⊠-mono W (dot v v) (k ⊠ dot v z) (omega arith) level,
+          ⊠-mono k (W ⊠ dot v z) (dot v G) (omega (arith, some))
+              (omega (arith, within-reach a b (opposite v) i j topA topB p q, back G, ⊠-cong-r W (dot (opposite v) z) (neg (dot v z)) (back z), ⊠-neg W (dot v z))),
+          ring (var 0 :* (var 1 :* var 2)) (var 1 :* (var 0 :* var 2)) (W ∷ k ∷ dot v z ∷ []) tt,
+        ))
