@@ -1,5 +1,5 @@
 -- A shift of B that the pose takes back leaves every posed corner where it was, and so the nearest difference. Assumes nothing.
-use mathlib.Core.Path.{_≡_, refl, sym, ap, subst}
+use mathlib.Core.Path.{_≡_, refl, sym, subst}
 use mathlib.Core.List.{List, [], _∷_}
 use Prim.Native.Nat.{ℕ, zero, suc, _/_, _<_}
 use native.Mathlib.Omega.{arith}
@@ -78,10 +78,22 @@ module _ {bound : ℕ} {p : Pose} {a b : List Float} (paper : SquaredPaper bound
       ring (var 1 :* var 2 :+ var 0 :* var 3 :+ var 6) (var 1 :* (var 2 :+ var 4) :+ var 0 :* (var 3 :+ var 5) :+ (var 6 :- (var 1 :* var 4 :+ var 0 :* var 5)))
       (paper .cosine ∷ paper .sine ∷ z .x ∷ z .y ∷ by .x ∷ by .y ∷ paper .shift .y ∷ []) tt
 
-  keeps : length l ≡ length b → (u : Place) → NearestDifference (outlineA paper) (posedB paper) u → NearestDifference (outlineA paper) (posedShifted paper by l) u
-  keeps e u N =
-      subst (λ (n : ℕ). NearestDifference (outlineA paper) (record { count = n; corner = posedShifted paper by l .corner }) u) (ap (λ (n : ℕ). n / 2) (sym e))
-      (nearest-again (outlineA paper) (length b / 2) (posedB paper .corner) (posedShifted paper by l .corner) posed-x posed-y u N)
+  abbrev Nearest : (ℕ → Point) → ℕ → Place → Type 0
+  Nearest corner n u = NearestDifference (outlineA paper) (record { count = n; corner = corner }) u
+
+  abbrev first : ℕ → Point
+  first = posedB paper .corner
+
+  abbrev second : ℕ → Point
+  second = posedShifted paper by l .corner
+
+  keeps : length l ≡ length b → (u : Place) → Nearest first (length b / 2) u → Nearest second (length l / 2) u
+  keeps e u N = subst (λ (n : ℕ). Nearest second (n / 2) u) (sym e) (nearest-again (outlineA paper) (length b / 2) first second posed-x posed-y u N)
+
+  gives-back : length l ≡ length b → (u : Place) → Nearest second (length l / 2) u → Nearest first (length b / 2) u
+  gives-back e u N =
+      nearest-again (outlineA paper) (length b / 2) second first (λ j. omega (arith, posed-x j)) (λ j. omega (arith, posed-y j)) u
+      (subst (λ (n : ℕ). Nearest second (n / 2) u) e N)
 
   module _ {q : Pose} (shifted : IsShifted paper by q l) where
     near-still : (i j : ℕ) → i < length a / 2 → j < length l / 2 → Near bound (difference (paper .cornerA i) (posedShifted paper by l .corner j))
@@ -113,7 +125,7 @@ module _ {bound : ℕ} {p : Pose} {a b : List Float} (paper : SquaredPaper bound
     exact-there x = x
 
 pub shift-keeps : ShiftKeeps
-shift-keeps bound p a b paper by l e u N = keeps paper by l e u N
+shift-keeps bound p a b paper by l e u = (keeps paper by l e u, gives-back paper by l e u)
 
 pub shift : (f : Format) (bound : ℕ) → Room f bound → Shift f bound
 shift f bound room p q a ra b l rb radii radii' k k' paper by o o' shifted arrays arrays' is is' goes goes' =

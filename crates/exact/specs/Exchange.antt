@@ -136,7 +136,8 @@ module _ {bound : ℕ} {p : Pose} {a b : List Float} (paper : SquaredPaper bound
 abbrev pub ShiftKeeps : Type 0
 ShiftKeeps =
     (bound : ℕ) (p : Pose) (a b : List Float) (paper : SquaredPaper bound p a b) (by : Point) (l : List Float) → length l ≡ length b → (u : Place)
-    → NearestDifference (outlineA paper) (posedB paper) u → NearestDifference (outlineA paper) (posedShifted paper by l) u
+    → (NearestDifference (outlineA paper) (posedB paper) u → NearestDifference (outlineA paper) (posedShifted paper by l) u)
+    × (NearestDifference (outlineA paper) (posedShifted paper by l) u → NearestDifference (outlineA paper) (posedB paper) u)
 
 abbrev pub Shift : Format → ℕ → Type 0
 Shift f bound =
