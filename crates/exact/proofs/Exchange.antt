@@ -47,7 +47,8 @@ module _ (c s : Int) (quarter : c ⊠ c ⊞ s ⊠ s ≃ ofNat 1) where
       )
 
   -- turned back, negated and then negated and turned: as it was
-  there-and-back : (v w : Point) → w .x ≃ neg (turnedBack c s v .x) → w .y ≃ neg (turnedBack c s v .y) → (v .x ≃ neg (turned c s w .x)) × (v .y ≃ neg (turned c s w .y))
+  there-and-back : (v w : Point) → w .x ≃ neg (turnedBack c s v .x) → w .y ≃ neg (turnedBack c s v .y)
+      → (v .x ≃ neg (turned c s w .x)) × (v .y ≃ neg (turned c s w .y))
   there-and-back v w hx hy =
       let X = negated (var 0 :* var 2 :+ var 1 :* var 3) in
       let Y = negated (var 0 :* var 3 :- var 1 :* var 2) in
@@ -199,9 +200,11 @@ module _ {bound : ℕ} {p : Pose} {a b : List Float} (paper : SquaredPaper bound
       let ex = whole (u .over .x) (h .x) (n .is .0) in
       let ey = whole (u .over .y) (h .y) (n .is .1) in
       let across : (m x y : Int) → m ⊠ neg (c ⊠ x ⊟ s ⊠ y) ≃ neg (c ⊠ (m ⊠ x) ⊟ s ⊠ (m ⊠ y)) = λ m x y.
-      ring (var 0 :* negated (var 1 :* var 3 :- var 2 :* var 4)) (negated (var 1 :* (var 0 :* var 3) :- var 2 :* (var 0 :* var 4))) (m ∷ c ∷ s ∷ x ∷ y ∷ []) tt in
+      ring (var 0 :* negated (var 1 :* var 3 :- var 2 :* var 4)) (negated (var 1 :* (var 0 :* var 3) :- var 2 :* (var 0 :* var 4)))
+      (m ∷ c ∷ s ∷ x ∷ y ∷ []) tt in
       let up : (m x y : Int) → m ⊠ neg (s ⊠ x ⊞ c ⊠ y) ≃ neg (s ⊠ (m ⊠ x) ⊞ c ⊠ (m ⊠ y)) = λ m x y.
-      ring (var 0 :* negated (var 2 :* var 3 :+ var 1 :* var 4)) (negated (var 2 :* (var 0 :* var 3) :+ var 1 :* (var 0 :* var 4))) (m ∷ c ∷ s ∷ x ∷ y ∷ []) tt in
+      ring (var 0 :* negated (var 2 :* var 3 :+ var 1 :* var 4)) (negated (var 2 :* (var 0 :* var 3) :+ var 1 :* (var 0 :* var 4)))
+      (m ∷ c ∷ s ∷ x ∷ y ∷ []) tt in
       let cx = ⊠-cong-r c (A ⊠ B ⊠ u .over .x) (k ⊠ h .x) ex in
       let sx = ⊠-cong-r s (A ⊠ B ⊠ u .over .x) (k ⊠ h .x) ex in
       let cy = ⊠-cong-r c (A ⊠ B ⊠ u .over .y) (k ⊠ h .y) ey in
@@ -217,7 +220,8 @@ module _ {bound : ℕ} {p : Pose} {a b : List Float} (paper : SquaredPaper bound
         least = λ α β. least α β;
       }
     where
-      least : (α : PointOf (outlineA paper)) (β : PointOf (posedB paper)) → squared (negatedAndTurned paper u) ≤ᶠ squared (differenceOf (outlineA paper) (posedB paper) α β)
+      least : (α : PointOf (outlineA paper)) (β : PointOf (posedB paper))
+          → squared (negatedAndTurned paper u) ≤ᶠ squared (differenceOf (outlineA paper) (posedB paper) α β)
       least α β =
           let A = divisor (outlineA paper) α in
           let B = divisor (posedB paper) β in
@@ -247,12 +251,14 @@ module _ {bound : ℕ} {p : Pose} {a b : List Float} (paper : SquaredPaper bound
         let wy = turn-within c (neg s) transposed bound (D .y) (D .x) (n .y) (n .x) in
         let ex : difference l (posedA paper .corner i) .x ≃ neg (c ⊠ D .x ⊞ s ⊠ D .y) = omega (
           arith,
-          ring (var 4 :* square :- (var 0 :* var 2 :- negated (var 1) :* var 3 :+ negated (var 0 :* var 6 :+ var 1 :* var 7))) (negated (var 0 :* X :+ var 1 :* Y)) ρ tt,
+          ring (var 4 :* square :- (var 0 :* var 2 :- negated (var 1) :* var 3 :+ negated (var 0 :* var 6 :+ var 1 :* var 7)))
+              (negated (var 0 :* X :+ var 1 :* Y)) ρ tt,
           one-times c s (paper .quarterTurn) (l .x),
         ) in
         let ey : difference l (posedA paper .corner i) .y ≃ neg (c ⊠ D .y ⊞ neg s ⊠ D .x) = omega (
           arith,
-          ring (var 5 :* square :- (negated (var 1) :* var 2 :+ var 0 :* var 3 :+ negated (var 0 :* var 7 :- var 1 :* var 6))) (negated (var 0 :* Y :+ negated (var 1) :* X)) ρ tt,
+          ring (var 5 :* square :- (negated (var 1) :* var 2 :+ var 0 :* var 3 :+ negated (var 0 :* var 7 :- var 1 :* var 6)))
+              (negated (var 0 :* Y :+ negated (var 1) :* X)) ρ tt,
           one-times c s (paper .quarterTurn) (l .y),
         ) in
         record {

@@ -115,19 +115,22 @@ there = over5 (record { x = int (pos 7); y = int (negsuc 20) })
 pub slanted-nearest : NearestDifference (sheetA binary32 slanted) (sheetB binary32 slanted) here
 unfolding _⊠_
 slanted-nearest =
-    nearest-by-corners (sheetA binary32 slanted) (sheetB binary32 slanted) here (lit< tt) (record { weight = two 0 1; some = lit< tt }) (record { weight = two 1 4; some = lit< tt }) (refl, refl) 1 0
+    nearest-by-corners (sheetA binary32 slanted) (sheetB binary32 slanted) here (lit< tt) (record { weight = two 0 1; some = lit< tt })
+    (record { weight = two 1 4; some = lit< tt }) (refl, refl) 1 0
     (below2 _ (lit≤ tt) (lit≤ tt)) (below2 _ (lit≤ tt) (lit≤ tt)) (lit≤ tt)
 
 pub slanted-back-nearest : NearestDifference (sheetA binary32 slantedBack) (sheetB binary32 slantedBack) there
 unfolding _⊠_
 slanted-back-nearest =
-    nearest-by-corners (sheetA binary32 slantedBack) (sheetB binary32 slantedBack) there (lit< tt) (record { weight = two 1 4; some = lit< tt }) (record { weight = two 0 1; some = lit< tt }) (refl, refl) 0 1
+    nearest-by-corners (sheetA binary32 slantedBack) (sheetB binary32 slantedBack) there (lit< tt) (record { weight = two 1 4; some = lit< tt })
+    (record { weight = two 0 1; some = lit< tt }) (refl, refl) 0 1
     (below2 _ (lit≤ tt) (lit≤ tt)) (below2 _ (lit≤ tt) (lit≤ tt)) (lit≤ tt)
 
 pub slanted-moved-nearest : NearestDifference (sheetA binary32 slantedMoved) (sheetB binary32 slantedMoved) here
 unfolding _⊠_
 slanted-moved-nearest =
-    nearest-by-corners (sheetA binary32 slantedMoved) (sheetB binary32 slantedMoved) here (lit< tt) (record { weight = two 0 1; some = lit< tt }) (record { weight = two 1 4; some = lit< tt }) (refl, refl) 1 0
+    nearest-by-corners (sheetA binary32 slantedMoved) (sheetB binary32 slantedMoved) here (lit< tt) (record { weight = two 0 1; some = lit< tt })
+    (record { weight = two 1 4; some = lit< tt }) (refl, refl) 1 0
     (below2 _ (lit≤ tt) (lit≤ tt)) (below2 _ (lit≤ tt) (lit≤ tt)) (lit≤ tt)
 
 -- the one is the other, negated and turned by the quarter
@@ -152,7 +155,8 @@ by = record { x = int (pos 2); y = int (negsuc 2) }
 
 slanted-shifted : IsShifted paperSlanted by (drawnPose binary32 slantedMoved) (drawn binary32 (slantedMoved .b))
 unfolding _⊠_
-slanted-shifted = shifted-drawn binary32 slanted slantedMoved slanted-on-paper slanted-moved-on-paper by refl refl refl refl refl (below2 _ (refl, refl) (refl, refl))
+slanted-shifted = shifted-drawn binary32 slanted slantedMoved slanted-on-paper slanted-moved-on-paper by refl refl refl refl refl
+    (below2 _ (refl, refl) (refl, refl))
 
 none-is-cache : IsCache none
 none-is-cache = record { a = refl; b = refl }

@@ -60,15 +60,18 @@ as-short u v w some (ex, ey) h =
       arith,
       ⊠-cong (l ⊠ U .x) (k ⊠ V' .x) (l ⊠ U .x) (k ⊠ V' .x) ex ex,
       ⊠-cong (l ⊠ U .y) (k ⊠ V' .y) (l ⊠ U .y) (k ⊠ V' .y) ey ey,
-      ring (var 0 :* var 0 :* (var 1 :* var 1 :+ var 2 :* var 2)) (var 0 :* var 1 :* (var 0 :* var 1) :+ var 0 :* var 2 :* (var 0 :* var 2)) (l ∷ U .x ∷ U .y ∷ []) tt,
-      ring (var 0 :* var 0 :* (var 1 :* var 1 :+ var 2 :* var 2)) (var 0 :* var 1 :* (var 0 :* var 1) :+ var 0 :* var 2 :* (var 0 :* var 2)) (k ∷ V' .x ∷ V' .y ∷ []) tt,
+      ring (var 0 :* var 0 :* (var 1 :* var 1 :+ var 2 :* var 2)) (var 0 :* var 1 :* (var 0 :* var 1) :+ var 0 :* var 2 :* (var 0 :* var 2))
+          (l ∷ U .x ∷ U .y ∷ []) tt,
+      ring (var 0 :* var 0 :* (var 1 :* var 1 :+ var 2 :* var 2)) (var 0 :* var 1 :* (var 0 :* var 1) :+ var 0 :* var 2 :* (var 0 :* var 2))
+          (k ∷ V' .x ∷ V' .y ∷ []) tt,
     ) in
     let ll : 0Int ≼ l ⊠ l = ⊠-square l in
     let back = ⊠-nonneg-back (k ⊠ k) (l ⊠ l ⊠ ww ⊟ m ⊠ m ⊠ vv) (⊠-pos k k some some) (omega (
       arith,
       ⊠-mono (l ⊠ l) (m ⊠ m ⊠ uu) (k ⊠ k ⊠ ww) ll h,
       ⊠-cong-r (m ⊠ m) (l ⊠ l ⊠ uu) (k ⊠ k ⊠ vv) sides,
-      ring (var 0 :* (var 1 :* var 3 :- var 2 :* var 4)) (var 1 :* (var 0 :* var 3) :- var 2 :* (var 0 :* var 4)) ((k ⊠ k) ∷ (l ⊠ l) ∷ (m ⊠ m) ∷ ww ∷ vv ∷ []) tt,
+      ring (var 0 :* (var 1 :* var 3 :- var 2 :* var 4)) (var 1 :* (var 0 :* var 3) :- var 2 :* (var 0 :* var 4))
+          ((k ⊠ k) ∷ (l ⊠ l) ∷ (m ⊠ m) ∷ ww ∷ vv ∷ []) tt,
       ring (var 0 :* (var 1 :* var 2)) (var 1 :* (var 0 :* var 2)) ((l ⊠ l) ∷ (m ⊠ m) ∷ uu ∷ []) tt,
     )) in
     omega arith
@@ -90,7 +93,8 @@ sum-of-two (suc n) x y v w g =
       arith,
       sum-of-two n x y v w g,
       ⊠-cong (ofNat (x * v n + y * w n)) (ofNat x ⊠ ofNat (v n) ⊞ ofNat y ⊠ ofNat (w n)) (g n) (g n) split refl,
-      ring (var 0 :* var 4 :+ var 1 :* var 5 :+ (var 0 :* var 2 :+ var 1 :* var 3) :* var 6) (var 0 :* (var 4 :+ var 2 :* var 6) :+ var 1 :* (var 5 :+ var 3 :* var 6))
+      ring (var 0 :* var 4 :+ var 1 :* var 5 :+ (var 0 :* var 2 :+ var 1 :* var 3) :* var 6)
+          (var 0 :* (var 4 :+ var 2 :* var 6) :+ var 1 :* (var 5 :+ var 3 :* var 6))
           (ofNat x ∷ ofNat y ∷ ofNat (v n) ∷ ofNat (w n) ∷ V' ∷ W ∷ g n ∷ []) tt,
     )
 
@@ -160,11 +164,13 @@ module _ (a b : Outline) (p p' : PointOf a) (q q' : PointOf b) where
 
   middle-x : middle .over .x ≃ ofNat 2 ⊠ (A' ⊠ B' ⊠ G .x ⊞ A ⊠ B ⊠ G' .x)
   middle-x =
-      mixed (dividend a p .x) (dividend a p' .x) (dividend b q .x) (dividend b q' .x) _ _ _ _ (halfway-x a p p') (halfway-x b q q') (halfway-divisor a p p') (halfway-divisor b q q')
+      mixed (dividend a p .x) (dividend a p' .x) (dividend b q .x) (dividend b q' .x) _ _ _ _ (halfway-x a p p') (halfway-x b q q') (halfway-divisor a p p')
+      (halfway-divisor b q q')
 
   middle-y : middle .over .y ≃ ofNat 2 ⊠ (A' ⊠ B' ⊠ G .y ⊞ A ⊠ B ⊠ G' .y)
   middle-y =
-      mixed (dividend a p .y) (dividend a p' .y) (dividend b q .y) (dividend b q' .y) _ _ _ _ (halfway-y a p p') (halfway-y b q q') (halfway-divisor a p p') (halfway-divisor b q q')
+      mixed (dividend a p .y) (dividend a p' .y) (dividend b q .y) (dividend b q' .y) _ _ _ _ (halfway-y a p p') (halfway-y b q q') (halfway-divisor a p p')
+      (halfway-divisor b q q')
 
   abbrev W : Int
   W = A ⊠ B
@@ -195,7 +201,8 @@ module _ (a b : Outline) (p p' : PointOf a) (q q' : PointOf b) where
         arith,
         ⊠-cong (middle .over .x) x (middle .over .x) x middle-x middle-x,
         ⊠-cong (middle .over .y) y (middle .over .y) y middle-y middle-y,
-        ring (lit (ofNat 2) :* var 0 :* (lit (ofNat 2) :* var 0) :+ lit (ofNat 2) :* var 1 :* (lit (ofNat 2) :* var 1)) (lit (ofNat 4) :* (var 0 :* var 0 :+ var 1 :* var 1))
+        ring (lit (ofNat 2) :* var 0 :* (lit (ofNat 2) :* var 0) :+ lit (ofNat 2) :* var 1 :* (lit (ofNat 2) :* var 1))
+            (lit (ofNat 4) :* (var 0 :* var 0 :+ var 1 :* var 1))
             (N .x ∷ N .y ∷ []) tt,
       )
 
@@ -216,11 +223,13 @@ module _ (a b : Outline) (p p' : PointOf a) (q q' : PointOf b) where
         ⊠-cong (m ⊠ m) (mk ⊠ mk) g g (⊠-cong m mk m mk em em) refl,
         ⊠-cong-r (k ⊠ k) mm (ofNat 4 ⊠ nn) emm,
         ring (lit (ofNat 4) :* (var 0 :* var 0) :* (var 3 :- lit (ofNat 4) :* (var 1 :* var 1 :* var 2)))
-            (var 0 :* var 0 :* (lit (ofNat 4) :* var 3) :- lit (ofNat 4) :* (var 0 :* var 1) :* (lit (ofNat 4) :* (var 0 :* var 1)) :* var 2) (k ∷ l ∷ g ∷ nn ∷ []) tt,
+            (var 0 :* var 0 :* (lit (ofNat 4) :* var 3) :- lit (ofNat 4) :* (var 0 :* var 1) :* (lit (ofNat 4) :* (var 0 :* var 1)) :* var 2)
+            (k ∷ l ∷ g ∷ nn ∷ []) tt,
       )) in
       omega arith
 
-  same-difference : squared (differenceOf a b p q) ≤ᶠ squared middle → squared (differenceOf a b p' q') ≤ᶠ squared middle → differenceOf a b p q ≈ differenceOf a b p' q'
+  same-difference : squared (differenceOf a b p q) ≤ᶠ squared middle → squared (differenceOf a b p' q') ≤ᶠ squared middle
+      → differenceOf a b p q ≈ differenceOf a b p' q'
   same-difference h h' =
       let m = middle .under in
       let mm = dot (middle .over) (middle .over) in
@@ -237,7 +246,8 @@ module _ (a b : Outline) (p p' : PointOf a) (q q' : PointOf b) where
         one,
         other,
         ring (x :* x :+ y :* y :+ (x :* x :+ y :* y) :+ (X :* X :+ Y :* Y) :+ (X :* X :+ Y :* Y))
-            (four (var 1 :* var 1 :* (var 2 :* var 2 :+ var 3 :* var 3)) :+ four (var 0 :* var 0 :* (var 4 :* var 4 :+ var 5 :* var 5))) (W ∷ W' ∷ G .x ∷ G .y ∷ G' .x ∷ G' .y ∷ []) tt,
+            (four (var 1 :* var 1 :* (var 2 :* var 2 :+ var 3 :* var 3)) :+ four (var 0 :* var 0 :* (var 4 :* var 4 :+ var 5 :* var 5)))
+            (W ∷ W' ∷ G .x ∷ G .y ∷ G' .x ∷ G' .y ∷ []) tt,
       )) in
       (omega (arith, zero-both .0), omega (arith, zero-both .1))
 
@@ -274,6 +284,13 @@ nearest-by-corners a b u some p q is i j topA topB level = record { some = some;
           arith,
           ⊠-mono W (dot v v) (k ⊠ dot v z) (omega arith) level,
           ⊠-mono k (W ⊠ dot v z) (dot v G) (omega (arith, some))
-              (omega (arith, within-reach a b (opposite v) i j topA topB p q, back G, ⊠-cong-r W (dot (opposite v) z) (neg (dot v z)) (back z), ⊠-neg W (dot v z))),
+              (omega (
+                arith,
+                within-reach a b (opposite v) i j topA topB p q,
+                back G,
+                ⊠-cong-r W (dot (opposite v) z) (neg (dot v z)) (back z),
+                ⊠-neg W
+                    (dot v z),
+              )),
           ring (var 0 :* (var 1 :* var 2)) (var 1 :* (var 0 :* var 2)) (W ∷ k ∷ dot v z ∷ []) tt,
         ))

@@ -21,7 +21,8 @@ use Rattle.exact.proofs.Told.{told, told-too}
 use Rattle.exact.proofs.Demand3.{demand3, room-of}
 
 -- ---- the same corners, written in another way
-sum-same : (n : ℕ) (weight : ℕ → ℕ) (g h : ℕ → Int) → ((i : ℕ) → g i ≃ h i) → sumBelow n (λ i. ofNat (weight i) ⊠ g i) ≃ sumBelow n (λ i. ofNat (weight i) ⊠ h i)
+sum-same : (n : ℕ) (weight : ℕ → ℕ) (g h : ℕ → Int) → ((i : ℕ) → g i ≃ h i)
+    → sumBelow n (λ i. ofNat (weight i) ⊠ g i) ≃ sumBelow n (λ i. ofNat (weight i) ⊠ h i)
 sum-same zero weight g h same = refl
 sum-same (suc n) weight g h same = omega (arith, sum-same n weight g h same, ⊠-cong-r (ofNat (weight n)) (g n) (h n) (same n))
 
@@ -60,7 +61,8 @@ module _ (a : Outline) (n : ℕ) (g h : ℕ → Point) (same-x : (i : ℕ) → g
             omega (
               arith,
               N .least p (again q),
-              ⊠-cong-r (k ⊠ k) (dot v v) (dot w w) (omega (arith, ⊠-cong (v .x) (w .x) (v .x) (w .x) (gap-x p q) (gap-x p q), ⊠-cong (v .y) (w .y) (v .y) (w .y) (gap-y p q) (gap-y p q))),
+              ⊠-cong-r (k ⊠ k) (dot v v) (dot w w)
+                  (omega (arith, ⊠-cong (v .x) (w .x) (v .x) (w .x) (gap-x p q) (gap-x p q), ⊠-cong (v .y) (w .y) (v .y) (w .y) (gap-y p q) (gap-y p q))),
             );
       }
 
@@ -120,7 +122,8 @@ module _ {bound : ℕ} {p : Pose} {a b : List Float} (paper : SquaredPaper bound
       near = near-still;
     }
 
-    exact-there : {e : Ending} {k : SimplexCache} → Exact (outlineA shifted-paper) (posedB shifted-paper) e k → Exact (outlineA paper) (posedShifted paper by l) e k
+    exact-there : {e : Ending} {k : SimplexCache} → Exact (outlineA shifted-paper) (posedB shifted-paper) e k
+        → Exact (outlineA paper) (posedShifted paper by l) e k
     unfolding shifted-paper
     exact-there x = x
 

@@ -39,7 +39,11 @@ module _ (a b : Outline) where
         some = omega arith;
         p = s .p;
         q = s .q;
-        is = (same-back d originPlace (at-origin (d .over .x) (d .under) (omega (arith, s .equal-x)), at-origin (d .over .y) (d .under) (omega (arith, s .equal-y))));
+        is = (same-back d originPlace (
+          at-origin (d .over .x) (d .under) (omega (arith, s .equal-x)),
+          at-origin (d .over .y) (d .under)
+              (omega (arith, s .equal-y)),
+        ));
         least = λ p q. let e = differenceOf a b p q in
             omega (
               arith,
@@ -81,7 +85,8 @@ module _ (a b : Outline) where
         λ x y z w hx hy. omega (
           arith,
           ⊠-cong (divisor a p ⊠ divisor b q) (k ⊠ k) (z ⊟ w) (z ⊟ w) (⊠-cong (divisor a p) k (divisor b q) k (omega arith) (omega arith)) refl,
-          ⊠-cong-r k (divisor b q ⊠ x ⊟ divisor a p ⊠ y) (k ⊠ z ⊟ k ⊠ w) (omega (arith, ⊠-cong (divisor b q) k x z (omega arith) hx, ⊠-cong (divisor a p) k y w (omega arith) hy)),
+          ⊠-cong-r k (divisor b q ⊠ x ⊟ divisor a p ⊠ y) (k ⊠ z ⊟ k ⊠ w)
+              (omega (arith, ⊠-cong (divisor b q) k x z (omega arith) hx, ⊠-cong (divisor a p) k y w (omega arith) hy)),
           ring (var 0 :* var 0 :* (var 1 :- var 2)) (var 0 :* (var 0 :* var 1 :- var 0 :* var 2)) (k ∷ z ∷ w ∷ []) tt,
         ) in
         record {
