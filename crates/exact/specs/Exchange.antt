@@ -76,6 +76,7 @@ module _ {bound : ℕ} {p : Pose} {a b : List Float} (paper : SquaredPaper bound
     pub sine : IsWhole (q .rotation .s) (neg (paper .sine))
     pub shift : IsPoint (q .translation) inverseShift
 
+  -- seen from B: its own corners, and those of A under the inverse pose
   abbrev pub ownB : Outline
   ownB = record { count = length b / 2; corner = paper .cornerB }
 
@@ -100,6 +101,7 @@ ExchangeTurns =
     (bound : ℕ) (p : Pose) (a b : List Float) (paper : SquaredPaper bound p a b) (u : Place)
     → NearestDifference (ownB paper) (posedA paper) u → NearestDifference (outlineA paper) (posedB paper) (negatedAndTurned paper u)
 
+-- of every two such calls that are answered and do not end at the round limit, whatever their caches
 abbrev pub Exchange : Format → ℕ → Type 0
 Exchange f bound =
     (p q : Pose) (a : List Float) (ra : Float) (b : List Float) (rb : Float) (radii radii' : Bool) (c c' : SimplexCache)
@@ -139,6 +141,7 @@ ShiftKeeps =
     → (NearestDifference (outlineA paper) (posedB paper) u → NearestDifference (outlineA paper) (posedShifted paper by l) u)
     × (NearestDifference (outlineA paper) (posedShifted paper by l) u → NearestDifference (outlineA paper) (posedB paper) u)
 
+-- of every two such calls that are answered and do not end at the round limit, whatever their caches
 abbrev pub Shift : Format → ℕ → Type 0
 Shift f bound =
     (p q : Pose) (a : List Float) (ra : Float) (b l : List Float) (rb : Float) (radii radii' : Bool) (c c' : SimplexCache)
