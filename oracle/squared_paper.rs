@@ -193,6 +193,12 @@ struct Job<'a> {
     least: Fraction,
 }
 
+/// How a call ended, and the cache that it returned.
+struct Called {
+    ending: u32,
+    cache: SimplexCache,
+}
+
 #[derive(Default)]
 struct Tally {
     calls: u64,
@@ -204,8 +210,8 @@ struct Tally {
 }
 
 impl Tally {
-    /// Makes the call and looks at what the claims say of it. Answers the ending and the returned cache.
-    fn call(&mut self, job: &Job, radii: (f32, f32, bool), given: SimplexCache) -> (u32, SimplexCache) {
+    /// Makes the call and looks at what the claims say of it.
+    fn call(&mut self, job: &Job, radii: (f32, f32, bool), given: SimplexCache) -> Called {
         let (a, b) = (ToiProxy::from_points(job.a, radii.0), ToiProxy::from_points(job.b, radii.1));
         let mut cache = given;
         let output = proxy_distance(&job.pose, &a, &b, radii.2, &mut cache);
@@ -249,7 +255,7 @@ impl Tally {
             println!("WRONG: ending {ending}, least {:?}, A {:?}, B {:?}, pose {:?}, cache {given:?} to {cache:?}", job.least, job.a, job.b, job.pose);
             std::process::exit(1);
         }
-        (ending, cache)
+        Called { ending, cache }
     }
 
     fn tell(&self, what: &str, since: Instant) {
@@ -436,7 +442,7 @@ impl Pair {
         let (a, b, pose) = self.drawn(random);
         let job = Job { a: &a, b: &b, pose, whole_a: &self.a, posed_b: &self.posed, least };
         let (radii, cache) = (any_radii(random), any_cache(random, a.len() as u32, b.len() as u32));
-        let (ending, cache) = tally.call(&job, radii, cache);
+        let Called { ending, cache } = tally.call(&job, radii, cache);
         let named: Vec<(u32, u32)> = (0..cache.count.min(3) as usize).map(|i| (cache.index_a[i], cache.index_b[i])).collect();
         match ending {
             counts::TOUCHING => Some((Place(0, 0, 1), Vec::new())),
