@@ -10,6 +10,7 @@ mod Weights
 mod Nearest
 mod Entries
 mod Rounds
+mod RoundLimit
 mod Answered
 pub mod Accepted
 pub mod Demand3

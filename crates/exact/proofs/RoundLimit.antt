@@ -1,0 +1,5 @@
+mod Potential
+mod Turning
+mod Between
+mod Edge
+mod States
