@@ -19,8 +19,9 @@ use Rattle.model.specs.declared.WitnessPoints.{WitnessPoints}
 use Rattle.model.specs.Distance.{cache, replaced, written, measuredBy, cacheBy, measure, rounds, witnessPoints, distanceBy, distanceRefusal, proxyDistance}
 use Rattle.exact.specs.Outline.{SpansNearestPlace}
 use Rattle.exact.specs.SquaredPaper.{SquaredPaper, outlineA, posedB, IsCache, Room, boundOf, Exact, Demand3, Answered}
+use Rattle.exact.proofs.Below.{below1, below2, below3}
 use Rattle.exact.proofs.Paper.{InDomain}
-use Rattle.exact.proofs.Solved.{below1, below2, below3, one, two, three}
+use Rattle.exact.proofs.Solved.{one, two, three}
 use Rattle.exact.proofs.Entries.{valid-by-entries}
 use Rattle.exact.proofs.Rounds.{Slots, Spanned, RightEnd, Right, call-right}
 use Rattle.exact.proofs.Answered.{answered-in-domain}

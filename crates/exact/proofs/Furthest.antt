@@ -45,7 +45,7 @@ module _ (f : Format) (bound : ℕ) (room : Room f bound) {d : Vector} {e : Poin
       ring (var 0 :* (var 2 :- var 4) :+ var 1 :* (var 3 :- var 5)) (var 0 :* var 2 :+ var 1 :* var 3 :- (var 0 :* var 4 :+ var 1 :* var 5))
       (e .x ∷ e .y ∷ z k .x ∷ z k .y ∷ z 0 .x ∷ z 0 .y ∷ []) tt
 
-  abbrev value : ℕ → Int
+  abbrev pub value : ℕ → Int
   value k = dot e (difference (z k) (z 0))
 
   -- the best of the first i corners, and its value
@@ -70,15 +70,15 @@ module _ (f : Format) (bound : ℕ) (room : Room f bound) {d : Vector} {e : Poin
       )
 
   -- the corners of l stand from place i on
-  abbrev From : List Float → ℕ → Type 0
+  abbrev pub From : List Float → ℕ → Type 0
   From l i = (k : ℕ) → k < length l / 2 → SizedPoint bound (minus f (point l k) o) (difference (z (i + k)) (z 0)) 4 1
 
-  first-is : (x y : Float) (l : List Float) (i : ℕ) → From (x ∷ y ∷ l) i → IsWhole (Ground.dot f d (minus f (vector x y) o)) (value i)
+  pub first-is : (x y : Float) (l : List Float) (i : ℕ) → From (x ∷ y ∷ l) i → IsWhole (Ground.dot f d (minus f (vector x y) o)) (value i)
   first-is x y l i h =
       let here : i + 0 ≡ i = omega arith in
       dot-sized f bound room along (subst (λ (k : ℕ). SizedPoint bound (minus f (vector x y) o) (difference (z k) (z 0)) 4 1) here (h 0 (omega arith))) tt tt tt .int
 
-  rest-are : (x y : Float) (l : List Float) (i : ℕ) → From (x ∷ y ∷ l) i → From l (i + 1)
+  pub rest-are : (x y : Float) (l : List Float) (i : ℕ) → From (x ∷ y ∷ l) i → From l (i + 1)
   rest-are x y l i h k r =
       subst (λ (q : Vector). SizedPoint bound (minus f q o) (difference (z (i + 1 + k)) (z 0)) 4 1) (next-point x y l k)
       (subst (λ (j : ℕ). SizedPoint bound (minus f (point (x ∷ y ∷ l) (suc k)) o) (difference (z j) (z 0)) 4 1) (omega arith) (h (suc k) (omega arith)))

@@ -3,7 +3,7 @@
 use mathlib.Core.Path.{refl}
 use mathlib.Core.List.{[], _∷_}
 use Prim.Native.Nat.{ℕ, zero, suc, _+_, _-_, _<_}
-use native.Mathlib.Nat.{zero-lt-suc}
+use native.Mathlib.Nat.{le-refl, zero-lt-suc}
 use native.Mathlib.Omega.{arith}
 use Rattle.integers.specs.Signed.{Int, 0Int, ofNat, neg, _⊞_, _⊠_, _≼_, _≺_, _≃_}
 use Rattle.integers.specs.Polynomial.{Expr, var, lit, _:+_, _:-_, _:*_, negated}
@@ -11,6 +11,7 @@ use Rattle.integers.proofs.Signed.{⊠-cong, ⊠-cong-r}
 use Rattle.integers.proofs.Ring.{ring}
 use Rattle.exact.specs.Plane.{Point, sum, difference, opposite, dot, perp, total, weightedSum}
 use Rattle.exact.specs.Regions.{toward, across}
+use Rattle.exact.proofs.Below.{below1, below2}
 use Rattle.exact.proofs.Sketch.{dotᴱ, towardᴱ, acrossᴱ, offEdgeᴱ, P, Q, R, parts}
 
 pub record Kept (d : Point) (m : ℕ) (kept : ℕ → Point) (n : ℕ) (held : ℕ → Point) : Type 0 where
@@ -22,6 +23,7 @@ pub record Kept (d : Point) (m : ℕ) (kept : ℕ → Point) (n : ℕ) (held : �
   pub along-y : d .y ≃ neg (ofNat times ⊠ weightedSum m weight kept .y)
   pub level : Int
   pub flat : dot d (weightedSum m weight kept) ≃ ofNat (total m weight) ⊠ level
+  pub own : (i : ℕ) → i < m → dot d (kept i) ≼ level
   pub top : (i : ℕ) → i < n → dot d (held i) ≼ level
 
 -- the origin is a weighted mean of the places held
@@ -45,6 +47,7 @@ same-direction {d} {m} {kept} {n} {held} e h k K = record {
   along-y = omega (arith, K .along-y);
   level = K .level;
   flat = omega (arith, K .flat, dot-cong d e (weightedSum m (K .weight) kept) h k);
+  own = λ i l. omega (arith, K .own i l, dot-cong d e (kept i) h k);
   top = λ i l. omega (arith, K .top i l, dot-cong d e (held i) h k);
 }
 
@@ -69,6 +72,7 @@ kept-vertex kept n held top =
       along-x = ring x (negated (1ᴱ :* (0ᴱ :+ 1ᴱ :* var 0))) ρ tt;
       along-y = ring y (negated (1ᴱ :* (0ᴱ :+ 1ᴱ :* var 1))) ρ tt;
       level = dot (opposite (kept 0)) (kept 0);
+      own = below1 _ (le-refl _);
       flat = ring (x :* (0ᴱ :+ 1ᴱ :* var 0) :+ y :* (0ᴱ :+ 1ᴱ :* var 1)) (1ᴱ :* (x :* var 0 :+ y :* var 1)) ρ tt;
       top = top;
     }
@@ -115,6 +119,7 @@ kept-edge kept n held h k top =
       along-x = omega (arith, twice (u .x) (w .x), ring (offEdgeᴱ P Q .x) (mean (P .x) (Q .x)) (parts u w u) tt);
       along-y = omega (arith, twice (u .y) (w .y), ring (offEdgeᴱ P Q .y) (mean (P .y) (Q .y)) (parts u w u) tt);
       level = dot d u;
+      own = below2 _ (le-refl _) (omega (arith, ends-level u w));
       flat = omega (
         arith,
         ring (var 0 :* (0ᴱ :+ var 6 :* var 2 :+ var 7 :* var 4) :+ var 1 :* (0ᴱ :+ var 6 :* var 3 :+ var 7 :* var 5))

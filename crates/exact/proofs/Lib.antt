@@ -1,4 +1,5 @@
 mod Sketch
+mod Below
 mod Enclosed
 mod Vectors
 mod Origin
@@ -6,13 +7,16 @@ mod Kept
 mod Solved
 mod Furthest
 mod Paper
+mod Along
 mod Weights
 mod Nearest
+mod Shorter
 mod Entries
 mod Rounds
 mod RoundLimit
 mod Answered
 pub mod Accepted
 pub mod Demand3
+pub mod NoCircles
 mod Sheets
 mod Instances

@@ -15,7 +15,7 @@ use Rattle.exact.proofs.Weights.{⊠-mono, dot-of-sum, sum-at-most, sum
 
 -- ---- two points of the plane: u is K times the kept place, v is W times a point of the difference
 -- along d, which is opposite to u, v lies no further than W times the level of u: then v lies beyond u
-beyond : (d u v : Point) (K times level W : Int) → 0Int ≼ K → 0Int ≺ times → d .x ≃ neg (times ⊠ u .x) → d .y ≃ neg (times ⊠ u .y) → dot d u ≃ K ⊠ level → dot d v ≼ W ⊠ level
+pub beyond : (d u v : Point) (K times level W : Int) → 0Int ≼ K → 0Int ≺ times → d .x ≃ neg (times ⊠ u .x) → d .y ≃ neg (times ⊠ u .y) → dot d u ≃ K ⊠ level → dot d v ≼ W ⊠ level
     → W ⊠ dot u u ≼ K ⊠ dot u v
 beyond d u v K times level W hK forth along-x along-y flat far =
     let back = opposite (scaled times u) in
@@ -34,7 +34,7 @@ beyond d u v K times level W hK forth along-x along-y flat far =
     omega arith
 
 -- what lies beyond u is no nearer to the origin than u
-no-nearer : (u v : Point) (K W : Int) → 0Int ≼ W → W ⊠ dot u u ≼ K ⊠ dot u v → W ⊠ W ⊠ dot u u ≼ K ⊠ K ⊠ dot v v
+pub no-nearer : (u v : Point) (K W : Int) → 0Int ≼ W → W ⊠ dot u u ≼ K ⊠ dot u v → W ⊠ W ⊠ dot u u ≼ K ⊠ K ⊠ dot v v
 no-nearer u v K W hW h =
     let ρ : List Int = u .x ∷ u .y ∷ v .x ∷ v .y ∷ K ∷ W ∷ [] in
     let x = var 4 :* var 2 :- var 5 :* var 0 in
@@ -49,6 +49,22 @@ no-nearer u v K W hW h =
       ring (x :* x :+ y :* y) (var 4 :* var 4 :* (var 2 :* var 2 :+ var 3 :* var 3) :- across :- across :+ own) ρ tt,
       ring own (var 5 :* var 5 :* (var 0 :* var 0 :+ var 1 :* var 1)) ρ tt,
     )
+
+-- where there is a direction, the kept place is not the origin
+pub kept-off-origin : {d : Point} {m : ℕ} {kept : ℕ → Point} {n : ℕ} {held : ℕ → Point} (K : Kept d m kept n held) → 0Int ≺ dot d d
+    → 0Int ≺ dot (weightedSum m (K .weight) kept) (weightedSum m (K .weight) kept)
+kept-off-origin {d} {m} {kept} K far =
+    let u = weightedSum m (K .weight) kept in
+    let t = ofNat (K .times) in
+    let back = opposite (scaled t u) in
+    let x = negated (var 0 :* var 1) in
+    let y = negated (var 0 :* var 2) in
+    ⊠-pos-back (t ⊠ t) (dot u u) (⊠-square t) (omega (
+      arith,
+      ⊠-cong (d .x) (back .x) (d .x) (back .x) (K .along-x) (K .along-x),
+      ⊠-cong (d .y) (back .y) (d .y) (back .y) (K .along-y) (K .along-y),
+      ring (var 0 :* var 0 :* (var 1 :* var 1 :+ var 2 :* var 2)) (x :* x :+ y :* y) (t ∷ u .x ∷ u .y ∷ []) tt,
+    ))
 
 module _ (a b : Outline) where
   -- along d a point of the difference lies no further than its corners do
@@ -159,13 +175,9 @@ module _ (a b : Outline) where
           let q = sh .q in
           let v = gap a b p q in
           let W = divisor a p ⊠ divisor b q in
-          let t = ofNat (K .times) in
           let K' = ofNat (total m (K .weight)) in
           let hW : 0Int ≺ W = ⊠-pos (divisor a p) (divisor b q) (omega (arith, p .some)) (omega (arith, q .some)) in
-          let back = opposite (scaled t u) in
-          let sq : dot d d ≃ dot back back = omega (arith, ⊠-cong (d .x) (back .x) (d .x) (back .x) (K .along-x) (K .along-x), ⊠-cong (d .y) (back .y) (d .y) (back .y) (K .along-y) (K .along-y)) in
-          let uu : 0Int ≺ dot u u =
-          ⊠-pos-back (t ⊠ t) (dot u u) (⊠-square t) (omega (arith, ring (var 0 :* var 0 :* (var 1 :* var 1 :+ var 2 :* var 2)) (negated (var 0 :* var 1) :* negated (var 0 :* var 1) :+ negated (var 0 :* var 2) :* negated (var 0 :* var 2)) (t ∷ u .x ∷ u .y ∷ []) tt)) in
+          let uu = kept-off-origin K far in
           let zx : u .x ⊠ v .x ≃ u .x ⊠ 0Int = ⊠-cong-r (u .x) (v .x) 0Int (omega (arith, sh .equal-x)) in
           let zy : u .y ⊠ v .y ≃ u .y ⊠ 0Int = ⊠-cong-r (u .y) (v .y) 0Int (omega (arith, sh .equal-y)) in
           let zz : K' ⊠ dot u v ≃ K' ⊠ 0Int = ⊠-cong-r K' (dot u v) 0Int (omega (arith, ⊠-zero (u .x), ⊠-zero (u .y))) in

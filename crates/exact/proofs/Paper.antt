@@ -97,7 +97,7 @@ pub record InDomain {bound : ℕ} {p : Pose} {a b : List Float} (paper : Squared
   pub smallShift : Near 1048576 (paper .shift)
 
 -- turned back
-abbrev unturned : Int → Int → Point → Point
+abbrev pub unturned : Int → Int → Point → Point
 unturned c s a = record { x = c ⊠ a .x ⊞ s ⊠ a .y; y = c ⊠ a .y ⊟ s ⊠ a .x }
 
 module _ (f : Format) {bound : ℕ} (room : Room f bound) {p : Pose} {a b : List Float} (paper : SquaredPaper bound p a b) (domain : InDomain paper) where
@@ -147,7 +147,7 @@ module _ (f : Format) {bound : ℕ} (room : Room f bound) {p : Pose} {a b : List
       })
 
   -- two corners of A are near each other, since both are near a posed corner of B
-  acrossA : (i : ℕ) → i < length a / 2 → SizedPoint bound (minus f (point a i) (point a 0)) (difference (paper .cornerA i) (paper .cornerA 0)) 4 1
+  pub acrossA : (i : ℕ) → i < length a / 2 → SizedPoint bound (minus f (point a i) (point a 0)) (difference (paper .cornerA i) (paper .cornerA 0)) 4 1
   acrossA i h =
       let n = paper .near i 0 h (domain .someB) in
       let m = paper .near 0 0 (domain .someA) (domain .someB) in
@@ -157,7 +157,7 @@ module _ (f : Format) {bound : ℕ} (room : Room f bound) {p : Pose} {a b : List
       })
 
   -- so are two of B: turned back, the difference of the posed ones is theirs
-  acrossB : (j : ℕ) → j < length b / 2 → SizedPoint bound (minus f (point b j) (point b 0)) (difference (paper .cornerB j) (paper .cornerB 0)) 4 1
+  pub acrossB : (j : ℕ) → j < length b / 2 → SizedPoint bound (minus f (point b j) (point b 0)) (difference (paper .cornerB j) (paper .cornerB 0)) 4 1
   acrossB j h =
       let n = paper .near 0 j (domain .someA) h in
       let m = paper .near 0 0 (domain .someA) (domain .someB) in
@@ -188,7 +188,7 @@ module _ (f : Format) {bound : ℕ} (room : Room f bound) {p : Pose} {a b : List
       let e : 1 * bound ^ 0 ≡ 1 = ap (λ (q : ℕ). 1 * q) (pow-zero bound) in
       record { int = i .whole; small = record { upper = omega (arith, i .within .upper); lower = omega (arith, i .within .lower) } }
 
-  turned-back : {d : Vector} {e : Point} → SizedPoint bound d e 16 3 → SizedPoint bound (inverseRotate f (p .rotation) (negate d)) (unturned c s (opposite e)) 32 3
+  pub turned-back : {d : Vector} {e : Point} → SizedPoint bound d e 16 3 → SizedPoint bound (inverseRotate f (p .rotation) (negate d)) (unturned c s (opposite e)) 32 3
   turned-back i =
       let n = negate-sized f bound room i in
       let ic = unit-sized (cosine-is paper) in

@@ -29,9 +29,10 @@ use Rattle.model.specs.Distance.{cache, allBelow, held, blank, vertex, cached, 
 use Rattle.exact.specs.Plane.{Point, dot, total}
 use Rattle.exact.specs.Outline.{SharesPoint, NoneNearer}
 use Rattle.exact.specs.SquaredPaper.{SquaredPaper, Room, outlineA, posedB}
+use Rattle.exact.proofs.Below.{below1, below2, below3}
 use Rattle.exact.proofs.Vectors.{SizedPoint}
 use Rattle.exact.proofs.Kept.{Kept, Covered}
-use Rattle.exact.proofs.Solved.{below1, below2, below3, places, Stands, Held, one, two, three, Outcome, vertexLeft, edgeLeft, covers, solves}
+use Rattle.exact.proofs.Solved.{places, Stands, Held, one, two, three, Outcome, vertexLeft, edgeLeft, covers, solves}
 use Rattle.exact.proofs.Entries.{entries-below}
 use Rattle.exact.proofs.Nearest.{pair, covered-shares, no-direction, none-nearer, none-shared}
 use Rattle.exact.proofs.Paper.{InDomain, pair-sized, Extreme, supports}
@@ -66,14 +67,14 @@ module _ (f : Format) {bound : ℕ} (room : Room f bound) {p : Pose} {a b : List
   abbrev nb : ℕ
   nb = length b / 2
 
-  abbrev places-of : ℕ → ℕ → Point
+  abbrev pub places-of : ℕ → ℕ → Point
   places-of = pair (outlineA paper) (posedB paper)
 
   abbrev pub Slots : List SimplexVertex → ℕ → Type 0
   Slots = Held bound na nb places-of
 
   -- ---- the start
-  vertex-stands : (i j : ℕ) (x : Float) → i < na → j < nb → Stands bound na nb places-of (vertex f a b p i j x)
+  pub vertex-stands : (i j : ℕ) (x : Float) → i < na → j < nb → Stands bound na nb places-of (vertex f a b p i j x)
   unfolding vertex
   vertex-stands i j x h k = record { inA = h; inB = k; whole = pair-sized f room paper domain i j h k }
 
@@ -92,7 +93,7 @@ module _ (f : Format) {bound : ℕ} (room : Room f bound) {p : Pose} {a b : List
       clash : suc (suc (suc (suc n))) ≤ 3 → ⊥
       clash h = omega arith
 
-  start-slots : (c : SimplexCache) → Slots (startSimplex f a b p c) (startCount f a b p c)
+  pub start-slots : (c : SimplexCache) → Slots (startSimplex f a b p c) (startCount f a b p c)
   unfolding startSimplex
   start-slots c = go (fromCache f a b p c) (λ h. h)
     where
@@ -137,7 +138,7 @@ module _ (f : Format) {bound : ℕ} (room : Room f bound) {p : Pose} {a b : List
   fresh d x = vertex f a b p (supportA f a b p d) (supportB f a b p d) x
 
   -- the test d dot d < EPSILON * EPSILON passes just where there is no direction
-  tiny-direction : {d : Vector} {e : Point} → SizedPoint bound d e 16 3
+  pub tiny-direction : {d : Vector} {e : Point} → SizedPoint bound d e 16 3
       → Test (I.lt (Ground.dot f d d) (I.mul f (epsilon f) (epsilon f))) ((e .x ≃ 0Int) × (e .y ≃ 0Int)) (0Int ≺ e .x ⊠ e .x ⊞ e .y ⊠ e .y)
   tiny-direction {d} {e} i =
       let (k, is) = epsilon-squared f in
@@ -198,7 +199,7 @@ module _ (f : Format) {bound : ℕ} (room : Room f bound) {p : Pose} {a b : List
           round-ends s e _ _ it i K (one x) (λ S. record { slots = one x; weight = S .weight; some = S .some; nearest = S .nearest }) (λ y. ih _ 2 d (it + 1) (two x y))
       go t m d (edgeLeft e x y i K) ih =
           round-ends s e _ _ it i K (two x y) (λ S. record { slots = two x y; weight = S .weight; some = S .some; nearest = S .nearest }) (λ z. ih _ 3 d (it + 1) (three x y z))
-      go t m d (covers c) ih = shares h c
+      go t m d (covers x y z c) ih = shares (three x y z) c
 
   pub call-right : (c : SimplexCache) → Right (rounds f a b p c)
   call-right c = rounds-right _ (startSimplex f a b p c) (startCount f a b p c) (origin f) 0 (start-slots c)

@@ -1,8 +1,8 @@
 -- The solvers of the distance call: what stands in the slots after a solve. The vertices that count stand for corners of the outlines, as they did before, and either
 -- the origin is covered, or they are what `Kept` says. Assumes nothing.
 use mathlib.Core.List.{List, [], _∷_}
-use Prim.Native.Nat.{ℕ, zero, suc, _<_}
-use native.Mathlib.Nat.{le-refl, not-suc-le-zero, le-of-suc-le-suc}
+use Prim.Native.Nat.{ℕ, _<_}
+use native.Mathlib.Nat.{le-refl}
 use native.Mathlib.Omega.{arith}
 use lib.Ieee.{Float, Format}
 use Rattle.integers.specs.Signed.{_≼_}
@@ -16,23 +16,11 @@ use Rattle.model.specs.Ground.{negate}
 use Rattle.exact.specs.Plane.{Point, opposite, dot}
 use Rattle.exact.specs.Regions.{Lies2, Lies3}
 use Rattle.exact.specs.SquaredPaper.{Room}
+use Rattle.exact.proofs.Below.{below1, below2, below3}
 use Rattle.exact.proofs.Vectors.{SizedPoint, weaken-point, negate-sized, minus-sized, plus-sized, perpDot-sized}
 use Rattle.exact.proofs.Enclosed.{across-swap}
 use Rattle.exact.proofs.Origin.{region2-lies, region3-lies}
 use Rattle.exact.proofs.Kept.{Kept, Covered, same-direction, kept-vertex, kept-edge, covered, offEdge, off-either-way, ends-level, behind-vertex, behind-edge}
-
--- ---- a fact of the places below 1, 2 or 3
-pub below1 : (F : ℕ → Type 0) → F 0 → (i : ℕ) → i < 1 → F i
-below1 F a zero h = a
-below1 F a (suc i) h = absurd (not-suc-le-zero (le-of-suc-le-suc h))
-
-pub below2 : (F : ℕ → Type 0) → F 0 → F 1 → (i : ℕ) → i < 2 → F i
-below2 F a b zero h = a
-below2 F a b (suc i) h = below1 (λ j. F (suc j)) b i (le-of-suc-le-suc h)
-
-pub below3 : (F : ℕ → Type 0) → F 0 → F 1 → F 2 → (i : ℕ) → i < 3 → F i
-below3 F a b c zero h = a
-below3 F a b c (suc i) h = below2 (λ j. F (suc j)) b c i (le-of-suc-le-suc h)
 
 -- ---- slots, by the counts of corners and the place of each pair of corners: the one less the other
 module _ (bound na nb : ℕ) (pair : ℕ → ℕ → Point) where
@@ -60,7 +48,7 @@ module _ (bound na nb : ℕ) (pair : ℕ → ℕ → Point) where
         → Outcome s n (x ∷ y ∷ z ∷ []) 1 d
     edgeLeft : {x y z : SimplexVertex} {d : Vector} (e : Point) → Stands x → Stands y → SizedPoint bound d e 16 3 → Kept e 2 (places (x ∷ y ∷ z ∷ [])) n (places s)
         → Outcome s n (x ∷ y ∷ z ∷ []) 2 d
-    covers : {t : List SimplexVertex} {d : Vector} → Covered n (places s) → Outcome s n t 3 d
+    covers : {x y z : SimplexVertex} {d : Vector} → Stands x → Stands y → Stands z → Covered 3 (places (x ∷ y ∷ z ∷ [])) → Outcome s n (x ∷ y ∷ z ∷ []) 3 d
 
   abbrev pub Solves : List SimplexVertex → ℕ → Solved → Type 0
   Solves s n r = Outcome s n (r .simplex) (r .count) (r .direction)
@@ -161,7 +149,7 @@ module _ (bound na nb : ℕ) (pair : ℕ → ℕ → Point) where
           edgeLeft (offEdge w u) (reweighed _ k) (reweighed _ j) (offEdge-sized (j .whole) (k .whole))
           (same-direction (offEdge w u) (same .0) (same .1) (kept-edge _ 3 (places s3) (h .1) (h .0) top))
       -- the origin is on every vertex's side of the opposite edge
-      keep3 inside h = covers (covered (places s3) (h .0) (h .1) (h .2))
+      keep3 inside h = covers (reweighed _ i) (reweighed _ j) (reweighed _ k) (covered _ (h .0) (h .1) (h .2))
 
     pub solves : {s : List SimplexVertex} {n : ℕ} → Held s n → Solves s n (solve f s n)
     unfolding solve solveSimplex2 solveSimplex3

@@ -3,3 +3,4 @@ pub mod Outline
 pub mod SquaredPaper
 pub mod Regions
 pub mod Sheet
+pub mod NoCircles
