@@ -3,3 +3,6 @@ mod Turning
 mod Between
 mod Edge
 mod States
+mod Caps
+mod Regions
+mod Ends
