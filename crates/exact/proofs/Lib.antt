@@ -13,10 +13,10 @@ mod Nearest
 mod Shorter
 mod Entries
 mod Rounds
-mod RoundLimit
 mod Answered
 pub mod Accepted
 pub mod Demand3
 pub mod NoCircles
+pub mod RoundLimit
 mod Sheets
 mod Instances

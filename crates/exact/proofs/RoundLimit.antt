@@ -1,3 +1,7 @@
+-- On squared paper the round limit is never reached, over either format and every bound that leaves the room, if there are enough rounds; and at 16 the call's 20 are.
+-- So at 16 the call is exact, always. The parts, in order: the potential of two certified points over plain numbers (`Potential`), turns and the identities between them
+-- (`Turning`), directions that lie between (`Between`), what a solve tells (`Edge`), the states (`States`), how large a cap can be (`Caps`), which region leads to which
+-- state (`Regions`), and the rounds themselves (`Ends`). Assumes nothing.
 mod Potential
 mod Turning
 mod Between
@@ -6,3 +10,78 @@ mod States
 mod Caps
 mod Regions
 mod Ends
+use mathlib.Core.Path.{_≡_, refl, sym, ap, _∙_, subst}
+use mathlib.Core.Bool.{Bool}
+use mathlib.Core.List.{List}
+use Prim.Native.Nat.{ℕ, zero, suc, _/_, _%_, _≤_, _<_}
+use native.Mathlib.Omega.{arith}
+use lib.Dec.{lit≤, lit<}
+use lib.ListN.{length}
+use lib.Ieee.{Float, Format, binary32, binary64}
+use Rattle.model.specs.declared.Pose.{Pose}
+use Rattle.model.specs.declared.SimplexCache.{SimplexCache}
+use Rattle.model.specs.declared.Ending.{Ending}
+use Rattle.model.specs.declared.Ending.the-variants.{RoundLimit}
+use Rattle.model.specs.declared.ProxyDistanceOutput.{ProxyDistanceOutput}
+use Rattle.model.specs.declared.DistanceAnswer.the-variants.{Measured, Refused}
+use Rattle.model.specs.Distance.{measure, rounds, witnessPoints, distanceBy, distanceRefusal, proxyDistance}
+use Rattle.exact.specs.SquaredPaper.{SquaredPaper, Room, Fits, InTheDomain}
+use Rattle.exact.specs.RoundLimit.{EnoughRounds, roundsWithin, NeverRunOut, LimitNeverReached, AlwaysExact}
+use Rattle.exact.proofs.Paper.{InDomain}
+use Rattle.exact.proofs.Answered.{answered-in-domain}
+use Rattle.exact.proofs.Accepted.{accepted}
+use Rattle.exact.proofs.Demand3.{ending-told, demand3}
+use Rattle.exact.proofs.RoundLimit.Ends.{InTime, call-ends}
+
+in-time : (f : Format) {bound : ℕ} → Room f bound → (k : ℕ) → EnoughRounds bound k → {p : Pose} {a b : List Float} (paper : SquaredPaper bound p a b) → InDomain paper → (c : SimplexCache)
+    → roundsWithin f k p a b c .ending ≡ RoundLimit → ⊥
+in-time f room k enough paper domain c e = subst InTime e (call-ends f room paper domain (enough .quarters) (enough .small) k (enough .rounds) c)
+
+pub never-run-out : (f : Format) (bound : ℕ) → Room f bound → (k : ℕ) → EnoughRounds bound k → NeverRunOut f bound k
+never-run-out f bound room k enough p a ra b rb c paper inputs = in-time f room k enough paper domain c
+  where
+    some : (n : ℕ) → n % 2 ≡ 0 → 0 < n → 0 < n / 2
+    some n even h = omega arith
+
+    domain : InDomain paper
+    domain = record {
+      someA = some (length a) (inputs .pointsA .even) (inputs .pointsA .some);
+      someB = some (length b) (inputs .pointsB .even) (inputs .pointsB .some);
+      fewA = inputs .pointsA .few;
+      fewB = inputs .pointsB .few;
+      smallB = inputs .nearB;
+      smallShift = inputs .nearShift;
+    }
+
+pub limit-never-reached : (f : Format) (bound : ℕ) → Room f bound → EnoughRounds bound 20 → LimitNeverReached f bound
+unfolding proxyDistance measure
+limit-never-reached f bound room enough p a ra b rb radii c paper o answered = go (distanceRefusal f p a ra b rb radii c) (λ h. h) answered
+  where
+    go : (n : ℕ) → (n ≡ 0 → distanceRefusal f p a ra b rb radii c ≡ 0) → distanceBy f p a ra b rb radii c n .answer ≡ Measured o → o .ending ≡ RoundLimit → ⊥
+    go zero none is limit =
+        let r = rounds f a b p c in
+        let told : measure f p a ra b rb radii c .output ≡ o = cc in
+        let ends : r .ending ≡ o .ending = sym (ending-told f (r .ending) radii ra rb (witnessPoints f (r .simplex) (r .count)) r) ∙ ap (λ (x : ProxyDistanceOutput). x .ending) told in
+        in-time f room 20 enough paper (answered-in-domain f ra rb paper (none refl)) c (ends ∙ limit)
+    go (suc n) none is limit = refused is
+      where
+        refused : Refused (suc n) ≡ Measured o → ⊥
+        refused e = let z : _≡_ {A = ℕ} 0 1 = cc in omega arith
+
+pub always-exact : (f : Format) (bound : ℕ) → Room f bound → EnoughRounds bound 20 → AlwaysExact f bound
+always-exact f bound room enough p a ra b rb radii c paper inputs arrays =
+    let (o, answered) = accepted f bound p a ra b rb radii c paper inputs in
+    let inTime = limit-never-reached f bound room enough p a ra b rb radii c paper o answered in
+    record { output = o; answered = answered; inTime = inTime; exact = demand3 f bound room p a ra b rb radii c paper o arrays answered inTime }
+
+-- ---- at 16, in either format: 8 * 16 ^ 2 < 4 ^ 6, and 2 * 6 + 7 is 19
+pub enough-at-16 : EnoughRounds 16 19
+enough-at-16 = record { quarters = 6; small = lit< tt; rounds = lit≤ tt }
+
+room-at-16 : (f : Format) → Room f 16
+room-at-16 binary32 = (lit≤ tt, lit≤ tt)
+room-at-16 binary64 = (lit≤ tt, lit≤ tt)
+
+-- the call has one round more than it can need
+pub always-exact-at-16 : (f : Format) → AlwaysExact f 16
+always-exact-at-16 f = always-exact f 16 (room-at-16 f) (record { quarters = enough-at-16 .quarters; small = enough-at-16 .small; rounds = omega (arith, enough-at-16 .rounds) })

@@ -4,3 +4,4 @@ pub mod SquaredPaper
 pub mod Regions
 pub mod Sheet
 pub mod NoCircles
+pub mod RoundLimit

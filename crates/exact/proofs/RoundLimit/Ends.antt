@@ -44,10 +44,10 @@ use Rattle.exact.proofs.RoundLimit.Caps.{within-cap}
 use Rattle.exact.proofs.RoundLimit.Regions.{KnownVertex, EitherWay, KnownEdge, Known2, Known3, free-vertex, start2, start3, next2, next3}
 
 -- not at the round limit
-abbrev pub Ends : Ending → Type 0
-Ends Touching = Unit {0}
-Ends Settled = Unit {0}
-Ends RoundLimit = ⊥
+abbrev pub InTime : Ending → Type 0
+InTime Touching = Unit {0}
+InTime Settled = Unit {0}
+InTime RoundLimit = ⊥
 
 -- the differences of two outlines: the places of pairs of corners
 pub data Difference (na nb : ℕ) (place : ℕ → ℕ → Point) : Point → Type 0 where
@@ -146,7 +146,7 @@ module _ (f : Format) {bound : ℕ} (room : Room f bound) {p : Pose} {a b : List
 
   -- where the slots hold the pair that is found along e, a round with that direction ends
   ends-by-held : {d d' : Vector} {e e' : Point} → SizedPoint bound d e 16 3 → SizedPoint bound d' e' 16 3 → e .x ≃ e' .x → e .y ≃ e' .y → (s : List SimplexVertex) (n : ℕ)
-      → held s n (supportA f a b p d) (supportB f a b p d) ≡ true → (k it : ℕ) (t' : List SimplexVertex) (m' : ℕ) → Ends (roundOf k s n it (solved t' m' d') .ending)
+      → held s n (supportA f a b p d) (supportB f a b p d) ≡ true → (k it : ℕ) (t' : List SimplexVertex) (m' : ℕ) → InTime (roundOf k s n it (solved t' m' d') .ending)
   ends-by-held {d} {d'} {e} {e'} i i' same-x same-y s n known k it t' m' = go (touches f (solved t' m' d')) (held s n (supportA f a b p d') (supportB f a b p d')) again
     where
       along : Along e e'
@@ -163,7 +163,7 @@ module _ (f : Format) {bound : ℕ} (room : Room f bound) {p : Pose} {a b : List
       again = held-still f room paper domain s n _ _ _ _ (same-A f room paper domain i i' along) (same-B f room paper domain i i' along) known
 
       go : (touching held : Bool) → held ≡ true
-          → Ends (cond touching (ended Touching t' m' (origin f) it)
+          → InTime (cond touching (ended Touching t' m' (origin f) it)
           (cond held (ended Settled (extended f a b p (solved t' m' d')) m' d' (it + 1)) (roundsFrom f a b p k (extended f a b p (solved t' m' d')) (m' + 1) d' (it + 1))) .ending)
       go true held e = tt
       go false true e = tt
@@ -176,34 +176,34 @@ module _ (f : Format) {bound : ℕ} (room : Room f bound) {p : Pose} {a b : List
   fresh d w = vertex f a b p (supportA f a b p d) (supportB f a b p d) w
 
   vertex-tie : {x : SimplexVertex} {d : Vector} (z : SimplexVertex) (w : Float) (k it : ℕ) → Corner x → Corner (fresh d w) → SizedPoint bound d (opposite (at x)) 16 3
-      → ahead (opposite (at x)) (at (fresh d w)) (at x) ≼ 0Int → Ends (roundsFrom f a b p (suc k) (x ∷ fresh d w ∷ z ∷ []) 2 d it .ending)
+      → ahead (opposite (at x)) (at (fresh d w)) (at x) ≼ 0Int → InTime (roundsFrom f a b p (suc k) (x ∷ fresh d w ∷ z ∷ []) 2 d it .ending)
   unfolding roundsFrom vertex solve solveSimplex2 kept
   vertex-tie {x} {d} z w k it i j sized level =
       let s = x ∷ fresh d w ∷ z ∷ [] in
       let stays : solve f s 2 ≡ kept f s at1 = ap (kept f s) (region2-stays f bound room (i .whole) (j .whole) (omega (arith, level, ahead-off-vertex (at x) (at (fresh d w))))) in
-      subst (λ (r : Solved). Ends (roundOf k s 2 it r .ending)) (sym stays)
+      subst (λ (r : Solved). InTime (roundOf k s 2 it r .ending)) (sym stays)
       (ends-by-held sized (negated-sized bound na nb spot f room i) refl refl s 2 (last-held f room paper domain s 1 _ _ refl refl) k it _ 1)
 
   edge-tie : {x y : SimplexVertex} {d : Vector} {e : Point} (w : Float) (k it : ℕ) → Corner x → Corner y → Corner (fresh d w) → SizedPoint bound d e 16 3 → Edge e (at x) (at y)
-      → ahead e (at (fresh d w)) (at x) ≼ 0Int → Ends (roundsFrom f a b p (suc k) (x ∷ y ∷ fresh d w ∷ []) 3 d it .ending)
+      → ahead e (at (fresh d w)) (at x) ≼ 0Int → InTime (roundsFrom f a b p (suc k) (x ∷ y ∷ fresh d w ∷ []) 3 d it .ending)
   unfolding roundsFrom vertex solve solveSimplex3 kept
   edge-tie {x} {y} {d} {e} w k it i j l sized edge level =
       let s = x ∷ y ∷ fresh d w ∷ [] in
       let off = edge-not-side edge (at (fresh d w)) level in
       let stays : solve f s 3 ≡ kept f s on12 = ap (kept f s) (region3-stays f bound room (i .whole) (j .whole) (l .whole) (edge .ahead-of-x) (edge .ahead-of-y) off) in
-      subst (λ (r : Solved). Ends (roundOf k s 3 it r .ending)) (sym stays)
+      subst (λ (r : Solved). InTime (roundOf k s 3 it r .ending)) (sym stays)
       (ends-by-held sized (offEdge-sized bound na nb spot f room (i .whole) (j .whole)) (edge .same-x) (edge .same-y) s 3 (last-held f room paper domain s 2 _ _ refl refl) k it _ 2)
 
   -- ---- one round: it ends, or it improves, or it ties
   abbrev AllEnd : ℕ → Type 0
-  AllEnd k = (s : List SimplexVertex) (n : ℕ) (d : Vector) (it : ℕ) → Before k s n → Ends (roundsFrom f a b p k s n d it .ending)
+  AllEnd k = (s : List SimplexVertex) (n : ℕ) (d : Vector) (it : ℕ) → Before k s n → InTime (roundsFrom f a b p k s n d it .ending)
 
   -- a tie needs one round more
   one-more : (F : ℕ → Type 0) (k : ℕ) → 2 ≤ suc k → ((k : ℕ) → F (suc k)) → F k
   one-more F zero h then = let bad : ⊥ = omega arith in absurd bad
   one-more F (suc k) h then = then k
 
-  round-ends : (k : ℕ) → AllEnd k → (s : List SimplexVertex) (n it : ℕ) {t : List SimplexVertex} {m : ℕ} {d : Vector} → After (suc k) t m d → Ends (roundOf k s n it (solved t m d) .ending)
+  round-ends : (k : ℕ) → AllEnd k → (s : List SimplexVertex) (n it : ℕ) {t : List SimplexVertex} {m : ℕ} {d : Vector} → After (suc k) t m d → InTime (roundOf k s n it (solved t m d) .ending)
   unfolding vertex
   round-ends k ih s n it {d = d} (vertexLeft {x} {y} {z} i sized known) =
       go (I.lt (Ground.dot f d d) (I.mul f (epsilon f) (epsilon f))) (tiny-direction f room paper domain sized) (held s n (supportA f a b p d) (supportB f a b p d))
@@ -220,16 +220,16 @@ module _ (f : Format) {bound : ℕ} (room : Room f bound) {p : Pose} {a b : List
       new : Corner q
       new = vertex-stands f room paper domain _ _ _ (found .inA) (found .inB)
 
-      on : AtVertex D J (suc k) (at x) → Ends (roundsFrom f a b p k (x ∷ q ∷ z ∷ []) 2 d (it + 1) .ending)
+      on : AtVertex D J (suc k) (at x) → InTime (roundsFrom f a b p k (x ∷ q ∷ z ∷ []) 2 d (it + 1) .ending)
       on state = side (le-or-lt (ahead e (at q) (at x) .plus) (ahead e (at q) (at x) .minus))
         where
           side : (ahead e (at q) (at x) .plus ≤ ahead e (at q) (at x) .minus) ⊎ (ahead e (at q) (at x) .minus < ahead e (at q) (at x) .plus)
-              → Ends (roundsFrom f a b p k (x ∷ q ∷ z ∷ []) 2 d (it + 1) .ending)
-          side (inl l) = one-more (λ k. Ends (roundsFrom f a b p k (x ∷ q ∷ z ∷ []) 2 d (it + 1) .ending)) k (two-left-at-vertex D J state) (λ k. vertex-tie z (y .a) k (it + 1) i new sized (omega arith))
+              → InTime (roundsFrom f a b p k (x ∷ q ∷ z ∷ []) 2 d (it + 1) .ending)
+          side (inl l) = one-more (λ k. InTime (roundsFrom f a b p k (x ∷ q ∷ z ∷ []) 2 d (it + 1) .ending)) k (two-left-at-vertex D J state) (λ k. vertex-tie z (y .a) k (it + 1) i new sized (omega arith))
           side (inr l) = ih _ 2 d (it + 1) (vertexNext i new (found-certified found) (omega arith) state)
 
       go : (tiny : Bool) → Test tiny ((e .x ≃ 0Int) × (e .y ≃ 0Int)) (0Int ≺ dot e e) → (known : Bool)
-          → Ends (cond tiny (ended Touching (x ∷ y ∷ z ∷ []) 1 (origin f) it)
+          → InTime (cond tiny (ended Touching (x ∷ y ∷ z ∷ []) 1 (origin f) it)
           (cond known (ended Settled (x ∷ q ∷ z ∷ []) 1 d (it + 1)) (roundsFrom f a b p k (x ∷ q ∷ z ∷ []) 2 d (it + 1))) .ending)
       go true h known = tt
       go false h true = tt
@@ -250,16 +250,16 @@ module _ (f : Format) {bound : ℕ} (room : Room f bound) {p : Pose} {a b : List
       two-left (inl state) = two-left-at-edge D J state
       two-left (inr state) = two-left-at-edge D J state
 
-      on : EitherWay D J (suc k) e (at x) (at y) → Ends (roundsFrom f a b p k (x ∷ y ∷ q ∷ []) 3 d (it + 1) .ending)
+      on : EitherWay D J (suc k) e (at x) (at y) → InTime (roundsFrom f a b p k (x ∷ y ∷ q ∷ []) 3 d (it + 1) .ending)
       on state = side (le-or-lt (ahead e (at q) (at x) .plus) (ahead e (at q) (at x) .minus))
         where
           side : (ahead e (at q) (at x) .plus ≤ ahead e (at q) (at x) .minus) ⊎ (ahead e (at q) (at x) .minus < ahead e (at q) (at x) .plus)
-              → Ends (roundsFrom f a b p k (x ∷ y ∷ q ∷ []) 3 d (it + 1) .ending)
-          side (inl l) = one-more (λ k. Ends (roundsFrom f a b p k (x ∷ y ∷ q ∷ []) 3 d (it + 1) .ending)) k (two-left state) (λ k. edge-tie (z .a) k (it + 1) i j new sized (known .0) (omega arith))
+              → InTime (roundsFrom f a b p k (x ∷ y ∷ q ∷ []) 3 d (it + 1) .ending)
+          side (inl l) = one-more (λ k. InTime (roundsFrom f a b p k (x ∷ y ∷ q ∷ []) 3 d (it + 1) .ending)) k (two-left state) (λ k. edge-tie (z .a) k (it + 1) i j new sized (known .0) (omega arith))
           side (inr l) = ih _ 3 d (it + 1) (edgeNext e i j new (known .0) (found-certified found) (omega arith) state)
 
       go : (tiny : Bool) → Test tiny ((e .x ≃ 0Int) × (e .y ≃ 0Int)) (0Int ≺ dot e e) → (held : Bool)
-          → Ends (cond tiny (ended Touching (x ∷ y ∷ z ∷ []) 2 (origin f) it)
+          → InTime (cond tiny (ended Touching (x ∷ y ∷ z ∷ []) 2 (origin f) it)
           (cond held (ended Settled (x ∷ y ∷ q ∷ []) 2 d (it + 1)) (roundsFrom f a b p k (x ∷ y ∷ q ∷ []) 3 d (it + 1))) .ending)
       go true h held = tt
       go false h true = tt
@@ -278,5 +278,5 @@ module _ (f : Format) {bound : ℕ} (room : Room f bound) {p : Pose} {a b : List
   rounds-end zero s n d it before = none-left before
   rounds-end (suc k) s n d it before = round-ends k (rounds-end k) s n it (solved-after before)
 
-  pub call-ends : (k : ℕ) → 2 * J + 7 ≤ k → (c : SimplexCache) → Ends (roundsFrom f a b p k (startSimplex f a b p c) (startCount f a b p c) (origin f) 0 .ending)
+  pub call-ends : (k : ℕ) → 2 * J + 7 ≤ k → (c : SimplexCache) → InTime (roundsFrom f a b p k (startSimplex f a b p c) (startCount f a b p c) (origin f) 0 .ending)
   call-ends k h c = rounds-end k _ _ _ 0 (start h (start-slots f room paper domain c))
