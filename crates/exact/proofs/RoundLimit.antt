@@ -1,5 +1,5 @@
--- On squared paper the round limit is never reached, over either format and every bound that leaves the room, if there are enough rounds; and at 16 the call's 20 are.
--- So at 16 the call is exact, always. The parts, in order: the potential of two certified points over plain numbers (`Potential`), turns and the identities between them
+-- On squared paper the round limit is never reached, over either format and every bound that leaves the room, if there are enough rounds. Within 16 the call's 20 are,
+-- so there the call is exact, always. The parts, in order: the potential of two certified points over plain numbers (`Potential`), turns and the identities between them
 -- (`Turning`), directions that lie between (`Between`), what a solve tells (`Edge`), the states (`States`), how large a cap can be (`Caps`), which region leads to which
 -- state (`Regions`), and the rounds themselves (`Ends`). Assumes nothing.
 mod Potential
@@ -10,6 +10,7 @@ mod States
 mod Caps
 mod Regions
 mod Ends
+mod Reached
 use mathlib.Core.Path.{_≡_, refl, sym, ap, _∙_, subst}
 use mathlib.Core.Bool.{Bool}
 use mathlib.Core.List.{List}
@@ -26,16 +27,16 @@ use Rattle.model.specs.declared.ProxyDistanceOutput.{ProxyDistanceOutput}
 use Rattle.model.specs.declared.DistanceAnswer.the-variants.{Measured, Refused}
 use Rattle.model.specs.Distance.{measure, rounds, witnessPoints, distanceBy, distanceRefusal, proxyDistance}
 use Rattle.exact.specs.SquaredPaper.{SquaredPaper, Room, Fits, InTheDomain}
-use Rattle.exact.specs.RoundLimit.{EnoughRounds, roundsWithin, NeverRunOut, LimitNeverReached, AlwaysExact}
+use Rattle.exact.specs.RoundLimit.{EnoughRounds, boundInTime, roundsWithin, NeverRunOut, LimitNeverReached, AlwaysExact}
 use Rattle.exact.proofs.Paper.{InDomain}
 use Rattle.exact.proofs.Answered.{answered-in-domain}
 use Rattle.exact.proofs.Accepted.{accepted}
-use Rattle.exact.proofs.Demand3.{ending-told, demand3}
+use Rattle.exact.proofs.Demand3.{ending-told, demand3, room-of}
 use Rattle.exact.proofs.RoundLimit.Ends.{InTime, call-ends}
 
 in-time : (f : Format) {bound : ℕ} → Room f bound → (k : ℕ) → EnoughRounds bound k → {p : Pose} {a b : List Float} (paper : SquaredPaper bound p a b) → InDomain paper → (c : SimplexCache)
     → roundsWithin f k p a b c .ending ≡ RoundLimit → ⊥
-in-time f room k enough paper domain c e = subst InTime e (call-ends f room paper domain (enough .quarters) (enough .small) k (enough .rounds) c)
+in-time f room k enough paper domain c e = subst InTime e (call-ends f room paper domain (enough .quarters) (enough .small) k (omega (arith, enough .rounds)) c)
 
 pub never-run-out : (f : Format) (bound : ℕ) → Room f bound → (k : ℕ) → EnoughRounds bound k → NeverRunOut f bound k
 never-run-out f bound room k enough p a ra b rb c paper inputs = in-time f room k enough paper domain c
@@ -74,14 +75,18 @@ always-exact f bound room enough p a ra b rb radii c paper inputs arrays =
     let inTime = limit-never-reached f bound room enough p a ra b rb radii c paper o answered in
     record { output = o; answered = answered; inTime = inTime; exact = demand3 f bound room p a ra b rb radii c paper o arrays answered inTime }
 
--- ---- at 16, in either format: 8 * 16 ^ 2 < 4 ^ 6, and 2 * 6 + 7 is 19
-pub enough-at-16 : EnoughRounds 16 19
-enough-at-16 = record { quarters = 6; small = lit< tt; rounds = lit≤ tt }
+-- ---- the bounds of the formats: 8 * 16 ^ 2 and 8 * 22 ^ 2 are below 4 ^ 6, so 19 rounds are enough, and the call has one more
+pub enough-in-20 : (f : Format) → EnoughRounds (boundInTime f) 20
+enough-in-20 binary32 = record { quarters = 6; small = lit< tt; rounds = lit≤ tt }
+enough-in-20 binary64 = record { quarters = 6; small = lit< tt; rounds = lit≤ tt }
 
-room-at-16 : (f : Format) → Room f 16
-room-at-16 binary32 = (lit≤ tt, lit≤ tt)
-room-at-16 binary64 = (lit≤ tt, lit≤ tt)
+room-in-time : (f : Format) → Room f (boundInTime f)
+room-in-time binary32 = (lit≤ tt, lit≤ tt)
+room-in-time binary64 = (lit≤ tt, lit≤ tt)
 
--- the call has one round more than it can need
-pub always-exact-at-16 : (f : Format) → AlwaysExact f 16
-always-exact-at-16 f = always-exact f 16 (room-at-16 f) (record { quarters = enough-at-16 .quarters; small = enough-at-16 .small; rounds = omega (arith, enough-at-16 .rounds) })
+pub always-exact-on-squared-paper : (f : Format) → AlwaysExact f (boundInTime f)
+always-exact-on-squared-paper f = always-exact f (boundInTime f) (room-in-time f) (enough-in-20 f)
+
+-- at 2,048, where 20 rounds may run out (`Reached`), 33 never do: 8 * 2048 ^ 2 is below 4 ^ 13
+pub never-run-out-of-33 : NeverRunOut binary64 2048 33
+never-run-out-of-33 = never-run-out binary64 2048 (room-of binary64) 33 (record { quarters = 13; small = lit< tt; rounds = lit≤ tt })

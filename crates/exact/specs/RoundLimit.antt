@@ -3,7 +3,7 @@ use mathlib.Core.Path.{_≡_}
 use mathlib.Core.Bool.{Bool}
 use mathlib.Core.List.{List}
 use Prim.Native.Nat.{ℕ, _+_, _*_, _^_, _≤_, _<_}
-use lib.Ieee.{Float, Format}
+use lib.Ieee.{Float, Format, binary32, binary64}
 use Rattle.model.specs.declared.Pose.{Pose}
 use Rattle.model.specs.declared.SimplexCache.{SimplexCache}
 use Rattle.model.specs.declared.Rounds.{Rounds}
@@ -19,6 +19,11 @@ pub record EnoughRounds (bound k : ℕ) : Type 0 where
   pub quarters : ℕ
   pub small : 8 * bound ^ 2 < 4 ^ quarters
   pub rounds : 2 * quarters + 7 ≤ k
+
+-- a bound for each format that leaves room, and for which 20 rounds are enough
+abbrev pub boundInTime : Format → ℕ
+boundInTime binary32 = 16
+boundInTime binary64 = 22
 
 -- the rounds of a call with a limit of k in place of 20
 abbrev pub roundsWithin : Format → ℕ → Pose → List Float → List Float → SimplexCache → Rounds
