@@ -36,7 +36,7 @@ use Rattle.exact.proofs.RoundLimit.Ends.{InTime, call-ends}
 
 in-time : (f : Format) {bound : ℕ} → Room f bound → (k : ℕ) → EnoughRounds bound k → {p : Pose} {a b : List Float} (paper : SquaredPaper bound p a b) → InDomain paper → (c : SimplexCache)
     → roundsWithin f k p a b c .ending ≡ RoundLimit → ⊥
-in-time f room k enough paper domain c e = subst InTime e (call-ends f room paper domain (enough .quarters) (enough .small) k (omega (arith, enough .rounds)) c)
+in-time f room k enough paper domain c e = subst InTime e (call-ends f room paper domain (enough .quarterings) (enough .small) k (enough .rounds) c)
 
 pub never-run-out : (f : Format) (bound : ℕ) → Room f bound → (k : ℕ) → EnoughRounds bound k → NeverRunOut f bound k
 never-run-out f bound room k enough p a ra b rb c paper inputs = in-time f room k enough paper domain c
@@ -77,8 +77,8 @@ always-exact f bound room enough p a ra b rb radii c paper inputs arrays =
 
 -- ---- the bounds of the formats: 8 * 16 ^ 2 and 8 * 22 ^ 2 are below 4 ^ 6, so 19 rounds are enough, and the call has one more
 pub enough-in-20 : (f : Format) → EnoughRounds (boundInTime f) 20
-enough-in-20 binary32 = record { quarters = 6; small = lit< tt; rounds = lit≤ tt }
-enough-in-20 binary64 = record { quarters = 6; small = lit< tt; rounds = lit≤ tt }
+enough-in-20 binary32 = record { quarterings = 6; small = lit< tt; rounds = lit≤ tt }
+enough-in-20 binary64 = record { quarterings = 6; small = lit< tt; rounds = lit≤ tt }
 
 room-in-time : (f : Format) → Room f (boundInTime f)
 room-in-time binary32 = (lit≤ tt, lit≤ tt)
@@ -89,4 +89,4 @@ always-exact-on-squared-paper f = always-exact f (boundInTime f) (room-in-time f
 
 -- at 2,048, where 20 rounds may run out (`Reached`), 33 never do: 8 * 2048 ^ 2 is below 4 ^ 13
 pub never-run-out-of-33 : NeverRunOut binary64 2048 33
-never-run-out-of-33 = never-run-out binary64 2048 (room-of binary64) 33 (record { quarters = 13; small = lit< tt; rounds = lit≤ tt })
+never-run-out-of-33 = never-run-out binary64 2048 (room-of binary64) 33 (record { quarterings = 13; small = lit< tt; rounds = lit≤ tt })

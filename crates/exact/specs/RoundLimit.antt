@@ -14,11 +14,18 @@ use Rattle.model.specs.Ground.{origin}
 use Rattle.model.specs.Distance.{startSimplex, startCount, roundsFrom, proxyDistance}
 use Rattle.exact.specs.SquaredPaper.{SquaredPaper, outlineA, posedB, InTheDomain, IsCache, Exact}
 
--- k rounds are enough for a bound. No triangle of differences has a doubled area above 8 * bound ^ 2, and `quarters` quarterings bring that below 1
+-- the doubled area of a triangle of differences is never larger
+abbrev pub largestArea : ℕ → ℕ
+largestArea bound = 8 * bound ^ 2
+
+-- the rounds that a call can need, where so many quarterings take the largest area below 1
+abbrev pub roundsFor : ℕ → ℕ
+roundsFor quarterings = 2 * quarterings + 7
+
 pub record EnoughRounds (bound k : ℕ) : Type 0 where
-  pub quarters : ℕ
-  pub small : 8 * bound ^ 2 < 4 ^ quarters
-  pub rounds : 2 * quarters + 7 ≤ k
+  pub quarterings : ℕ
+  pub small : largestArea bound < 4 ^ quarterings
+  pub rounds : roundsFor quarterings ≤ k
 
 -- a bound for each format that leaves room, and for which 20 rounds are enough
 abbrev pub boundInTime : Format → ℕ

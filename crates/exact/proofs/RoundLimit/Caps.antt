@@ -1,4 +1,4 @@
--- Three points that are near have a doubled area of at most 8 times the square of the bound. Assumes nothing.
+-- Three points within the bound have a doubled area below the largest. Assumes nothing.
 use mathlib.Core.Path.{_≡_, ap, _∙_}
 use Prim.Native.Nat.{ℕ, _+_, _*_, _^_, _<_}
 use native.Mathlib.Nat.{pow-suc, pow-zero, one-mul}
@@ -8,12 +8,13 @@ use Rattle.integers.specs.Whole.{Within}
 use Rattle.integers.proofs.Sized.{within-product}
 use Rattle.exact.specs.Plane.{Point, difference, perp}
 use Rattle.exact.specs.SquaredPaper.{Near}
+use Rattle.exact.specs.RoundLimit.{largestArea}
 use Rattle.exact.proofs.RoundLimit.Turning.{Sense, left, right, turn}
 
 squared : (n : ℕ) → n ^ 2 ≡ n * n
 squared n = pow-suc n 1 ∙ ap (λ (z : ℕ). z * n) (pow-suc n 0 ∙ ap (λ (z : ℕ). z * n) (pow-zero n) ∙ one-mul n)
 
-module _ (bound J : ℕ) (enough : 8 * bound ^ 2 < 4 ^ J) where
+module _ (bound J : ℕ) (enough : largestArea bound < 4 ^ J) where
   apart : {y z : Int} → Within bound y → Within bound z → Within (2 * bound) (y ⊟ z)
   apart h k = record { upper = omega (arith, h .upper, k .lower); lower = omega (arith, h .lower, k .upper) }
 

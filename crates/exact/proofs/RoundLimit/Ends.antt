@@ -29,6 +29,7 @@ use Rattle.model.specs.Simplex as Simplex
 use Rattle.model.specs.Distance.{held, vertex, startSimplex, startCount, supportA, supportB, ended, touches, extended, roundsFrom}
 use Rattle.exact.specs.Plane.{Point, difference, opposite, dot}
 use Rattle.exact.specs.SquaredPaper.{Near, SquaredPaper, Room, outlineA, posedB}
+use Rattle.exact.specs.RoundLimit.{largestArea, roundsFor}
 use Rattle.exact.proofs.Vectors.{SizedPoint}
 use Rattle.exact.proofs.Origin.{region2-lies, region3-lies, region2-stays, region3-stays}
 use Rattle.exact.proofs.Kept.{offEdge}
@@ -53,7 +54,7 @@ InTime RoundLimit = ⊥
 pub data Difference (na nb : ℕ) (place : ℕ → ℕ → Point) : Point → Type 0 where
   pairOf : (i j : ℕ) → i < na → j < nb → Difference na nb place (place i j)
 
-module _ (f : Format) {bound : ℕ} (room : Room f bound) {p : Pose} {a b : List Float} (paper : SquaredPaper bound p a b) (domain : InDomain paper) (J : ℕ) (enough : 8 * bound ^ 2 < 4 ^ J) where
+module _ (f : Format) {bound : ℕ} (room : Room f bound) {p : Pose} {a b : List Float} (paper : SquaredPaper bound p a b) (domain : InDomain paper) (J : ℕ) (enough : largestArea bound < 4 ^ J) where
   abbrev na : ℕ
   na = length a / 2
 
@@ -96,7 +97,7 @@ module _ (f : Format) {bound : ℕ} (room : Room f bound) {p : Pose} {a b : List
 
   -- ---- before a solve with k rounds left, and after it
   data Before (k : ℕ) : List SimplexVertex → ℕ → Type 0 where
-    start : {s : List SimplexVertex} {n : ℕ} → 2 * J + 7 ≤ k → Slots f room paper domain s n → Before k s n
+    start : {s : List SimplexVertex} {n : ℕ} → roundsFor J ≤ k → Slots f room paper domain s n → Before k s n
     vertexNext : {x q z : SimplexVertex} → Corner x → Corner q → Certified D J (opposite (at x)) (at q) → 0Int ≺ ahead (opposite (at x)) (at q) (at x) → AtVertex D J (suc k) (at x)
         → Before k (x ∷ q ∷ z ∷ []) 2
     edgeNext : {x y q : SimplexVertex} (e : Point) → Corner x → Corner y → Corner q → Edge e (at x) (at y) → Certified D J e (at q) → 0Int ≺ ahead e (at q) (at x)
@@ -278,5 +279,5 @@ module _ (f : Format) {bound : ℕ} (room : Room f bound) {p : Pose} {a b : List
   rounds-end zero s n d it before = none-left before
   rounds-end (suc k) s n d it before = round-ends k (rounds-end k) s n it (solved-after before)
 
-  pub call-ends : (k : ℕ) → 2 * J + 7 ≤ k → (c : SimplexCache) → InTime (roundsFrom f a b p k (startSimplex f a b p c) (startCount f a b p c) (origin f) 0 .ending)
+  pub call-ends : (k : ℕ) → roundsFor J ≤ k → (c : SimplexCache) → InTime (roundsFrom f a b p k (startSimplex f a b p c) (startCount f a b p c) (origin f) 0 .ending)
   call-ends k h c = rounds-end k _ _ _ 0 (start h (start-slots f room paper domain c))

@@ -10,6 +10,7 @@ use Rattle.integers.proofs.Ring.{ring}
 use Rattle.model.specs.Simplex.{Region, at1, at2, at3, on12, on13, on23, inside}
 use Rattle.exact.specs.Plane.{Point, difference, opposite, dot}
 use Rattle.exact.specs.Regions.{toward, across, Lies2, Lies3}
+use Rattle.exact.specs.RoundLimit.{roundsFor}
 use Rattle.exact.proofs.Sketch.{P, dotᴱ, parts}
 use Rattle.exact.proofs.Enclosed.{across-swap}
 use Rattle.exact.proofs.Kept.{offEdge, behind-edge}
@@ -56,7 +57,7 @@ module _ (D : Point → Type 0) (J k : ℕ) where
   Known3 x y z inside = Unit {0}
 
   -- ---- at the start nothing is known
-  module _ (enough : 2 * J + 7 ≤ k) where
+  module _ (enough : roundsFor J ≤ k) where
     pub free-vertex : (x : Point) → KnownVertex x
     free-vertex x some = freeVertex enough
 

@@ -7,6 +7,7 @@ use Rattle.integers.specs.Signed.{Int, 0Int, ofNat, _⊟_, _⊠_, _≼_, _≺_,
 use Rattle.integers.proofs.Signed.{le-or-lt, ⊠-comm, ⊠-cong-r}
 use Rattle.exact.specs.Plane.{Point, difference, opposite, dot}
 use Rattle.exact.specs.Regions.{toward}
+use Rattle.exact.specs.RoundLimit.{roundsFor}
 use Rattle.exact.proofs.RoundLimit.Potential.{Below, u-pos, descend}
 use Rattle.exact.proofs.RoundLimit.Turning.{Sense, other, turn, ahead, turn-back, RoundOf, round-of}
 use Rattle.exact.proofs.RoundLimit.Between.{Between, Properly, between-back, properly, next-between, next-properly}
@@ -20,7 +21,7 @@ module _ (D : Point → Type 0) (J : ℕ) where
   -- a vertex x is kept, with at most k rounds to go
   pub data AtVertex (k : ℕ) (x : Point) : Type 0 where
     -- nothing is known of it
-    freeVertex : 2 * J + 7 ≤ k → AtVertex k x
+    freeVertex : roundsFor J ≤ k → AtVertex k x
     -- it was found along da, with the origin beyond it
     foundVertex : (da : Point) → J + 4 ≤ k → Certified da x → dot da x ≺ 0Int → AtVertex k x
     -- besides, b was found along db, the direction off x lies between, and the pair's potential is at level g
