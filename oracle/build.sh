@@ -1,9 +1,10 @@
 #!/usr/bin/env bash
-# build.sh SRC OUT [RUSTC]: compiles the sweep_toi module of parry2d 0.31.1 over our prelude into OUT/oracle, in release mode.
+# build.sh SRC OUT [RUSTC] [CFG]: compiles the sweep_toi module of parry2d 0.31.1 over our prelude into OUT/oracle, in release mode.
 # SRC is the folder that holds query/sweep_toi/*.rs as published. Nothing of it is kept here: OUT gets a working copy.
 # Mechanical edits, and no others, each of which must fit as often as it says:
 #   1. `.max(` on a number becomes `.max_of(`, the prelude's rule, which the two files then import.
 #   2. in proxy_distance.rs the way a call ends is noted: round limit at its start, touching and settled where it leaves the loop.
+#      With the CFG `rounds` what each solve keeps is noted too.
 #   3. in sweep_toi.rs distance calls, separation searches and root steps are counted where they are made.
 set -eu
 here="$(cd "$(dirname "$0")" && pwd)"
@@ -29,6 +30,7 @@ noted='crate::counts::ending(crate::counts'
 edit proxy_distance 2 'let mut output = ProxyDistanceOutput::default();' "let mut output = ProxyDistanceOutput::default(); $noted::ROUND_LIMIT);"
 edit proxy_distance 1 'corresponding triangle.
         if count == 3 {' "corresponding triangle.
+        #[cfg(rounds)] crate::counts::kept(count, simplex.map(|v| (v.index_a, v.index_b)));
         if count == 3 { $noted::TOUCHING);"
 edit proxy_distance 1 'if d.dot(d) < Real::EPSILON * Real::EPSILON {' "if d.dot(d) < Real::EPSILON * Real::EPSILON { $noted::TOUCHING);"
 edit proxy_distance 2 'if duplicate {' "if duplicate { $noted::SETTLED);"
@@ -36,4 +38,4 @@ edit sweep_toi 1 'distance_iterations += 1;' 'distance_iterations += 1; crate::c
 edit sweep_toi 1 'fcn.find_min_separation(t2);' '{ crate::counts::search(); fcn.find_min_separation(t2) };'
 edit sweep_toi 1 'root_iteration_count += 1;' 'root_iteration_count += 1; crate::counts::root_step();'
 cp "$here"/*.rs "$out/"
-"$rustc" --edition 2021 -C opt-level=3 --cfg 'feature="dim2"' --cfg 'feature="f32"' -A warnings -o "$out/oracle" "$out/main.rs"
+"$rustc" --edition 2021 -C opt-level=3 --cfg 'feature="dim2"' --cfg 'feature="f32"' -A warnings ${4:+--cfg "$4"} -o "$out/oracle" "$out/main.rs"

@@ -1,5 +1,6 @@
-//! What the module's text is made to tell while it runs (see build.sh): three counters, and how the last distance call ended.
-use core::sync::atomic::{AtomicU32, Ordering::Relaxed};
+//! What the module's text is made to tell while it runs (see build.sh): three counters, how the last distance call ended, and
+//! with the cfg `rounds` what each of its solves kept.
+use core::sync::atomic::{AtomicU32, AtomicU64, Ordering::Relaxed};
 
 static DISTANCE_CALLS: AtomicU32 = AtomicU32::new(0);
 static SEARCHES: AtomicU32 = AtomicU32::new(0);
@@ -51,6 +52,25 @@ pub fn ending(e: u32) {
 
 pub fn last_ending() -> u32 {
     ENDING.load(Relaxed)
+}
+
+// each solve's count and, for each vertex kept, the two corners: of outlines of at most 64
+static SOLVES: AtomicU32 = AtomicU32::new(0);
+static KEPT: [AtomicU64; 20] = [const { AtomicU64::new(0) }; 20];
+
+pub fn kept(count: usize, corners: [(u32, u32); 3]) {
+    let packed = corners.iter().fold(count as u64, |p, &(a, b)| p << 12 | (a as u64) << 6 | b as u64);
+    KEPT[SOLVES.load(Relaxed) as usize].store(packed, Relaxed);
+    raise(&SOLVES)
+}
+
+/// What each solve kept since this was last asked, by calling `each` with the corners of A and of B.
+pub fn take_kept(mut each: impl FnMut(&[(usize, usize)])) {
+    for solve in &KEPT[..SOLVES.swap(0, Relaxed) as usize] {
+        let packed = solve.load(Relaxed);
+        let corner = |k: u32| ((packed >> (12 * k + 6) & 63) as usize, (packed >> (12 * k) & 63) as usize);
+        each(&[corner(2), corner(1), corner(0)][..(packed >> 36) as usize])
+    }
 }
 
 /// Distance calls, searches and root steps since this was last asked.

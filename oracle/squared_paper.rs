@@ -1,5 +1,6 @@
 //! Demand 3 tested by running: on squared paper a distance call that does not end at the round limit ends touching exactly when the outlines share a point,
-//! and otherwise the corners in the returned cache span a nearest place. What is right is worked out here in whole numbers and fractions of them, with no float.
+//! and otherwise the corners in the returned cache span a nearest place; and from one solve to the next what is kept comes nearer to the origin, or it
+//! comes as near and the call settles there. What is right is worked out here in whole numbers and fractions of them, with no float.
 use crate::counts;
 use crate::math::{Pose, Rotation, Vector};
 use crate::random::Random;
@@ -155,6 +156,9 @@ struct Tally {
     calls: u64,
     endings: [u64; 3],
     rounds: u32,
+    /// rounds that another solve followed: it kept what is nearer, or as near
+    nearer: u64,
+    stayed: u64,
 }
 
 impl Tally {
@@ -179,7 +183,27 @@ impl Tally {
             }
             _ => true,
         };
-        if !right {
+        let mut last: Option<Fraction> = None;
+        let (mut stays, mut circles) = (0, false);
+        counts::take_kept(|corners| {
+            let mut places = [(0, 0); 3];
+            for (place, &(i, j)) in places.iter_mut().zip(corners) {
+                *place = minus(job.whole_a[i], job.posed_b[j]);
+            }
+            let length = spanned(&places[..corners.len()]);
+            circles |= stays > 0;
+            if let Some(before) = last {
+                if length.below(before) {
+                    self.nearer += 1;
+                } else {
+                    stays += 1;
+                    circles |= before.below(length);
+                }
+            }
+            last = Some(length);
+        });
+        self.stayed += stays;
+        if !right || circles || (stays > 0 && ending != counts::SETTLED) {
             println!("WRONG: ending {ending}, least {:?}, A {:?}, B {:?}, pose {:?}, cache {given:?} to {cache:?}", job.least, job.a, job.b, job.pose);
             std::process::exit(1);
         }
@@ -188,6 +212,7 @@ impl Tally {
     fn tell(&self, what: &str, since: Instant) {
         let [touching, settled, limit] = self.endings;
         println!("{what}: {} calls, {touching} touching, {settled} settled, {limit} round limit, most rounds {}, {} s", self.calls, self.rounds, since.elapsed().as_secs());
+        println!("  rounds that another followed: {} came nearer, {} stayed and settled", self.nearer, self.stayed);
     }
 }
 
@@ -336,6 +361,10 @@ fn random_calls(bound: i64, calls: u64, seed: u64) {
 
 /// `millions` of random calls from `seed` on, after all small outlines.
 pub fn run(millions: u64, seed: u64) {
+    if !cfg!(rounds) {
+        eprintln!("squared-paper: build with the cfg `rounds`, as tests/squared-paper.sh does");
+        std::process::exit(2)
+    }
     all_pairs(4, 3, "every valid cache", valid_caches);
     let mut random = Random(seed);
     all_pairs(4, 4, "an empty cache and seven random ones", |na, nb| {

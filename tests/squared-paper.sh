@@ -3,5 +3,5 @@
 # and makes calls on squared paper: all pairs of small outlines, then MILLIONS of random ones from SEED on. It stops at the first call that the claim does not fit.
 set -eu
 here="$(cd "$(dirname "$0")/.." && pwd)"
-"$here/oracle/build.sh" "$1" "$2"
+"$here/oracle/build.sh" "$1" "$2" rustc rounds
 "$2/oracle" squared-paper "${3:-20}" "${4:-1}"

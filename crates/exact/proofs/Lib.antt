@@ -20,3 +20,4 @@ pub mod NoCircles
 pub mod RoundLimit
 mod Sheets
 mod Instances
+mod CircleInstances

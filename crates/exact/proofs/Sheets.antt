@@ -15,9 +15,11 @@ use lib.Ieee.Fits.{and-l, and-r}
 use Rattle.integers.specs.Signed.{Int, ofNat, _⊞_, _⊟_, _⊠_, _≃_}
 use Rattle.integers.specs.Whole.{IsWhole, Within}
 use Rattle.integers.proofs.Signed.{⊠-square}
+use Rattle.model.specs.declared.SimplexVertex.{SimplexVertex}
 use Rattle.model.specs.Support.{point}
 use Rattle.exact.specs.Plane.{Point, difference}
 use Rattle.exact.specs.SquaredPaper.{IsPoint, Near, SquaredPaper}
+use Rattle.exact.specs.NoCircles.{place}
 use Rattle.exact.proofs.Paper.{wide, unit-root}
 use Rattle.exact.specs.Sheet.{Sheet, int, cornerOf, drawn, drawnPose, every, within, isZero, nearPoint, inDomain, shift, posedCorner, OnPaper}
 
@@ -86,3 +88,8 @@ module _ (f : Format) where
         wholeShift = record { x = number-is (s .shiftX) (moved .x); y = number-is (s .shiftY) (moved .y) };
         near = λ i j k l. is-near bound _ (every-one (length (s .b) / 2) (λ j. within-all i j) (every-one (length (s .a) / 2) (λ i. every (length (s .b) / 2) (λ j. within-all i j)) (h .near) i (omega arith)) j (omega arith));
       }
+
+  -- the vertices of a call on it, by the sheet's own corners
+  pub place-drawn : (s : Sheet) (bound : ℕ) (h : OnPaper s bound) (v : SimplexVertex) → place (on-squared-paper s bound h) v ≡ difference (cornerOf (s .a) (v .«index_a»)) (posedCorner s (v .«index_b»))
+  unfolding on-squared-paper
+  place-drawn s bound h v = refl

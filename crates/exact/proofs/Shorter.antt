@@ -9,7 +9,8 @@ use Rattle.integers.specs.Polynomial.{var, _:+_, _:-_, _:*_, negated}
 use Rattle.integers.proofs.Signed.{le-or-lt, ⊠-comm, ⊠-zero, ⊠-one, ⊠-cong, ⊠-cong-r, ⊠-square, ⊠-pos}
 use Rattle.integers.proofs.Ring.{ring}
 use Rattle.exact.specs.Plane.{Point, scaled, dot, total, weightedSum}
-use Rattle.exact.specs.NoCircles.{_<ᶠ_, _≃ᶠ_, squaredLength, NearestOf, OneLength}
+use Rattle.exact.specs.Fraction.{_≤ᶠ_, _<ᶠ_, _≃ᶠ_}
+use Rattle.exact.specs.NoCircles.{squaredLength, NearestOf, OneLength}
 use Rattle.exact.proofs.Weights.{⊠-mono, dot-of-sum, sum-at-most, sum-at-least}
 use Rattle.exact.proofs.Kept.{Kept, Covered}
 use Rattle.exact.proofs.Nearest.{beyond, no-nearer, kept-off-origin}
@@ -17,50 +18,46 @@ use Rattle.exact.proofs.Along.{no-way, Along}
 
 -- ---- nearest places
 -- weights give the nearest place of some places if none of these lies before the line through it that stands across the way from the origin
-pub nearest-by-level : (n : ℕ) (place : ℕ → Point) (weight : ℕ → ℕ) → 0 < total n weight
-    → ((i : ℕ) → i < n → dot (weightedSum n weight place) (weightedSum n weight place) ≼ dot (scaled (ofNat (total n weight)) (weightedSum n weight place)) (place i))
-    → NearestOf n place
-nearest-by-level n place weight some behind = record { weight = weight; some = some; least = least }
-  where
-    least : (other : ℕ → ℕ) → 0 < total n other
-        → let v = weightedSum n other place in
-        let m = ofNat (total n other) in
-        m ⊠ m ⊠ dot (weightedSum n weight place) (weightedSum n weight place) ≼ ofNat (total n weight) ⊠ ofNat (total n weight) ⊠ dot v v
-    least other h =
-        let v = weightedSum n other place in
-        let m = ofNat (total n other) in
-        let u = weightedSum n weight place in
-        let k = ofNat (total n weight) in
-        no-nearer u v k m (omega arith) (omega (
-          arith,
-          sum-at-least other n (λ i. dot (scaled k u) (place i)) (dot u u) behind,
-          dot-of-sum other n place (scaled k u),
-          ring (var 0 :* var 1 :* var 3 :+ var 0 :* var 2 :* var 4) (var 0 :* (var 1 :* var 3 :+ var 2 :* var 4)) (k ∷ u .x ∷ u .y ∷ v .x ∷ v .y ∷ []) tt,
-        ))
+pub least-by-level : (n : ℕ) (place : ℕ → Point) (weight : ℕ → ℕ)
+    → let u = weightedSum n weight place in
+    ((i : ℕ) → i < n → dot u u ≼ dot (scaled (ofNat (total n weight)) u) (place i))
+    → (other : ℕ → ℕ) → squaredLength n place weight ≤ᶠ squaredLength n place other
+least-by-level n place weight behind other =
+    let v = weightedSum n other place in
+    let u = weightedSum n weight place in
+    let k = ofNat (total n weight) in
+    no-nearer u v k (ofNat (total n other)) (omega arith) (omega (
+      arith,
+      sum-at-least other n (λ i. dot (scaled k u) (place i)) (dot u u) behind,
+      dot-of-sum other n place (scaled k u),
+      ring (var 0 :* var 1 :* var 3 :+ var 0 :* var 2 :* var 4) (var 0 :* (var 1 :* var 3 :+ var 2 :* var 4)) (k ∷ u .x ∷ u .y ∷ v .x ∷ v .y ∷ []) tt,
+    ))
 
 pub nearest-of-kept : {d : Point} {m : ℕ} {kept : ℕ → Point} {n : ℕ} {held : ℕ → Point} → Kept d m kept n held → NearestOf m kept
 nearest-of-kept {d} {m} {kept} K =
     let u = weightedSum m (K .weight) kept in
     let k = ofNat (total m (K .weight)) in
-    nearest-by-level m kept (K .weight) (K .some) (λ i l. omega (
+    let behind : (i : ℕ) → i < m → dot u u ≼ dot (scaled k u) (kept i) = λ i l. omega (
       arith,
       beyond d u (kept i) k (ofNat (K .times)) (K .level) (ofNat 1) (omega arith) (omega (arith, K .forth)) (K .along-x) (K .along-y) (K .flat)
           (omega (arith, K .own i l, ⊠-comm (ofNat 1) (K .level), ⊠-one (K .level))),
       ⊠-comm (ofNat 1) (dot u u),
       ⊠-one (dot u u),
       ring (var 0 :* var 1 :* var 3 :+ var 0 :* var 2 :* var 4) (var 0 :* (var 1 :* var 3 :+ var 2 :* var 4)) (k ∷ u .x ∷ u .y ∷ kept i .x ∷ kept i .y ∷ []) tt,
-    ))
+    ) in
+    record { weight = K .weight; some = K .some; least = λ other h. least-by-level m kept (K .weight) behind other }
 
 -- the origin itself
 pub nearest-of-covered : {n : ℕ} {held : ℕ → Point} → Covered n held → NearestOf n held
 nearest-of-covered {n} {held} c =
     let u = weightedSum n (c .weight) held in
     let k = ofNat (total n (c .weight)) in
-    nearest-by-level n held (c .weight) (c .some) (λ i l. omega (
+    let behind : (i : ℕ) → i < n → dot u u ≼ dot (scaled k u) (held i) = λ i l. omega (
       arith,
       no-way u u (c .zero-x) (c .zero-y),
       no-way (scaled k u) (held i) (omega (arith, ⊠-cong-r k (u .x) 0Int (c .zero-x), ⊠-zero k)) (omega (arith, ⊠-cong-r k (u .y) 0Int (c .zero-y), ⊠-zero k)),
-    ))
+    ) in
+    record { weight = c .weight; some = c .some; least = λ other h. least-by-level n held (c .weight) behind other }
 
 pub one-length : OneLength
 one-length n place u v = omega (arith, u .least (v .weight) (v .some), v .least (u .weight) (u .some))
@@ -150,7 +147,7 @@ module _ {d d' : Point} {m n m' n' : ℕ} {kept held kept' held' : ℕ → Point
   AsLong = squaredLength m' kept' (K' .weight) ≃ᶠ squaredLength m kept (K .weight)
 
   pub shorter-or-same-way : Descent m kept m' kept' (Along d d')
-  unfolding nearest-of-kept nearest-by-level
+  unfolding nearest-of-kept
   shorter-or-same-way = record { before = nearest-of-kept K; after = nearest-of-kept K'; falls = go (le-or-lt (ours .plus + theirs .minus) (theirs .plus + ours .minus)) }
     where
       ours : Int
@@ -165,7 +162,7 @@ module _ {d d' : Point} {m n m' n' : ℕ} {kept held kept' held' : ℕ → Point
 
 -- nothing is shorter than the origin, to which the next solve comes
 pub shorter-at-origin : {d : Point} {m n n' : ℕ} {kept held held' : ℕ → Point} {Else : Type 0} → Kept d m kept n held → 0Int ≺ dot d d → Covered n' held' → Descent m kept n' held' Else
-unfolding nearest-of-kept nearest-of-covered nearest-by-level
+unfolding nearest-of-kept nearest-of-covered
 shorter-at-origin {d} {m} {n' = n'} {kept = kept} {held' = held'} K far c = record { before = nearest-of-kept K; after = nearest-of-covered c; falls = inl shorter }
   where
     shorter : squaredLength n' held' (c .weight) <ᶠ squaredLength m kept (K .weight)

@@ -1,4 +1,5 @@
 pub mod Plane
+pub mod Fraction
 pub mod Outline
 pub mod SquaredPaper
 pub mod Regions

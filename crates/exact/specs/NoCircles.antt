@@ -7,7 +7,7 @@ use mathlib.Core.Bool.{Bool, false}
 use mathlib.Core.List.{List}
 use Prim.Native.Nat.{ℕ, suc, _+_, _<_}
 use lib.Ieee.{Float, Format}
-use Rattle.integers.specs.Signed.{Int, ofNat, _⊠_, _≼_, _≺_, _≃_}
+use Rattle.integers.specs.Signed.{ofNat}
 use Rattle.model.specs.declared.Vector.{Vector}
 use Rattle.model.specs.declared.Pose.{Pose}
 use Rattle.model.specs.declared.SimplexVertex.{SimplexVertex}
@@ -20,31 +20,17 @@ use Rattle.model.specs.declared.DistanceAnswer.the-variants.{Measured}
 use Rattle.model.specs.Ground.{origin}
 use Rattle.model.specs.Simplex.{slot, solve}
 use Rattle.model.specs.Distance.{held, touches, startSimplex, startCount, supportA, supportB, extended, roundsFrom, proxyDistance}
-use Rattle.exact.specs.Plane.{Point, difference, dot, total, weightedSum}
+use Rattle.exact.specs.Plane.{Point, difference, total, weightedSum}
+use Rattle.exact.specs.Fraction.{Fraction, _≤ᶠ_, _<ᶠ_, _≃ᶠ_, Place, squared}
 use Rattle.exact.specs.SquaredPaper.{SquaredPaper, outlineA, posedB}
 
--- ---- fractions, with a bottom above 0; they are compared by cross-multiplying
-pub record Fraction : Type 0 where
-  pub top : Int
-  pub bottom : Int
-
-infix 5 _≤ᶠ_ _<ᶠ_ _≃ᶠ_
-abbrev pub _≤ᶠ_ : Fraction → Fraction → Type 0
-r ≤ᶠ q = q .bottom ⊠ r .top ≼ r .bottom ⊠ q .top
-
-abbrev pub _<ᶠ_ : Fraction → Fraction → Type 0
-r <ᶠ q = q .bottom ⊠ r .top ≺ r .bottom ⊠ q .top
-
-abbrev pub _≃ᶠ_ : Fraction → Fraction → Type 0
-r ≃ᶠ q = q .bottom ⊠ r .top ≃ r .bottom ⊠ q .top
-
 -- ---- the nearest place of n places: the one that is shortest, of all that weights on them give
--- the squared length of what weights give: the weighted sum divided by the total of the weights
+-- what weights give: the weighted sum divided by the total of the weights
+abbrev pub mean : (n : ℕ) → (ℕ → Point) → (ℕ → ℕ) → Place
+mean n place weight = record { over = weightedSum n weight place; under = ofNat (total n weight) }
+
 abbrev pub squaredLength : (n : ℕ) → (ℕ → Point) → (ℕ → ℕ) → Fraction
-squaredLength n place weight =
-    let u = weightedSum n weight place in
-    let k = ofNat (total n weight) in
-    record { top = dot u u; bottom = k ⊠ k }
+squaredLength n place weight = squared (mean n place weight)
 
 pub record NearestOf (n : ℕ) (place : ℕ → Point) : Type 0 where
   pub weight : ℕ → ℕ
@@ -59,20 +45,20 @@ pub record State : Type 0 where
   pub direction : Vector
   pub made : ℕ
 
-module _ (f : Format) (a b : List Float) (p : Pose) where
-  abbrev pub kept : State → Solved
-  kept x = solve f (x .simplex) (x .count)
+abbrev pub kept : Format → State → Solved
+kept f x = solve f (x .simplex) (x .count)
 
+module _ (f : Format) (a b : List Float) (p : Pose) where
   -- neither touching nor settled
   pub record GoesOn (x : State) : Type 0 where
-    pub apart : touches f (kept x) ≡ false
-    pub new : held (x .simplex) (x .count) (supportA f a b p (kept x .direction)) (supportB f a b p (kept x .direction)) ≡ false
+    pub apart : touches f (kept f x) ≡ false
+    pub new : held (x .simplex) (x .count) (supportA f a b p (kept f x .direction)) (supportB f a b p (kept f x .direction)) ≡ false
 
   abbrev pub start : SimplexCache → State
   start c = record { simplex = startSimplex f a b p c; count = startCount f a b p c; direction = origin f; made = 0 }
 
   abbrev pub next : State → State
-  next x = record { simplex = extended f a b p (kept x); count = kept x .count + 1; direction = kept x .direction; made = x .made + 1 }
+  next x = record { simplex = extended f a b p (kept f x); count = kept f x .count + 1; direction = kept f x .direction; made = x .made + 1 }
 
   abbrev pub roundsOf : ℕ → State → Rounds
   roundsOf k x = roundsFrom f a b p k (x .simplex) (x .count) (x .direction) (x .made)
@@ -83,16 +69,16 @@ module _ (f : Format) (a b : List Float) (p : Pose) where
     then : {k : ℕ} {x : State} → Reaches c limit (suc k) x → GoesOn x → Reaches c limit k (next x)
 
 -- ---- the claim
-module _ (f : Format) {bound : ℕ} {p : Pose} {a b : List Float} (paper : SquaredPaper bound p a b) where
-  -- a vertex is in truth a corner of A less a posed corner of B
-  abbrev pub place : SimplexVertex → Point
-  place v = difference (outlineA paper .corner (v .«index_a»)) (posedB paper .corner (v .«index_b»))
+-- a vertex is in truth a corner of A less a posed corner of B
+abbrev pub place : {bound : ℕ} {p : Pose} {a b : List Float} → SquaredPaper bound p a b → SimplexVertex → Point
+place paper v = difference (outlineA paper .corner (v .«index_a»)) (posedB paper .corner (v .«index_b»))
 
+module _ (f : Format) {bound : ℕ} {p : Pose} {a b : List Float} (paper : SquaredPaper bound p a b) where
   abbrev pub NearestKept : State → Type 0
-  NearestKept x = NearestOf (kept f a b p x .count) (λ i. place (slot (kept f a b p x .simplex) i))
+  NearestKept x = NearestOf (kept f x .count) (λ i. place paper (slot (kept f x .simplex) i))
 
   abbrev pub keptLength : (x : State) → NearestKept x → Fraction
-  keptLength x u = squaredLength (kept f a b p x .count) (λ i. place (slot (kept f a b p x .simplex) i)) (u .weight)
+  keptLength x u = squaredLength (kept f x .count) (λ i. place paper (slot (kept f x .simplex) i)) (u .weight)
 
   -- of the solve of x and the next one
   pub record Nearer (call : Rounds) (x : State) : Type 0 where
