@@ -162,8 +162,8 @@ struct Tally {
 }
 
 impl Tally {
-    /// Makes the call and looks at what the claim says of it.
-    fn call(&mut self, job: &Job, radii: (f32, f32, bool), given: SimplexCache) {
+    /// Makes the call and looks at what the claim says of it. Tells how many rounds it took.
+    fn call(&mut self, job: &Job, radii: (f32, f32, bool), given: SimplexCache) -> u32 {
         let (a, b) = (ToiProxy::from_points(job.a, radii.0), ToiProxy::from_points(job.b, radii.1));
         let mut cache = given;
         let output = proxy_distance(&job.pose, &a, &b, radii.2, &mut cache);
@@ -181,7 +181,8 @@ impl Tally {
                     !job.least.below(spanned(&places))
                 }
             }
-            _ => true,
+            // 20 rounds never run out within 16
+            _ => false,
         };
         let mut last: Option<Fraction> = None;
         let (mut stays, mut circles) = (0, false);
@@ -207,6 +208,7 @@ impl Tally {
             println!("WRONG: ending {ending}, least {:?}, A {:?}, B {:?}, pose {:?}, cache {given:?} to {cache:?}", job.least, job.a, job.b, job.pose);
             std::process::exit(1);
         }
+        output.iterations
     }
 
     fn tell(&self, what: &str, since: Instant) {
@@ -359,7 +361,65 @@ fn random_calls(bound: i64, calls: u64, seed: u64) {
     tally.tell(&format!("random calls within {bound}, seed {seed}"), since);
 }
 
-/// `millions` of random calls from `seed` on, after all small outlines.
+// ---- hunted calls
+
+/// A small change: a point moved, thrown anew, added beside another or taken away, or another start.
+fn changed(random: &mut Random, bound: i64, points: &mut Vec<Point>, cache: &mut SimplexCache) {
+    let any = |random: &mut Random, far: i64| random.below(2 * far as u64 + 1) as i64 - far;
+    let near = |random: &mut Random, p: Point, far: i64| ((p.0 + any(random, far)).clamp(-bound, bound), (p.1 + any(random, far)).clamp(-bound, bound));
+    let i = random.below(points.len() as u64) as usize;
+    match random.below(10) {
+        0..=3 => points[i] = near(random, points[i], 2),
+        4..=5 => points[i] = near(random, points[i], bound / 4 + 1),
+        6 => points[i] = near(random, (0, 0), bound),
+        7 if points.len() < 16 => points.push(near(random, points[i], 3)),
+        8 if points.len() > 3 => drop(points.swap_remove(i)),
+        _ => {
+            cache.count = random.below(4) as u8;
+            cache.index_a[random.below(3) as usize] = i as u32;
+        }
+    }
+    for index in &mut cache.index_a {
+        *index = (*index).min(points.len() as u32 - 1);
+    }
+}
+
+/// How long can a call be made? The search depends on the differences alone, so B is the origin. From random points and a random start on, a change that
+/// does not shorten the call is kept, until 20,000 in a row have not made it longer.
+fn hunted_calls(bound: i64, calls: u64, seed: u64) {
+    let since = Instant::now();
+    let random = &mut Random(seed);
+    let mut tally = Tally::default();
+    let mut longest = (0, Vec::new(), SimplexCache::default());
+    while tally.calls < calls {
+        let mut best = (0, vec![(bound, 1); 6], SimplexCache::default());
+        for _ in 0..100 {
+            changed(random, bound, &mut best.1, &mut best.2);
+        }
+        let mut stale = 0;
+        while stale < 20_000 && tally.calls < calls {
+            let (mut points, mut cache) = (best.1.clone(), best.2);
+            for _ in 0..1 + random.below(3) {
+                changed(random, bound, &mut points, &mut cache);
+            }
+            let origin = [(0, 0)];
+            let (a, b) = (floats(&points), floats(&origin));
+            let job = Job { a: &a, b: &b, pose: STILL, whole_a: &points, posed_b: &origin, least: between_hulls(&points, &origin) };
+            let rounds = tally.call(&job, (0.0, 0.0, false), cache);
+            stale = if rounds > best.0 { 0 } else { stale + 1 };
+            if rounds >= best.0 {
+                best = (rounds, points, cache);
+            }
+        }
+        if best.0 > longest.0 {
+            longest = best;
+        }
+    }
+    tally.tell(&format!("hunted calls within {bound}, seed {seed}"), since);
+    println!("  a longest one: {:?}, from {:?}", longest.1, longest.2);
+}
+
+/// `millions` of random calls from `seed` on, after all small outlines, and as many hunted ones.
 pub fn run(millions: u64, seed: u64) {
     if !cfg!(rounds) {
         eprintln!("squared-paper: build with the cfg `rounds`, as tests/squared-paper.sh does");
@@ -373,4 +433,5 @@ pub fn run(millions: u64, seed: u64) {
         caches
     });
     random_calls(16, millions * 1_000_000, seed);
+    hunted_calls(16, millions * 1_000_000, seed);
 }

@@ -134,7 +134,7 @@ module _ (f : Format) {bound : ℕ} (room : Room f bound) {p : Pose} {a b : List
       go false true true h h' = refl
 
   -- there is a direction where the solve does not touch
-  direction-left : {d : Vector} {e : Point} → SizedPoint bound d e 16 3 → I.lt (Ground.dot f d d) (I.mul f (epsilon f) (epsilon f)) ≡ false → 0Int ≺ dot e e
+  pub direction-left : {d : Vector} {e : Point} → SizedPoint bound d e 16 3 → I.lt (Ground.dot f d d) (I.mul f (epsilon f) (epsilon f)) ≡ false → 0Int ≺ dot e e
   direction-left {d} {e} i h = subst (λ (t : Bool). Test t ((e .x ≃ 0Int) × (e .y ≃ 0Int)) (0Int ≺ dot e e)) h (tiny-direction f room paper domain i)
 
   -- the slots that a round hands on, and what the next one does

@@ -1,7 +1,15 @@
--- On squared paper the round limit is never reached, over either format and every bound that leaves the room, if there are enough rounds. Within 16 the call's 20 are,
--- so there the call is exact, always. The parts, in order: the potential of two certified points over plain numbers (`Potential`), turns and the identities between them
--- (`Turning`), directions that lie between (`Between`), what a solve tells (`Edge`), the states (`States`), how large a cap can be (`Caps`), which region leads to which
--- state (`Regions`), and the rounds themselves (`Ends`). Assumes nothing.
+-- On squared paper the round limit is never reached, over either format and every bound that leaves the room, if there are enough rounds; within 16 the
+-- call's 20 are, so there the call is exact, always. The parts, in order:
+--   Potential   of two points that were found: each round quarters it, and it never falls below 1; plain numbers, no geometry
+--   Turning     turns and distances ahead, and the identities that make a round one of those of `Potential`
+--   Between     the next direction lies between those along which the two points were found
+--   Edge        what a solve tells of the vertex or the edge that it kept
+--   States      what can be known of what was kept, and how many rounds are left; each round leads to a state with fewer
+--   Caps        no triangle of differences is larger than the bound allows
+--   Regions     which region of a solve leads to which state
+--   Ends        the rounds of the call themselves
+--   Reached     at 2,048 the limit is reached: a call, computed
+-- Assumes nothing.
 mod Potential
 mod Turning
 mod Between
@@ -12,21 +20,19 @@ mod Regions
 mod Ends
 mod Reached
 use mathlib.Core.Path.{_≡_, refl, sym, ap, _∙_, subst}
-use mathlib.Core.Bool.{Bool}
 use mathlib.Core.List.{List}
-use Prim.Native.Nat.{ℕ, zero, suc, _/_, _%_, _≤_, _<_}
+use Prim.Native.Nat.{ℕ, zero, suc, _/_, _%_, _<_}
 use native.Mathlib.Omega.{arith}
 use lib.Dec.{lit≤, lit<}
 use lib.ListN.{length}
 use lib.Ieee.{Float, Format, binary32, binary64}
 use Rattle.model.specs.declared.Pose.{Pose}
 use Rattle.model.specs.declared.SimplexCache.{SimplexCache}
-use Rattle.model.specs.declared.Ending.{Ending}
 use Rattle.model.specs.declared.Ending.the-variants.{RoundLimit}
 use Rattle.model.specs.declared.ProxyDistanceOutput.{ProxyDistanceOutput}
 use Rattle.model.specs.declared.DistanceAnswer.the-variants.{Measured, Refused}
 use Rattle.model.specs.Distance.{measure, rounds, witnessPoints, distanceBy, distanceRefusal, proxyDistance}
-use Rattle.exact.specs.SquaredPaper.{SquaredPaper, Room, Fits, InTheDomain}
+use Rattle.exact.specs.SquaredPaper.{SquaredPaper, Room}
 use Rattle.exact.specs.RoundLimit.{EnoughRounds, boundInTime, roundsWithin, NeverRunOut, LimitNeverReached, AlwaysExact}
 use Rattle.exact.proofs.Paper.{InDomain}
 use Rattle.exact.proofs.Answered.{answered-in-domain}
@@ -34,8 +40,8 @@ use Rattle.exact.proofs.Accepted.{accepted}
 use Rattle.exact.proofs.Demand3.{ending-told, demand3, room-of}
 use Rattle.exact.proofs.RoundLimit.Ends.{InTime, call-ends}
 
-in-time : (f : Format) {bound : ℕ} → Room f bound → (k : ℕ) → EnoughRounds bound k → {p : Pose} {a b : List Float} (paper : SquaredPaper bound p a b) → InDomain paper → (c : SimplexCache)
-    → roundsWithin f k p a b c .ending ≡ RoundLimit → ⊥
+in-time : (f : Format) {bound : ℕ} → Room f bound → (k : ℕ) → EnoughRounds bound k → {p : Pose} {a b : List Float} (paper : SquaredPaper bound p a b)
+    → InDomain paper → (c : SimplexCache) → roundsWithin f k p a b c .ending ≡ RoundLimit → ⊥
 in-time f room k enough paper domain c e = subst InTime e (call-ends f room paper domain (enough .quarterings) (enough .small) k (enough .rounds) c)
 
 pub never-run-out : (f : Format) (bound : ℕ) → Room f bound → (k : ℕ) → EnoughRounds bound k → NeverRunOut f bound k
@@ -62,7 +68,8 @@ limit-never-reached f bound room enough p a ra b rb radii c paper o answered = g
     go zero none is limit =
         let r = rounds f a b p c in
         let told : measure f p a ra b rb radii c .output ≡ o = cc in
-        let ends : r .ending ≡ o .ending = sym (ending-told f (r .ending) radii ra rb (witnessPoints f (r .simplex) (r .count)) r) ∙ ap (λ (x : ProxyDistanceOutput). x .ending) told in
+        let same = ending-told f (r .ending) radii ra rb (witnessPoints f (r .simplex) (r .count)) r in
+        let ends : r .ending ≡ o .ending = sym same ∙ ap (λ (x : ProxyDistanceOutput). x .ending) told in
         in-time f room 20 enough paper (answered-in-domain f ra rb paper (none refl)) c (ends ∙ limit)
     go (suc n) none is limit = refused is
       where

@@ -45,11 +45,12 @@ NeverRunOut f bound k =
 -- the call's own limit is never reached: what demand 3 asks of a call before it says anything
 abbrev pub LimitNeverReached : Format → ℕ → Type 0
 LimitNeverReached f bound =
-    (p : Pose) (a : List Float) (ra : Float) (b : List Float) (rb : Float) (radii : Bool) (c : SimplexCache) → SquaredPaper bound p a b → (o : ProxyDistanceOutput)
-    → proxyDistance f p a ra b rb radii c .answer ≡ Measured o → o .ending ≡ RoundLimit → ⊥
+    (p : Pose) (a : List Float) (ra : Float) (b : List Float) (rb : Float) (radii : Bool) (c : SimplexCache) → SquaredPaper bound p a b
+    → (o : ProxyDistanceOutput) → proxyDistance f p a ra b rb radii c .answer ≡ Measured o → o .ending ≡ RoundLimit → ⊥
 
 -- ---- demand 3 without "unless": every call is answered, and every answer is exact
-module _ (f : Format) (p : Pose) (a : List Float) (ra : Float) (b : List Float) (rb : Float) (radii : Bool) (c : SimplexCache) {bound : ℕ} (paper : SquaredPaper bound p a b) where
+module _ (f : Format) (p : Pose) (a : List Float) (ra : Float) (b : List Float) (rb : Float) (radii : Bool) (c : SimplexCache)
+    {bound : ℕ} (paper : SquaredPaper bound p a b) where
   pub record ExactAnswer : Type 0 where
     pub output : ProxyDistanceOutput
     pub answered : proxyDistance f p a ra b rb radii c .answer ≡ Measured output

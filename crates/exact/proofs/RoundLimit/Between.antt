@@ -1,15 +1,14 @@
 -- The next direction lies between the directions that certified the two points of a pair. Assumes nothing.
-use mathlib.Core.Path.{refl}
 use mathlib.Core.Logic.{_⊎_, inl, inr}
-use mathlib.Core.List.{List, [], _∷_}
-use Prim.Native.Nat.{ℕ, suc, _+_, _≤_, _<_}
+use mathlib.Core.List.{[], _∷_}
+use Prim.Native.Nat.{_≤_, _<_}
 use native.Mathlib.Omega.{arith}
-use Rattle.integers.specs.Signed.{Int, 0Int, ofNat, neg, _⊞_, _⊟_, _⊠_, _≼_, _≺_, _≃_}
-use Rattle.integers.specs.Polynomial.{Expr, var, lit, _:+_, _:-_, _:*_, negated}
-use Rattle.integers.proofs.Signed.{le-or-lt, ⊠-comm, ⊠-zero, ⊠-cong, ⊠-cong-r, ⊠-nonneg, ⊠-pos, ⊠-pos-back, ⊠-nonneg-back, ⊠-square}
+use Rattle.integers.specs.Signed.{Int, 0Int, neg, _⊠_, _≼_, _≺_, _≃_}
+use Rattle.integers.specs.Polynomial.{var, _:-_, _:*_, negated}
+use Rattle.integers.proofs.Signed.{le-or-lt, ⊠-comm, ⊠-zero, ⊠-cong-r, ⊠-neg, ⊠-nonneg, ⊠-pos, ⊠-pos-back, ⊠-nonneg-back}
 use Rattle.integers.proofs.Ring.{ring}
-use Rattle.exact.specs.Plane.{Point, difference, opposite, dot, perp}
-use Rattle.exact.proofs.RoundLimit.Potential.{first-factor, times-le}
+use Rattle.exact.specs.Plane.{Point, dot}
+use Rattle.exact.proofs.RoundLimit.Potential.{first-factor}
 use Rattle.exact.proofs.RoundLimit.Turning.{Sense, left, right, other, turn, ahead, cramer}
 
 -- nothing times anything
@@ -21,7 +20,7 @@ times-none a z h = omega (arith, ⊠-cong-r a z 0Int h, ⊠-zero a)
 
 -- a factor that is not negative times one that is not above 0
 not-above : (a b : Int) → 0Int ≼ a → 0Int ≼ neg b → a ⊠ b ≼ 0Int
-not-above a b h k = omega (arith, ⊠-nonneg a (neg b) h k, ring (var 0 :* negated (var 1)) (negated (var 0 :* var 1)) (a ∷ b ∷ []) tt)
+not-above a b h k = omega (arith, ⊠-nonneg a (neg b) h k, ⊠-neg a b)
 
 -- ---- d lies between da and db, by the sense σ: properly, or at an end
 pub record Between (σ : Sense) (da d db : Point) : Type 0 where
@@ -57,7 +56,8 @@ properly σ a b q da db d h A C δ E =
     positive x y i j = first-factor x y (omega (arith, ⊠-pos-back x y i j)) j
 
 -- a was found along da and q along d: a next direction e that turns to d from da's side, and along which q lies no less far than a, lies between the two
-pub between-by : (σ : Sense) (a q da d e : Point) → 0Int ≺ turn σ da d → 0Int ≼ ahead da a q → 0Int ≺ ahead d q a → 0Int ≼ turn σ e d → 0Int ≼ ahead e q a → Between σ da e d
+pub between-by : (σ : Sense) (a q da d e : Point) → 0Int ≺ turn σ da d → 0Int ≼ ahead da a q → 0Int ≺ ahead d q a → 0Int ≼ turn σ e d → 0Int ≼ ahead e q a
+    → Between σ da e d
 between-by σ a q da d e apart A E toward beyond =
     let back =
     ⊠-nonneg-back (ahead d q a) (turn σ da e) E (omega (
@@ -70,8 +70,8 @@ between-by σ a q da d e apart A E toward beyond =
     record { apart = apart; before = toward; after = back }
 
 -- d stands across the edge from a to b: along e, q lies no less far than a, and a no less far than b
-module _ (σ : Sense) (a b q da d e : Point) (apart : 0Int ≺ turn σ da d) (flat : ahead d a b ≃ 0Int) (u : 0Int ≺ ahead da a b) (A : 0Int ≼ ahead da a q) (E : 0Int ≺ ahead d q a)
-    (behind : 0Int ≼ ahead e a b) (beyond : 0Int ≼ ahead e q a) where
+module _ (σ : Sense) (a b q da d e : Point) (apart : 0Int ≺ turn σ da d) (flat : ahead d a b ≃ 0Int)
+    (u : 0Int ≺ ahead da a b) (A : 0Int ≼ ahead da a q) (E : 0Int ≺ ahead d q a) (behind : 0Int ≼ ahead e a b) (beyond : 0Int ≼ ahead e q a) where
   abbrev α : Int
   α = turn σ e d
 
@@ -126,6 +126,7 @@ module _ (σ : Sense) (a b q da d e : Point) (apart : 0Int ≺ turn σ da d) (fl
         where
           zero-factor : (z : Int) → z ⊠ ahead d q a ≃ 0Int → z ≃ 0Int
           zero-factor z h =
-              let up = ⊠-nonneg-back (ahead d q a) z E (omega (arith, ⊠-comm z (ahead d q a))) in
-              let down = ⊠-nonneg-back (ahead d q a) (neg z) E (omega (arith, ⊠-comm z (ahead d q a), ring (var 0 :* negated (var 1)) (negated (var 0 :* var 1)) (ahead d q a ∷ z ∷ []) tt)) in
+              let m = ahead d q a in
+              let up = ⊠-nonneg-back m z E (omega (arith, ⊠-comm z m)) in
+              let down = ⊠-nonneg-back m (neg z) E (omega (arith, ⊠-comm z m, ⊠-neg m z)) in
               omega arith

@@ -1,6 +1,6 @@
 -- Three points within the bound have a doubled area below the largest. Assumes nothing.
 use mathlib.Core.Path.{_≡_, ap, _∙_}
-use Prim.Native.Nat.{ℕ, _+_, _*_, _^_, _<_}
+use Prim.Native.Nat.{ℕ, _*_, _^_, _<_}
 use native.Mathlib.Nat.{pow-suc, pow-zero, one-mul}
 use native.Mathlib.Omega.{arith}
 use Rattle.integers.specs.Signed.{Int, ofNat, _⊟_, _≺_}

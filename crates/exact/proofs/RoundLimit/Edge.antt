@@ -1,20 +1,21 @@
 -- What a solve tells of the vertex or the edge that it kept, and of the direction across it, over whole numbers. Assumes nothing.
-use mathlib.Core.Path.{refl}
 use mathlib.Core.Logic.{_⊎_, inl, inr}
-use mathlib.Core.List.{List, [], _∷_}
-use Prim.Native.Nat.{ℕ, suc, _+_, _≤_, _<_}
+use Prim.Native.Nat.{_≤_, _<_}
 use native.Mathlib.Omega.{arith}
 use Rattle.integers.specs.Signed.{Int, 0Int, ofNat, neg, _⊞_, _⊟_, _⊠_, _≼_, _≺_, _≃_}
-use Rattle.integers.specs.Polynomial.{Expr, var, lit, _:+_, _:-_, _:*_, negated}
-use Rattle.integers.proofs.Signed.{le-or-lt, ⊠-comm, ⊠-zero, ⊠-cong, ⊠-cong-r, ⊠-nonneg, ⊠-pos, ⊠-pos-back, ⊠-nonneg-back, ⊠-square}
+use Rattle.integers.specs.Polynomial.{Expr, lit, _:+_, _:-_, _:*_, negated}
+use Rattle.integers.proofs.Signed.{le-or-lt, ⊠-nonneg, ⊠-pos, ⊠-square}
 use Rattle.integers.proofs.Ring.{ring}
 use Rattle.exact.specs.Plane.{Point, difference, opposite, dot, perp}
 use Rattle.exact.specs.Regions.{toward, across}
 use Rattle.exact.proofs.Sketch.{Sketch, differenceᴱ, dotᴱ, perpᴱ, towardᴱ, acrossᴱ, offEdgeᴱ, P, Q, R, parts}
 use Rattle.exact.proofs.Kept.{dot-cong, offEdge, off-either-way, ends-level}
-use Rattle.exact.proofs.RoundLimit.Potential.{first-factor, times-le}
-use Rattle.exact.proofs.RoundLimit.Turning.{Sense, left, right, other, turn, ahead, turnᴱ, turn-cong, lagrange}
+use Rattle.exact.proofs.RoundLimit.Potential.{first-factor}
+use Rattle.exact.proofs.RoundLimit.Turning.{Sense, left, right, turn, ahead, turnᴱ, turn-cong, lagrange}
 use Rattle.exact.proofs.RoundLimit.Between.{none-times, times-none, Between, between-by}
+
+abbrev oppositeᴱ : Sketch → Sketch
+oppositeᴱ a = record { x = negated (a .x); y = negated (a .y) }
 
 -- ---- a vertex
 pub toward-ahead : (x y : Point) → toward x y ≃ ahead x x y
@@ -22,7 +23,7 @@ toward-ahead x y = ring (towardᴱ P Q) (dotᴱ P P :- dotᴱ P Q) (parts x y x)
 
 -- off the vertex x: what lies ahead of x
 pub ahead-off-vertex : (x y : Point) → ahead (opposite x) y x ≃ toward x y
-ahead-off-vertex x y = ring (negated (var 0) :* var 2 :+ negated (var 1) :* var 3 :- (negated (var 0) :* var 0 :+ negated (var 1) :* var 1)) (towardᴱ P Q) (parts x y x) tt
+ahead-off-vertex x y = ring (dotᴱ (oppositeᴱ P) Q :- dotᴱ (oppositeᴱ P) P) (towardᴱ P Q) (parts x y x) tt
 
 -- the way from x to q and back adds up to a square, so if the origin is not ahead of q on the way to x, it is not behind x on the way to q
 pub not-both-behind : (x q : Point) → toward q x ≼ 0Int → 0Int ≼ ahead x x q
@@ -35,7 +36,7 @@ pub faces : (x q : Point) → toward q x ≼ 0Int → dot q q ≼ dot x q
 faces x q h = omega (arith, ring (towardᴱ Q P) (dotᴱ Q Q :- dotᴱ P Q) (parts x q x) tt)
 
 pub below-vertex : (x q : Point) → toward q x ≼ 0Int → 0Int ≺ dot q q → dot (opposite x) q ≺ 0Int
-below-vertex x q h some = omega (arith, faces x q h, ring (negated (var 0) :* var 2 :+ negated (var 1) :* var 3) (negated (dotᴱ P Q)) (parts x q x) tt)
+below-vertex x q h some = omega (arith, faces x q h, ring (dotᴱ (oppositeᴱ P) Q) (negated (dotᴱ P Q)) (parts x q x) tt)
 
 -- ---- an edge from x to y, and the direction e across it, toward the origin
 pub record Edge (e x y : Point) : Type 0 where
@@ -57,32 +58,41 @@ module _ {e x y : Point} (k : Edge e x y) where
   pub edge-level : ahead e x y ≃ 0Int
   edge-level = omega (arith, edge-dot x, edge-dot y, ends-level x y)
 
+  edge-across : (q : Point) → ahead e q x ≃ across x y q ⊞ across x y q
+  edge-across q =
+      let d = offEdgeᴱ P Q in
+      omega (arith, edge-dot x, edge-dot q, ring (dotᴱ d R :- dotᴱ d P) (acrossᴱ P Q R :+ acrossᴱ P Q R) (parts x y q) tt)
+
   -- what lies further than the edge lies on the origin's side of it
   pub edge-side : (q : Point) → 0Int ≺ ahead e q x → 0Int ≺ across x y q
-  edge-side q h = omega (arith, edge-dot x, edge-dot q, ring (dotᴱ (offEdgeᴱ P Q) P) (dotᴱ (offEdgeᴱ P Q) R :- acrossᴱ P Q R :- acrossᴱ P Q R) (parts x y q) tt)
+  edge-side q h = omega (arith, edge-across q)
 
   -- what lies no further does not
   pub edge-not-side : (q : Point) → ahead e q x ≼ 0Int → across x y q ≼ 0Int
-  edge-not-side q h = omega (arith, edge-dot x, edge-dot q, ring (dotᴱ (offEdgeᴱ P Q) P) (dotᴱ (offEdgeᴱ P Q) R :- acrossᴱ P Q R :- acrossᴱ P Q R) (parts x y q) tt)
+  edge-not-side q h = omega (arith, edge-across q)
 
   -- e is the opposite of a sum of both ends by weights above 0, so a point that faces both ends lies behind the origin along e
   pub below-edge : (q : Point) → toward q x ≼ 0Int → toward q y ≼ 0Int → 0Int ≺ dot q q → dot e q ≺ 0Int
   below-edge q h i some =
       let m = toward y x in
       let n = toward x y in
+      let mean = towardᴱ Q P :* dotᴱ P R :+ towardᴱ P Q :* dotᴱ Q R in
       omega (
         arith,
         edge-dot q,
-        ring (dotᴱ (offEdgeᴱ P Q) R) (negated (towardᴱ Q P :* dotᴱ P R :+ towardᴱ P Q :* dotᴱ Q R :+ towardᴱ Q P :* dotᴱ P R :+ towardᴱ P Q :* dotᴱ Q R)) (parts x y q) tt,
+        ring (dotᴱ (offEdgeᴱ P Q) R) (negated (mean :+ mean)) (parts x y q) tt,
         ⊠-pos m (dot x q) (k .ahead-of-y) (omega (arith, faces x q h)),
         ⊠-pos n (dot y q) (k .ahead-of-x) (omega (arith, faces y q i)),
       )
 
 -- ---- the sense of a turn that is not 0
 pub sense-of : (v w : Point) → (perp v w ≃ 0Int → ⊥) → (σ : Sense) × (0Int ≺ turn σ v w)
-sense-of v w some = go (le-or-lt (perp v w .plus) (perp v w .minus)) (le-or-lt (perp v w .minus) (perp v w .plus))
+sense-of v w some = go (le-or-lt (t .plus) (t .minus)) (le-or-lt (t .minus) (t .plus))
   where
-    go : (perp v w .plus ≤ perp v w .minus) ⊎ (perp v w .minus < perp v w .plus) → (perp v w .minus ≤ perp v w .plus) ⊎ (perp v w .plus < perp v w .minus) → (σ : Sense) × (0Int ≺ turn σ v w)
+    t : Int
+    t = perp v w
+
+    go : (t .plus ≤ t .minus) ⊎ (t .minus < t .plus) → (t .minus ≤ t .plus) ⊎ (t .plus < t .minus) → (σ : Sense) × (0Int ≺ turn σ v w)
     go (inr h) i = (left, omega arith)
     go (inl h) (inl i) = absurd (some (omega arith))
     go (inl h) (inr i) = (right, omega (arith, ring (perpᴱ Q P) (negated (perpᴱ P Q)) (parts v w v) tt))
@@ -102,9 +112,6 @@ edge-turns {e} {x} {y} q k h = sense-of x e (λ (z : perp x e ≃ 0Int). clash z
         )
 
 -- ---- off a vertex a
-abbrev oppositeᴱ : Sketch → Sketch
-oppositeᴱ a = record { x = negated (a .x); y = negated (a .y) }
-
 abbrev bothᴱ : Sense → Expr
 bothᴱ σ = turnᴱ σ R P :* turnᴱ σ Q (oppositeᴱ P)
 
@@ -153,5 +160,5 @@ module _ (a da q : Point) (low : dot da a ≺ 0Int) (A : 0Int ≼ ahead da a q) 
     between-off-edge {e} k =
         let t = ⊠-pos (toward a q) (turn σ q a) (k .ahead-of-x) q-turns in
         let same = turn-cong σ e (offEdge a q) (opposite a) (k .same-x) (k .same-y) in
-        between-by σ a q da (opposite a) e apart A E (omega (arith, same, turn-off-edge σ a q, ⊠-nonneg (ofNat 2) (toward a q ⊠ turn σ q a) (omega arith) (omega (arith, t))))
-        (omega (arith, edge-level k))
+        let twice = ⊠-nonneg (ofNat 2) (toward a q ⊠ turn σ q a) (omega arith) (omega (arith, t)) in
+        between-by σ a q da (opposite a) e apart A E (omega (arith, same, turn-off-edge σ a q, twice)) (omega (arith, edge-level k))

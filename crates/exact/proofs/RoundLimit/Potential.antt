@@ -1,29 +1,31 @@
--- The potential of a pair of certified points, over plain whole numbers: each round divides it by four, and it never falls below 1. No geometry. Assumes nothing.
+-- The potential of a pair of certified points, over plain whole numbers: each round divides it by four, and it never falls below 1. No geometry.
+-- Assumes nothing.
 use mathlib.Core.Path.{_≡_, refl}
 use mathlib.Core.Logic.{_⊎_, inl, inr}
-use mathlib.Core.List.{List, [], _∷_}
-use Prim.Native.Nat.{ℕ, zero, suc, _+_, _*_, _^_, _≤_, _<_}
+use mathlib.Core.List.{[], _∷_}
+use Prim.Native.Nat.{ℕ, zero, suc, _^_, _≤_, _<_}
 use native.Mathlib.Nat.{pow-suc}
 use native.Mathlib.Omega.{arith}
-use Rattle.integers.specs.Signed.{Int, 0Int, ofNat, neg, _⊞_, _⊟_, _⊠_, _≼_, _≺_, _≃_}
-use Rattle.integers.specs.Polynomial.{Expr, var, lit, _:+_, _:-_, _:*_, negated}
-use Rattle.integers.proofs.Signed.{le-or-lt, ⊠-comm, ⊠-cong, ⊠-cong-r, ⊠-nonneg, ⊠-pos, ⊠-pos-back, ⊠-nonneg-back, ⊠-square}
+use Rattle.integers.specs.Signed.{Int, 0Int, ofNat, _⊞_, _⊟_, _⊠_, _≼_, _≺_, _≃_}
+use Rattle.integers.specs.Polynomial.{var, lit, _:+_, _:-_, _:*_}
+use Rattle.integers.proofs.Signed.{le-or-lt, ⊠-comm, ⊠-cong, ⊠-cong-r, ⊠-nonneg, ⊠-pos, ⊠-pos-back, ⊠-nonneg-back, ⊠-square, ⊠-one}
 use Rattle.integers.proofs.Ring.{ring}
+use Rattle.exact.proofs.Weights.{⊠-mono}
 
 -- ---- factors
+pub spread : (k a b : Int) → k ⊠ (a ⊟ b) ≃ k ⊠ a ⊟ k ⊠ b
+spread k a b = ring (var 0 :* (var 1 :- var 2)) (var 0 :* var 1 :- var 0 :* var 2) (k ∷ a ∷ b ∷ []) tt
+
 -- the other factor of a product above 0
 pub first-factor : (a b : Int) → 0Int ≼ b → 0Int ≺ a ⊠ b → 0Int ≺ a
 first-factor a b h k = ⊠-pos-back b a h (omega (arith, ⊠-comm a b))
 
--- the order is kept by a factor that is not negative
-pub times-le : (k a b : Int) → 0Int ≼ k → a ≼ b → k ⊠ a ≼ k ⊠ b
-times-le k a b h l = omega (arith, ⊠-nonneg k (b ⊟ a) h (omega arith), ring (var 0 :* (var 1 :- var 2)) (var 0 :* var 1 :- var 0 :* var 2) (k ∷ b ∷ a ∷ []) tt)
-
+-- the order is kept by a factor above 0, and back
 pub times-lt : (k a b : Int) → 0Int ≺ k → a ≺ b → k ⊠ a ≺ k ⊠ b
-times-lt k a b h l = omega (arith, ⊠-pos k (b ⊟ a) h (omega arith), ring (var 0 :* (var 1 :- var 2)) (var 0 :* var 1 :- var 0 :* var 2) (k ∷ b ∷ a ∷ []) tt)
+times-lt k a b h l = omega (arith, ⊠-pos k (b ⊟ a) h (omega arith), spread k b a)
 
 pub cancel-lt : (k a b : Int) → 0Int ≼ k → k ⊠ a ≺ k ⊠ b → a ≺ b
-cancel-lt k a b h l = let p = ⊠-pos-back k (b ⊟ a) h (omega (arith, ring (var 0 :* (var 1 :- var 2)) (var 0 :* var 1 :- var 0 :* var 2) (k ∷ b ∷ a ∷ []) tt)) in omega arith
+cancel-lt k a b h l = let p = ⊠-pos-back k (b ⊟ a) h (omega (arith, spread k b a)) in omega arith
 
 -- ---- a round
 -- κ α β: how far the two old directions, and each of them and the new one, turn into each other
@@ -45,12 +47,9 @@ module _ {κ α β u w A C E δ t : Int} (r : Round κ α β u w A C E δ t) whe
   abbrev αA : 0Int ≼ α ⊠ A
   αA = ⊠-nonneg α A (omega (arith, r .α-pos)) (r .A-nonneg)
 
-  split : β ⊠ (w ⊟ C) ≃ β ⊠ w ⊟ β ⊠ C
-  split = ring (var 0 :* (var 1 :- var 2)) (var 0 :* var 1 :- var 0 :* var 2) (β ∷ w ∷ C ∷ []) tt
-
   -- α A and κ E together are at most β w
   within : α ⊠ A ⊞ κ ⊠ E ≼ β ⊠ w
-  within = omega (arith, r .along, split, ⊠-nonneg β C (omega (arith, r .β-pos)) (r .C-nonneg))
+  within = omega (arith, r .along, spread β w C, ⊠-nonneg β C (omega (arith, r .β-pos)) (r .C-nonneg))
 
   κE : 0Int ≺ κ ⊠ E
   κE = ⊠-pos κ E (r .κ-pos) (r .E-pos)
@@ -74,7 +73,7 @@ module _ {κ α β u w A C E δ t : Int} (r : Round κ α β u w A C E δ t) whe
   -- so the old potential u w / κ was at least 1
   pub floor : κ ≼ u ⊠ w
   floor =
-      let once : κ ≼ κ ⊠ t = omega (arith, times-le κ (ofNat 1) t (omega (arith, r .κ-pos)) (omega (arith, t-pos)), ring (var 0 :* lit (ofNat 1)) (var 0) (κ ∷ []) tt) in
+      let once : κ ≼ κ ⊠ t = omega (arith, ⊠-mono κ (ofNat 1) t (omega (arith, r .κ-pos)) (omega (arith, t-pos)), ⊠-one κ) in
       omega (arith, once, r .area, ⊠-nonneg u C (omega (arith, u-pos)) (r .C-nonneg), ⊠-nonneg w A (omega (arith, w-pos)) (r .A-nonneg))
 
   -- the new one A E / β is at most a quarter of it: of two numbers, four times the product is at most the square of the sum
@@ -84,9 +83,13 @@ module _ {κ α β u w A C E δ t : Int} (r : Round κ α β u w A C E δ t) whe
       let y = κ ⊠ E in
       let s = x ⊞ y in
       let two-squares : ofNat 4 ⊠ (x ⊠ y) ≼ s ⊠ s =
-      omega (arith, ⊠-square (x ⊟ y), ring ((var 0 :- var 1) :* (var 0 :- var 1)) ((var 0 :+ var 1) :* (var 0 :+ var 1) :- lit (ofNat 4) :* (var 0 :* var 1)) (x ∷ y ∷ []) tt) in
-      let up : s ⊠ s ≼ s ⊠ (β ⊠ w) = times-le s s (β ⊠ w) (omega (arith, αA, κE)) within in
-      let on : β ⊠ w ⊠ s ≼ β ⊠ w ⊠ (α ⊠ u) = times-le (β ⊠ w) s (α ⊠ u) (omega (arith, βw)) (omega (arith, within, r .level, κδ)) in
+      omega (
+        arith,
+        ⊠-square (x ⊟ y),
+        ring ((var 0 :- var 1) :* (var 0 :- var 1)) ((var 0 :+ var 1) :* (var 0 :+ var 1) :- lit (ofNat 4) :* (var 0 :* var 1)) (x ∷ y ∷ []) tt,
+      ) in
+      let up : s ⊠ s ≼ s ⊠ (β ⊠ w) = ⊠-mono s s (β ⊠ w) (omega (arith, αA, κE)) within in
+      let on : β ⊠ w ⊠ s ≼ β ⊠ w ⊠ (α ⊠ u) = ⊠-mono (β ⊠ w) s (α ⊠ u) (omega (arith, βw)) (omega (arith, within, r .level, κδ)) in
       let all : 0Int ≼ α ⊠ (β ⊠ (u ⊠ w) ⊟ ofNat 4 ⊠ (κ ⊠ (A ⊠ E))) =
       omega (
         arith,
@@ -94,7 +97,8 @@ module _ {κ α β u w A C E δ t : Int} (r : Round κ α β u w A C E δ t) whe
         up,
         on,
         ⊠-comm s (β ⊠ w),
-        ring (var 0 :* (var 2 :* (var 3 :* var 4) :- lit (ofNat 4) :* (var 1 :* (var 5 :* var 6)))) (var 2 :* var 4 :* (var 0 :* var 3) :- lit (ofNat 4) :* (var 0 :* var 5 :* (var 1 :* var 6)))
+        ring (var 0 :* (var 2 :* (var 3 :* var 4) :- lit (ofNat 4) :* (var 1 :* (var 5 :* var 6))))
+            (var 2 :* var 4 :* (var 0 :* var 3) :- lit (ofNat 4) :* (var 0 :* var 5 :* (var 1 :* var 6)))
             (α ∷ κ ∷ β ∷ u ∷ w ∷ A ∷ E ∷ []) tt,
       ) in
       let back = ⊠-nonneg-back α (β ⊠ (u ⊠ w) ⊟ ofNat 4 ⊠ (κ ⊠ (A ⊠ E))) (r .α-pos) all in
@@ -103,9 +107,9 @@ module _ {κ α β u w A C E δ t : Int} (r : Round κ α β u w A C E δ t) whe
   -- and at most the cap's doubled area
   pub under-cap : A ⊠ E ≼ β ⊠ t
   under-cap =
-      let A≤u : A ≼ u =
-      (let p = ⊠-nonneg-back α (u ⊟ A) (r .α-pos) (omega (arith, within, κE, r .level, κδ, ring (var 0 :* (var 1 :- var 2)) (var 0 :* var 1 :- var 0 :* var 2) (α ∷ u ∷ A ∷ []) tt)) in omega arith) in
-      omega (arith, times-le E A u (omega (arith, r .E-pos)) A≤u, ⊠-comm E A, ⊠-comm E u, r .cap, ⊠-nonneg A δ (r .A-nonneg) (r .δ-nonneg))
+      let less = ⊠-nonneg-back α (u ⊟ A) (r .α-pos) (omega (arith, within, κE, r .level, κδ, spread α u A)) in
+      let A≤u : A ≼ u = omega (arith, less) in
+      omega (arith, ⊠-mono E A u (omega (arith, r .E-pos)) A≤u, ⊠-comm E A, ⊠-comm E u, r .cap, ⊠-nonneg A δ (r .A-nonneg) (r .δ-nonneg))
 
 -- ---- the level of a potential: from J down it says that the potential is below 4 ^ g, above J it says nothing
 pub record Below (J g : ℕ) (u w κ : Int) : Type 0 where

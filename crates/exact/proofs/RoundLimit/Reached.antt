@@ -1,11 +1,12 @@
--- Why the bound stands in the statement: at 2,048, which leaves the room in f64, a call reaches the round limit. It is computed by the checker. Assumes nothing.
+-- Long calls, computed by the checker. Within 16 the longest that was met takes nine rounds. At 2,048, which leaves the room in f64, a call reaches the round
+-- limit: so the bound stands in the statement. Assumes nothing.
 use mathlib.Core.Path.{_≡_, refl}
 use mathlib.Core.Bool.{false}
 use mathlib.Core.List.{List, [], _∷_}
 use Prim.Native.Nat.{ℕ}
 use native.Mathlib.Omega.{arith}
-use lib.IntN.{pos, negsuc}
-use lib.Ieee.{binary64, ofBits, ofInt, add, sub, mul, div, neg, lt, le, eq, round}
+use lib.IntN.{ℤ, pos, negsuc}
+use lib.Ieee.{Format, binary32, binary64, ofBits, ofInt, add, sub, mul, div, neg, lt, le, eq, round}
 use Rattle.integers.specs.Signed.{_⊠_}
 use Rattle.model.specs.declared.Ending.the-variants.{Settled, RoundLimit}
 use Rattle.model.specs.declared.DistanceAnswer.{DistanceAnswer}
@@ -24,42 +25,57 @@ use Rattle.exact.specs.RoundLimit.{roundsWithin, LimitNeverReached}
 use Rattle.exact.proofs.Sheets.{on-squared-paper}
 use Rattle.exact.proofs.Instances.{none, endings}
 
--- a flat arc of 21 corners that passes close by the origin, and the origin
+-- corners, and the origin
+abbrev besideOrigin : List ℤ → Sheet
+besideOrigin a = record { a = a; b = pos 0 ∷ pos 0 ∷ []; cosine = pos 1; sine = pos 0; shiftX = pos 0; shiftY = pos 0 }
+
+-- the rounds of a call from an empty cache
+abbrev roundsOn : Format → ℕ → Sheet → Rounds
+roundsOn f k s = roundsWithin f k (drawnPose f s) (drawn f (s .a)) (drawn f (s .b)) none
+
+-- nine corners, most of them on a flat arc that passes close by the origin
+abbrev nine : Sheet
+nine = besideOrigin (
+    pos 2 ∷ pos 0 ∷ negsuc 2 ∷ pos 2 ∷ negsuc 15 ∷ pos 16 ∷ pos 15 ∷ negsuc 4 ∷ pos 12 ∷ negsuc 3
+    ∷ negsuc 0 ∷ pos 1 ∷ pos 4 ∷ negsuc 0 ∷ negsuc 7 ∷ pos 5 ∷ negsuc 15 ∷ pos 11 ∷ []
+    )
+
+-- a flat arc of 21 corners that passes close by the origin
 abbrev flat : Sheet
-flat = record {
-  a = pos 0 ∷ negsuc 1 ∷ pos 44 ∷ pos 34 ∷ pos 2030 ∷ pos 1074 ∷ negsuc 6 ∷ negsuc 7 ∷ pos 18 ∷ pos 13 ∷ pos 332 ∷ pos 260
-      ∷ negsuc 455 ∷ negsuc 409 ∷ pos 209 ∷ pos 165 ∷ pos 7 ∷ pos 4 ∷ pos 1089 ∷ pos 770 ∷ negsuc 826 ∷ negsuc 750 ∷ negsuc 102 ∷ negsuc 92
-      ∷ pos 104 ∷ pos 82 ∷ pos 1600 ∷ pos 1042 ∷ negsuc 39 ∷ negsuc 36 ∷ negsuc 206 ∷ negsuc 185 ∷ pos 1 ∷ negsuc 0 ∷ negsuc 2028 ∷ negsuc 1908
-      ∷ pos 536 ∷ pos 406 ∷ negsuc 1505 ∷ negsuc 1388 ∷ negsuc 14 ∷ negsuc 14 ∷ [];
-  b = pos 0 ∷ pos 0 ∷ [];
-  cosine = pos 1;
-  sine = pos 0;
-  shiftX = pos 0;
-  shiftY = pos 0;
-}
+flat = besideOrigin (
+    pos 0 ∷ negsuc 1 ∷ pos 44 ∷ pos 34 ∷ pos 2030 ∷ pos 1074 ∷ negsuc 6 ∷ negsuc 7 ∷ pos 18 ∷ pos 13 ∷ pos 332 ∷ pos 260
+    ∷ negsuc 455 ∷ negsuc 409 ∷ pos 209 ∷ pos 165 ∷ pos 7 ∷ pos 4 ∷ pos 1089 ∷ pos 770 ∷ negsuc 826 ∷ negsuc 750 ∷ negsuc 102 ∷ negsuc 92
+    ∷ pos 104 ∷ pos 82 ∷ pos 1600 ∷ pos 1042 ∷ negsuc 39 ∷ negsuc 36 ∷ negsuc 206 ∷ negsuc 185 ∷ pos 1 ∷ negsuc 0 ∷ negsuc 2028 ∷ negsuc 1908
+    ∷ pos 536 ∷ pos 406 ∷ negsuc 1505 ∷ negsuc 1388 ∷ negsuc 14 ∷ negsuc 14 ∷ []
+    )
+
+nine-on-paper : OnPaper nine 16
+unfolding every _⊠_
+nine-on-paper = record { numbersA = tt; numbersB = tt; quarterTurn = tt; shifted = tt; near = tt }
 
 flat-on-paper : OnPaper flat 2048
 unfolding every _⊠_
 flat-on-paper = record { numbersA = tt; numbersB = tt; quarterTurn = tt; shifted = tt; near = tt }
 
 abbrev call : Distance
-call = proxyDistance binary64 (drawnPose binary64 flat) (drawn binary64 (flat .a)) (Ground.zero binary64) (drawn binary64 (flat .b)) (Ground.zero binary64) false none
+call =
+    let o = Ground.zero binary64 in
+    proxyDistance binary64 (drawnPose binary64 flat) (drawn binary64 (flat .a)) o (drawn binary64 (flat .b)) o false none
 
-abbrev longer : Rounds
-longer = roundsWithin binary64 33 (drawnPose binary64 flat) (drawn binary64 (flat .a)) (drawn binary64 (flat .b)) none
-
--- 20 rounds run out; with more, the call settles in the 21st
-pub record Reached : Type 0 where
+pub record Computed : Type 0 where
+  pub nineSettles : roundsOn binary32 20 nine .ending ≡ Settled
+  pub nineRounds : roundsOn binary32 20 nine .iterations ≡ 9
+  -- 20 rounds run out; with more, the call settles in the 21st
   pub limit : endings (call .answer) ≡ (RoundLimit ∷ [])
-  pub settles : longer .ending ≡ Settled
-  pub inRound : longer .iterations ≡ 21
+  pub flatSettles : roundsOn binary64 33 flat .ending ≡ Settled
+  pub flatRounds : roundsOn binary64 33 flat .iterations ≡ 21
 
-pub reached : Reached
+pub computed : Computed
 unfolding proxyDistance measure roundsFrom startSimplex vertex held solve solveSimplex2 solveSimplex3 region2 region3 kept supportFrom witnessPoints allBelow replaced badParts abs ofBits ofInt round add sub mul div neg lt le eq root
-reached = record { limit = refl; settles = refl; inRound = refl }
+computed = record { nineSettles = refl; nineRounds = refl; limit = refl; flatSettles = refl; flatRounds = refl }
 
 pub not-at-2048 : LimitNeverReached binary64 2048 → ⊥
-not-at-2048 never = go (call .answer) refl (reached .limit)
+not-at-2048 never = go (call .answer) refl (computed .limit)
   where
     go : (x : DistanceAnswer) → call .answer ≡ x → endings x ≡ (RoundLimit ∷ []) → ⊥
     go (Measured o) is h = never _ _ _ _ _ _ _ (on-squared-paper binary64 flat 2048 flat-on-paper) o is cc

@@ -1,22 +1,22 @@
 -- Which state each region of a solve leads to: at the start, and after a round that improves. Assumes nothing.
 use mathlib.Core.Path.{refl}
 use mathlib.Core.Logic.{_⊎_, inl, inr}
-use mathlib.Core.List.{[], _∷_}
-use Prim.Native.Nat.{ℕ, suc, _+_, _*_, _^_, _≤_}
+use Prim.Native.Nat.{ℕ, suc, _^_, _≤_}
 use native.Mathlib.Omega.{arith}
-use Rattle.integers.specs.Signed.{0Int, ofNat, _≼_, _≺_, _≃_}
+use Rattle.integers.specs.Signed.{0Int, ofNat, _≼_, _≺_}
 use Rattle.integers.specs.Polynomial.{var, _:+_, _:*_, negated}
 use Rattle.integers.proofs.Ring.{ring}
 use Rattle.model.specs.Simplex.{Region, at1, at2, at3, on12, on13, on23, inside}
 use Rattle.exact.specs.Plane.{Point, difference, opposite, dot}
-use Rattle.exact.specs.Regions.{toward, across, Lies2, Lies3}
+use Rattle.exact.specs.Regions.{toward, Lies2, Lies3}
 use Rattle.exact.specs.RoundLimit.{roundsFor}
 use Rattle.exact.proofs.Sketch.{P, dotᴱ, parts}
 use Rattle.exact.proofs.Enclosed.{across-swap}
 use Rattle.exact.proofs.Kept.{offEdge, behind-edge}
 use Rattle.exact.proofs.RoundLimit.Turning.{Sense, turn, ahead}
 use Rattle.exact.proofs.RoundLimit.Edge.{Edge, edge-back, edge-level, edge-side, ahead-off-vertex}
-use Rattle.exact.proofs.RoundLimit.States.{Certified, AtVertex, freeVertex, AtEdge, freeEdge, vertex-to-vertex, vertex-to-edge, edge-to-vertex, edge-to-edge, edge-to-other}
+use Rattle.exact.proofs.RoundLimit.States.{Certified, AtVertex, freeVertex, AtEdge, freeEdge}
+use Rattle.exact.proofs.RoundLimit.States.{vertex-to-vertex, vertex-to-edge, edge-to-vertex, edge-to-edge, edge-to-other}
 
 off-edge : {x y : Point} → 0Int ≺ toward x y → 0Int ≺ toward y x → Edge (offEdge x y) x y
 off-edge h k = record { same-x = refl; same-y = refl; ahead-of-x = h; ahead-of-y = k }
@@ -85,17 +85,19 @@ module _ (D : Point → Type 0) (J k : ℕ) where
   -- ---- after a round that improves, q is kept
   module _ (caps : (σ : Sense) (a b q : Point) → D a → D b → D q → turn σ (difference b a) (difference q a) ≺ ofNat (4 ^ J)) where
     -- q was found off the vertex x, further than x
-    pub next2 : {x q : Point} → AtVertex D J (suc k) x → D x → D q → Certified D J (opposite x) q → 0Int ≺ ahead (opposite x) q x → (ρ : Region) → Lies2 x q ρ → Known2 x q ρ
+    pub next2 : {x q : Point} → AtVertex D J (suc k) x → D x → D q → Certified D J (opposite x) q → 0Int ≺ ahead (opposite x) q x
+        → (ρ : Region) → Lies2 x q ρ → Known2 x q ρ
     next2 {x} {q} at inX inQ c E at1 h = let bad : ⊥ = omega (arith, h, E, ahead-off-vertex x q) in absurd bad
-    next2 {x} {q} at inX inQ c E at2 h = λ some. vertex-to-vertex D J caps at inX inQ c E h (as-long q some)
-    next2 {x} {q} at inX inQ c E on12 h = let edge = off-edge (h .1) (h .0) in (edge, λ some. inl (vertex-to-edge D J caps at inX inQ c E edge))
+    next2 {x} {q} at inX inQ c E at2 h = λ some. vertex-to-vertex D J caps inX inQ c E at h (as-long q some)
+    next2 {x} {q} at inX inQ c E on12 h = let edge = off-edge (h .1) (h .0) in (edge, λ some. inl (vertex-to-edge D J caps inX inQ c E at edge))
     next2 at inX inQ c E at3 h = h
     next2 at inX inQ c E on13 h = h
     next2 at inX inQ c E on23 h = h
     next2 at inX inQ c E inside h = h
 
     -- q was found across the edge from x to y, further than the edge
-    module _ {e x y q : Point} (edge : Edge e x y) (at : AtEdge D J (suc k) e x y ⊎ AtEdge D J (suc k) e y x) (inX : D x) (inY : D y) (inQ : D q) (c : Certified D J e q) (E : 0Int ≺ ahead e q x) where
+    module _ {e x y q : Point} (edge : Edge e x y) (at : AtEdge D J (suc k) e x y ⊎ AtEdge D J (suc k) e y x) (inX : D x) (inY : D y) (inQ : D q)
+        (c : Certified D J e q) (E : 0Int ≺ ahead e q x) where
       from-y : 0Int ≺ ahead e q y
       from-y = omega (arith, E, edge-level edge)
 

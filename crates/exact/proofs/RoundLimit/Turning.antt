@@ -2,14 +2,13 @@
 -- Assumes nothing.
 use mathlib.Core.Path.{refl}
 use mathlib.Core.List.{List, [], _∷_}
-use Prim.Native.Nat.{ℕ}
 use native.Mathlib.Omega.{arith}
-use Rattle.integers.specs.Signed.{Int, 0Int, ofNat, neg, _⊞_, _⊟_, _⊠_, _≼_, _≺_, _≃_}
-use Rattle.integers.specs.Polynomial.{Expr, var, lit, _:+_, _:-_, _:*_, negated}
+use Rattle.integers.specs.Signed.{Int, 0Int, _⊞_, _⊟_, _⊠_, _≼_, _≺_, _≃_}
+use Rattle.integers.specs.Polynomial.{Expr, var, _:+_, _:-_, _:*_}
 use Rattle.integers.proofs.Signed.{⊠-cong}
 use Rattle.integers.proofs.Ring.{ring}
 use Rattle.exact.specs.Plane.{Point, difference, dot, perp}
-use Rattle.exact.proofs.Sketch.{Sketch, differenceᴱ, dotᴱ, perpᴱ, P, Q, R, parts}
+use Rattle.exact.proofs.Sketch.{Sketch, differenceᴱ, dotᴱ, perpᴱ, P, Q, R}
 use Rattle.exact.proofs.RoundLimit.Potential.{Round}
 
 -- ---- the two senses of turning
@@ -111,8 +110,8 @@ module _ (σ : Sense) (a b q da db d : Point) where
       Round (turn σ da db) (turn σ d db) (turn σ da d) (ahead da a b) (ahead db b a) (ahead da a q) (ahead db b q) (ahead d q a) (ahead d a b)
       (turn (other σ) (difference b a) (difference q a))
 
-pub round-of : (σ : Sense) (a b q da db d : Point) → 0Int ≺ turn σ da db → 0Int ≺ turn σ d db → 0Int ≺ turn σ da d → 0Int ≺ ahead d q a → 0Int ≼ ahead da a q → 0Int ≼ ahead db b q
-    → 0Int ≼ ahead d a b → RoundOf σ a b q da db d
+pub round-of : (σ : Sense) (a b q da db d : Point) → 0Int ≺ turn σ da db → 0Int ≺ turn σ d db → 0Int ≺ turn σ da d
+    → 0Int ≺ ahead d q a → 0Int ≼ ahead da a q → 0Int ≼ ahead db b q → 0Int ≼ ahead d a b → RoundOf σ a b q da db d
 round-of left a b q da db d κ α β E A C δ =
     let ρ = six da db d a b q in
     record {
