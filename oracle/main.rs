@@ -5,7 +5,7 @@
 //!   oracle batch SEED COUNT              a batch of COUNT blocks (sheet.rs)
 //!   oracle lines SEED COUNT              blocks with their lines
 //!   oracle sheet                         the sheet of the batch on standard input
-//!   oracle squared-paper MILLIONS SEED   demand 3 tested by running (squared_paper.rs)
+//!   oracle squared-paper MILLIONS SEED   the claims on squared paper tested by running (squared_paper.rs)
 mod counts;
 mod distance;
 mod domain;

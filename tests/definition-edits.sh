@@ -53,11 +53,11 @@ try support-takes-last Support.antt refused \
 try cache-on-touching Distance.antt refused \
   'cacheBy Touching c r = c' 'cacheBy Touching c r = written c (r .simplex) (r .count)'
 try nineteen-rounds Distance.antt passes \
-  'rounds c = roundsFrom 20 ' 'rounds c = roundsFrom 19 '
+  'maxIterations = 20' 'maxIterations = 19'
 try region-strictly Simplex.antt refused \
   'notAbove x = le x (Ground.zero f)' 'notAbove x = lt x (Ground.zero f)'
 try support-along-d Distance.antt refused \
-  'supportB d = support f b (inverseRotate f (p .rotation) (negate d))' 'supportB d = support f b (inverseRotate f (p .rotation) d)'
+  'support f outlineB (inverseRotate f (pose .rotation) (negate d))' 'support f outlineB (inverseRotate f (pose .rotation) d)'
 try settled-writes-one Distance.antt refused \
   'cacheBy Settled c r = written c (r .simplex) (r .count)' 'cacheBy Settled c r = written c (r .simplex) 1'
 exit $bad

@@ -38,7 +38,7 @@ refusal n k = record { answer = Refused n; cache = k }
 module _ (f : Format) (p : Pose) (a : List Float) (ra : Float) (b : List Float) (rb : Float) (radii : Bool) (c : SimplexCache) where
   -- ---- the measurement
   by-touching : (e : Ending) (r : Rounds) (w : WitnessPoints) → e ≡ Touching →
-      measurement (output f w (origin f) (Ground.zero f) (r .iterations) (r .ending)) c ≡ measurement (measuredBy f e radii ra rb w r) (cacheBy e c r)
+      measurement (output w (origin f) (Ground.zero f) (r .iterations) (r .ending)) c ≡ measurement (measuredBy f e radii ra rb w r) (cacheBy e c r)
   by-touching e r w t = rw t
 
   by-other : (e : Ending) (r : Rounds) (w : WitnessPoints) → (e ≡ Touching → ⊥) →
@@ -50,10 +50,10 @@ module _ (f : Format) (p : Pose) (a : List Float) (ra : Float) (b : List Float) 
   module _ (r : Rounds) (e : r ≡ rounds f a b p c) (w : WitnessPoints) (ew : w ≡ witnessPoints f (r .simplex) (r .count)) where
     whole : measurement (measuredBy f (r .ending) radii ra rb w r) (cacheBy (r .ending) c r) ≡ measure f p a ra b rb radii c
     unfolding measure
-    whole = rw ew (ap (λ (x : Rounds). measuredFrom f p a ra b rb radii c x) e)
+    whole = rw ew (ap (λ (x : Rounds). measuredFrom f ra rb radii c x) e)
 
     pub touching-measured : r .ending ≡ Touching → (n : Vector) → n ≡ origin f →
-        measurement (output f w n (Ground.zero f) (r .iterations) (r .ending)) c ≡ measure f p a ra b rb radii c
+        measurement (output w n (Ground.zero f) (r .iterations) (r .ending)) c ≡ measure f p a ra b rb radii c
     touching-measured t n en = rw en (by-touching (r .ending) r w t ∙ whole)
 
     pub apart-measured : (r .ending ≡ Touching → ⊥) → (o : ProxyDistanceOutput) → o ≡ apart f radii ra rb w r →

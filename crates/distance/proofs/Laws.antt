@@ -1,5 +1,5 @@
 -- What the loops of the distance call meet: one more entry or slot, one more round, and its endings. Assumes nothing.
-use Prim.Native.Nat.{ℕ, zero, suc, _+_, _-_, _<_, _≤_}
+use Prim.Native.Nat.{ℕ, zero, suc, _+_, _-_, _/_, _<_, _≤_}
 use native.Mathlib.Omega.{arith}
 use native.Mathlib.Numerals.{add-one}
 use mathlib.Core.Bool.{Bool, true, false, _&&_, _||_, cond}
@@ -7,7 +7,7 @@ use mathlib.Core.List.{List, [], _∷_}
 use mathlib.Core.Path.{_≡_, refl, sym, ap, _∙_}
 use borrow.Author.Tests.{eqb-false}
 use lib.Dec.{eqb, ltb}
-use lib.ListN.{getD, set}
+use lib.ListN.{getD, set, length}
 use lib.Ieee.{Float, Format, lt, mul}
 use Rattle.model.specs.declared.Vector.{Vector}
 use Rattle.model.specs.declared.Pose.{Pose}
@@ -39,8 +39,8 @@ pub record Made (f : Format) (a b : List Float) (p : Pose) (s : List SimplexVert
   pub left : it < 20
   pub solves : r ≡ solve f s n
   pub apart : touches f r ≡ false
-  pub first : i ≡ supportA f a b p (r .direction)
-  pub second : j ≡ supportB f a b p (r .direction)
+  pub first : i ≡ supportA f a (r .direction)
+  pub second : j ≡ supportB f b p (r .direction)
   pub new : v ≡ vertex f a b p i j (slot (r .simplex) (r .count) .a)
   pub known : again ≡ held s n i j
 
@@ -53,7 +53,8 @@ room f s n r t e h =
 
 module _ (f : Format) (a b : List Float) (p : Pose) where
   -- 20 rounds from the start are the rounds
-  pub begun : (c : SimplexCache) (s : List SimplexVertex) (n : ℕ) (d : Vector) → s ≡ startSimplex f a b p c → n ≡ startCount f a b p c → d ≡ origin f →
+  pub begun : (c : SimplexCache) (s : List SimplexVertex) (n : ℕ) (d : Vector) →
+      s ≡ startSimplex f a b p c → n ≡ startCount c (length a / 2) (length b / 2) → d ≡ origin f →
       roundsFrom f a b p 20 s n d 0 ≡ rounds f a b p c
   begun c s n d es en ed = rw (es, en, ed)
 
@@ -64,7 +65,7 @@ module _ (f : Format) (a b : List Float) (p : Pose) where
 
     round : (r : Solved) → it < 20 → r ≡ solve f s n →
         cond (touches f r) (ended Touching (r .simplex) (r .count) (origin f) it)
-        (cond (held s n (supportA f a b p (r .direction)) (supportB f a b p (r .direction))) (ended Settled (extended f a b p r) (r .count) (r .direction) (it + 1))
+        (cond (held s n (supportA f a (r .direction)) (supportB f b p (r .direction))) (ended Settled (extended f a b p r) (r .count) (r .direction) (it + 1))
         (roundsFrom f a b p (20 - (it + 1)) (extended f a b p r) (r .count + 1) (r .direction) (it + 1)))
         ≡ roundsFrom f a b p (20 - it) s n d it
     unfolding roundsFrom
@@ -82,7 +83,7 @@ module _ (f : Format) (a b : List Float) (p : Pose) where
       placed : set (r .simplex) (r .count) v ≡ extended f a b p r
       placed = rw (m .new, m .first, m .second)
 
-      pair-known : held s n (supportA f a b p (r .direction)) (supportB f a b p (r .direction)) ≡ again
+      pair-known : held s n (supportA f a (r .direction)) (supportB f b p (r .direction)) ≡ again
       pair-known = rw (m .known, m .first, m .second)
 
       pub settled : again ≡ true → ended Settled (set (r .simplex) (r .count) v) (r .count) (r .direction) (it + 1) ≡ roundsFrom f a b p (20 - it) s n d it

@@ -33,11 +33,8 @@ use outline::point;
 use outline::support_index;
 use simplex::solve;
 use simplex::witness_points;
-ghost use mathlib.Core.Bool.{_&&_, cond};
-ghost use mathlib.Core.List.{[], _∷_};
 ghost use mathlib.Core.Path.{_≡_};
 ghost use Prim.Native.Nat.{_≤_, _<_};
-ghost use lib.Dec.{ltb};
 ghost use lib.Ieee.{binary32};
 ghost use Rattle.model.specs.Ground as Ground;
 ghost use Rattle.model.specs.Distance as Model;
@@ -112,7 +109,7 @@ fn cached(
 
 // Whether a call starts from the cache: it is not empty, and it is valid.
 fn from_cache(cache: SimplexCache, na: usize, nb: usize) -> bool
-    ensures { λ r. ⌜ r ≡ (ltb 0 (cache .count) && Model.cacheIsValid cache na nb) ⌝ }
+    ensures { λ r. ⌜ r ≡ Model.fromCache cache na nb ⌝ }
 {
     let some = cache.count > 0;
     some & cache_is_valid(cache, na, nb)
@@ -136,10 +133,10 @@ fn start(pos12: Pose, points_a: &[f32], points_b: &[f32], cache: SimplexCache) -
 }
 
 // How many of them count.
-fn start_count(pos12: Pose, points_a: &[f32], points_b: &[f32], cache: SimplexCache) -> usize
-    ensures { λ r. ⌜ r ≡ Model.startCount binary32 (now («points_a» .entry)) (now («points_b» .entry)) pos12 cache ⌝ }
+fn start_count(cache: SimplexCache, na: usize, nb: usize) -> usize
+    ensures { λ r. ⌜ r ≡ Model.startCount cache na nb ⌝ }
 {
-    if from_cache(cache, points_a.len() / 2, points_b.len() / 2) {
+    if from_cache(cache, na, nb) {
         cache.count as usize
     } else {
         1
@@ -165,7 +162,7 @@ fn rounds(pos12: Pose, points_a: &[f32], points_b: &[f32], cache: SimplexCache) 
     ensures { λ r. ⌜ r ≡ Model.rounds binary32 (now («points_a» .entry)) (now («points_b» .entry)) pos12 cache ⌝ }
 {
     let mut simplex = start(pos12, points_a, points_b, cache);
-    let mut count = start_count(pos12, points_a, points_b, cache);
+    let mut count = start_count(cache, points_a.len() / 2, points_b.len() / 2);
     let mut direction = zero();
     let mut iterations: u32 = 0;
     while iterations < MAX_ITERATIONS {

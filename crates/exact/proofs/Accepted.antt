@@ -150,7 +150,7 @@ pub accepted : (f : Format) (bound : ℕ) → Answered f bound
 unfolding proxyDistance
 accepted f bound p a ra b rb radii c paper domain = (measure f p a ra b rb radii c .output, ap (λ (n : ℕ). distanceBy f p a ra b rb radii c n .answer) none-refused)
   where
-    none-refused : distanceRefusal f p a ra b rb radii c ≡ 0
+    none-refused : distanceRefusal f p a ra b rb ≡ 0
     none-refused =
         let goodA = good-length a (domain .pointsA) in
         let goodB = good-length b (domain .pointsB) in

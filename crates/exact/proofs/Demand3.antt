@@ -101,9 +101,9 @@ ending-told f RoundLimit false ra rb w r = refl
 
 pub demand3 : (f : Format) (bound : ℕ) → Room f bound → Demand3 f bound
 unfolding proxyDistance measure
-demand3 f bound room p a ra b rb radii c paper o arrays answered notLimit = go (distanceRefusal f p a ra b rb radii c) (λ h. h) answered
+demand3 f bound room p a ra b rb radii c paper o arrays answered notLimit = go (distanceRefusal f p a ra b rb) (λ h. h) answered
   where
-    go : (n : ℕ) → (n ≡ 0 → distanceRefusal f p a ra b rb radii c ≡ 0) → distanceBy f p a ra b rb radii c n .answer ≡ Measured o
+    go : (n : ℕ) → (n ≡ 0 → distanceRefusal f p a ra b rb ≡ 0) → distanceBy f p a ra b rb radii c n .answer ≡ Measured o
         → Exact (outlineA paper) (posedB paper) (o .ending) (distanceBy f p a ra b rb radii c n .cache)
     go zero none is =
         let r = rounds f a b p c in

@@ -71,10 +71,10 @@ module _ (f : Format) {bound : ℕ} (room : Room f bound) {p : Pose} {a b : List
       record { ours = k; theirs = l; ours-some = A .ours-some; theirs-some = A .theirs-some; equal-x = omega (arith, across k e, across l e'); equal-y = omega (arith, up k e, up l e') }
 
   module _ {d d' : Vector} {e e' : Point} (i : SizedPoint bound d e 16 3) (i' : SizedPoint bound d' e' 16 3) (A : Along e e') where
-    pub same-A : supportA f a b p d ≡ supportA f a b p d'
+    pub same-A : supportA f a d ≡ supportA f a d'
     same-A = support-same f bound room (weaken-point f bound room 32 3 i tt tt) (weaken-point f bound room 32 3 i' tt tt) A (paper .cornerA) a (acrossA f room paper domain)
 
-    pub same-B : supportB f a b p d ≡ supportB f a b p d'
+    pub same-B : supportB f b p d ≡ supportB f b p d'
     same-B =
         support-same f bound room (turned-back f room paper domain i) (turned-back f room paper domain i') (unturned-along A) (paper .cornerB) b (acrossB f room paper domain)
 
@@ -89,7 +89,7 @@ module _ (f : Format) {bound : ℕ} (room : Room f bound) {p : Pose} {a b : List
   abbrev pub roundBy : ℕ → List SimplexVertex → ℕ → ℕ → Solved → Rounds
   roundBy k s n made r =
       cond (touches f r) (ended Touching (r .simplex) (r .count) (origin f) made)
-      (cond (held s n (supportA f a b p (r .direction)) (supportB f a b p (r .direction))) (ended Settled (extended f a b p r) (r .count) (r .direction) (made + 1))
+      (cond (held s n (supportA f a (r .direction)) (supportB f b p (r .direction))) (ended Settled (extended f a b p r) (r .count) (r .direction) (made + 1))
       (roundsFrom f a b p k (extended f a b p r) (r .count + 1) (r .direction) (made + 1)))
 
   abbrev SettlesAt : ℕ → Rounds → Type 0
@@ -101,17 +101,17 @@ module _ (f : Format) {bound : ℕ} (room : Room f bound) {p : Pose} {a b : List
   -- the next round, from n slots s that hold what K kept and the pair found along its direction d
   module _ {d : Vector} {e : Point} {m : ℕ} {kept : ℕ → Point} {n' : ℕ} {held' : ℕ → Point} (K : Kept e m kept n' held') (i : SizedPoint bound d e 16 3) (far : 0Int ≺ dot e e)
       (s : List SimplexVertex) (n : ℕ) (still : (F : Point → Type 0) → ((j : ℕ) → j < n → F (spots s j)) → (j : ℕ) → j < m → F (kept j))
-      (known : held s n (supportA f a b p d) (supportB f a b p d) ≡ true) (k made : ℕ) where
+      (known : held s n (supportA f a d) (supportB f b p d) ≡ true) (k made : ℕ) where
     -- along a multiple of the direction the pair is found again
     settles : (t' : List SimplexVertex) (m' : ℕ) {d' : Vector} {e' : Point} → eqb m' 3 ≡ false → SizedPoint bound d' e' 16 3 → Along e e'
         → SettlesAt (made + 2) (roundBy k s n (made + 1) (solved t' m' d'))
     settles t' m' {d'} {e'} few i' A = go (I.lt (Ground.dot f d' d') (I.mul f (epsilon f) (epsilon f))) (tiny-direction f room paper domain i')
       where
-        again : held s n (supportA f a b p d') (supportB f a b p d') ≡ true
+        again : held s n (supportA f a d') (supportB f b p d') ≡ true
         again = held-still s n _ _ _ _ (same-A i i' A) (same-B i i' A) known
 
         go : (tiny : Bool) → Test tiny ((e' .x ≃ 0Int) × (e' .y ≃ 0Int)) (0Int ≺ dot e' e') → SettlesAt (made + 2) (cond (eqb m' 3 || tiny) (ended Touching t' m' (origin f) (made + 1))
-            (cond (held s n (supportA f a b p d') (supportB f a b p d')) (ended Settled (extended f a b p (solved t' m' d')) m' d' (made + 1 + 1))
+            (cond (held s n (supportA f a d') (supportB f b p d')) (ended Settled (extended f a b p (solved t' m' d')) m' d' (made + 1 + 1))
             (roundsFrom f a b p k (extended f a b p (solved t' m' d')) (m' + 1) d' (made + 1 + 1))))
         go true h = absurd (both-some A far (h .0) (h .1))
         go false h = rw (few, again) (refl, omega arith)
@@ -177,9 +177,9 @@ module _ (f : Format) {bound : ℕ} (room : Room f bound) {p : Pose} {a b : List
 
 pub no-circles : (f : Format) (bound : ℕ) → Room f bound → NoCircles f bound
 unfolding proxyDistance
-no-circles f bound room p a ra b rb radii c paper o answered limit k x r g = go (distanceRefusal f p a ra b rb radii c) (λ h. h) answered
+no-circles f bound room p a ra b rb radii c paper o answered limit k x r g = go (distanceRefusal f p a ra b rb) (λ h. h) answered
   where
-    go : (n : ℕ) → (n ≡ 0 → distanceRefusal f p a ra b rb radii c ≡ 0) → distanceBy f p a ra b rb radii c n .answer ≡ Measured o
+    go : (n : ℕ) → (n ≡ 0 → distanceRefusal f p a ra b rb ≡ 0) → distanceBy f p a ra b rb radii c n .answer ≡ Measured o
         → Nearer f paper (roundsOf f a b p limit (start f a b p c)) x
     go zero none is = nearer f room paper (answered-in-domain f ra rb paper (none refl)) c limit k x r g
     go (suc n) none is = absurd (refused is)

@@ -215,7 +215,7 @@ module _ (f : Format) {bound : ℕ} (room : Room f bound) {p : Pose} {a b : List
     pub furthestA : (k : ℕ) → k < length a / 2 → dot e (paper .cornerA k) ≼ dot e (paper .cornerA i)
     pub furthestB : (k : ℕ) → k < length b / 2 → dot e (posed j) ≼ dot e (posed k)
 
-  pub supports : {d : Vector} {e : Point} → SizedPoint bound d e 16 3 → Extreme e (supportA f a b p d) (supportB f a b p d)
+  pub supports : {d : Vector} {e : Point} → SizedPoint bound d e 16 3 → Extreme e (supportA f a d) (supportB f b p d)
   supports {d} {e} i =
       let onA = support-furthest f bound room (weaken-point f bound room 32 3 i tt tt) (paper .cornerA) a (domain .someA) (domain .fewA) acrossA in
       let onB = support-furthest f bound room (turned-back i) (paper .cornerB) b (domain .someB) (domain .fewB) acrossB in
@@ -223,5 +223,5 @@ module _ (f : Format) {bound : ℕ} (room : Room f bound) {p : Pose} {a b : List
         inA = onA .among;
         inB = onB .among;
         furthestA = onA .most;
-        furthestB = λ k h. omega (arith, onB .most k h, adjoint e (paper .cornerB k) (paper .cornerB (supportB f a b p d)));
+        furthestB = λ k h. omega (arith, onB .most k h, adjoint e (paper .cornerB k) (paper .cornerB (supportB f b p d)));
       }

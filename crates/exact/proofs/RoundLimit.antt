@@ -18,7 +18,7 @@ mod States
 mod Caps
 mod Regions
 mod Ends
-mod Reached
+pub mod Reached
 use mathlib.Core.Path.{_≡_, refl, sym, ap, _∙_, subst}
 use mathlib.Core.List.{List}
 use Prim.Native.Nat.{ℕ, zero, suc, _/_, _%_, _<_}
@@ -31,7 +31,7 @@ use Rattle.model.specs.declared.SimplexCache.{SimplexCache}
 use Rattle.model.specs.declared.Ending.the-variants.{RoundLimit}
 use Rattle.model.specs.declared.ProxyDistanceOutput.{ProxyDistanceOutput}
 use Rattle.model.specs.declared.DistanceAnswer.the-variants.{Measured, Refused}
-use Rattle.model.specs.Distance.{measure, rounds, witnessPoints, distanceBy, distanceRefusal, proxyDistance}
+use Rattle.model.specs.Distance.{maxIterations, measure, rounds, witnessPoints, distanceBy, distanceRefusal, proxyDistance}
 use Rattle.exact.specs.SquaredPaper.{SquaredPaper, Room}
 use Rattle.exact.specs.RoundLimit.{EnoughRounds, boundInTime, roundsWithin, NeverRunOut, LimitNeverReached, AlwaysExact}
 use Rattle.exact.proofs.Paper.{InDomain}
@@ -60,39 +60,39 @@ never-run-out f bound room k enough p a ra b rb c paper inputs = in-time f room 
       smallShift = inputs .nearShift;
     }
 
-pub limit-never-reached : (f : Format) (bound : ℕ) → Room f bound → EnoughRounds bound 20 → LimitNeverReached f bound
+pub limit-never-reached : (f : Format) (bound : ℕ) → Room f bound → EnoughRounds bound maxIterations → LimitNeverReached f bound
 unfolding proxyDistance measure
-limit-never-reached f bound room enough p a ra b rb radii c paper o answered = go (distanceRefusal f p a ra b rb radii c) (λ h. h) answered
+limit-never-reached f bound room enough p a ra b rb radii c paper o answered = go (distanceRefusal f p a ra b rb) (λ h. h) answered
   where
-    go : (n : ℕ) → (n ≡ 0 → distanceRefusal f p a ra b rb radii c ≡ 0) → distanceBy f p a ra b rb radii c n .answer ≡ Measured o → o .ending ≡ RoundLimit → ⊥
+    go : (n : ℕ) → (n ≡ 0 → distanceRefusal f p a ra b rb ≡ 0) → distanceBy f p a ra b rb radii c n .answer ≡ Measured o → o .ending ≡ RoundLimit → ⊥
     go zero none is limit =
         let r = rounds f a b p c in
         let told : measure f p a ra b rb radii c .output ≡ o = cc in
         let same = ending-told f (r .ending) radii ra rb (witnessPoints f (r .simplex) (r .count)) r in
         let ends : r .ending ≡ o .ending = sym same ∙ ap (λ (x : ProxyDistanceOutput). x .ending) told in
-        in-time f room 20 enough paper (answered-in-domain f ra rb paper (none refl)) c (ends ∙ limit)
+        in-time f room maxIterations enough paper (answered-in-domain f ra rb paper (none refl)) c (ends ∙ limit)
     go (suc n) none is limit = refused is
       where
         refused : Refused (suc n) ≡ Measured o → ⊥
         refused e = let z : _≡_ {A = ℕ} 0 1 = cc in omega arith
 
-pub always-exact : (f : Format) (bound : ℕ) → Room f bound → EnoughRounds bound 20 → AlwaysExact f bound
+pub always-exact : (f : Format) (bound : ℕ) → Room f bound → EnoughRounds bound maxIterations → AlwaysExact f bound
 always-exact f bound room enough p a ra b rb radii c paper inputs arrays =
     let (o, answered) = accepted f bound p a ra b rb radii c paper inputs in
     let inTime = limit-never-reached f bound room enough p a ra b rb radii c paper o answered in
     record { output = o; answered = answered; inTime = inTime; exact = demand3 f bound room p a ra b rb radii c paper o arrays answered inTime }
 
 -- ---- the bounds of the formats: 8 * 16 ^ 2 and 8 * 22 ^ 2 are below 4 ^ 6, so 19 rounds are enough, and the call has one more
-pub enough-in-20 : (f : Format) → EnoughRounds (boundInTime f) 20
-enough-in-20 binary32 = record { quarterings = 6; small = lit< tt; rounds = lit≤ tt }
-enough-in-20 binary64 = record { quarterings = 6; small = lit< tt; rounds = lit≤ tt }
+pub enough-in-the-call : (f : Format) → EnoughRounds (boundInTime f) maxIterations
+enough-in-the-call binary32 = record { quarterings = 6; small = lit< tt; rounds = lit≤ tt }
+enough-in-the-call binary64 = record { quarterings = 6; small = lit< tt; rounds = lit≤ tt }
 
 room-in-time : (f : Format) → Room f (boundInTime f)
 room-in-time binary32 = (lit≤ tt, lit≤ tt)
 room-in-time binary64 = (lit≤ tt, lit≤ tt)
 
 pub always-exact-on-squared-paper : (f : Format) → AlwaysExact f (boundInTime f)
-always-exact-on-squared-paper f = always-exact f (boundInTime f) (room-in-time f) (enough-in-20 f)
+always-exact-on-squared-paper f = always-exact f (boundInTime f) (room-in-time f) (enough-in-the-call f)
 
 -- at 2,048, where 20 rounds may run out (`Reached`), 33 never do: 8 * 2048 ^ 2 is below 4 ^ 13
 pub never-run-out-of-33 : NeverRunOut binary64 2048 33

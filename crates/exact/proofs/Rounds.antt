@@ -93,14 +93,14 @@ module _ (f : Format) {bound : ℕ} (room : Room f bound) {p : Pose} {a b : List
       clash : suc (suc (suc (suc n))) ≤ 3 → ⊥
       clash h = omega arith
 
-  pub start-slots : (c : SimplexCache) → Slots (startSimplex f a b p c) (startCount f a b p c)
+  pub start-slots : (c : SimplexCache) → Slots (startSimplex f a b p c) (startCount c (length a / 2) (length b / 2))
   unfolding startSimplex
-  start-slots c = go (fromCache f a b p c) (λ h. h)
+  start-slots c = go (fromCache c (length a / 2) (length b / 2)) (λ h. h)
     where
       n : ℕ
       n = c .count
 
-      valid : T (fromCache f a b p c) → Slots (cached f a b p c 0 ∷ cached f a b p c 1 ∷ cached f a b p c 2 ∷ []) n
+      valid : T (fromCache c (length a / 2) (length b / 2)) → Slots (cached f a b p c 0 ∷ cached f a b p c 1 ∷ cached f a b p c 2 ∷ []) n
       valid h =
           let okA = allBelow na (c .«index_a») n in
           let okB = allBelow nb (c .«index_b») n in
@@ -109,7 +109,7 @@ module _ (f : Format) {bound : ℕ} (room : Room f bound) {p : Pose} {a b : List
           from-cache n (c .«index_a») (c .«index_b») (and-l (ltb 0 n) (leb n 3 && okA && okB) h) (and-l (leb n 3) okA first)
           (entries-below na (c .«index_a») n (and-r (leb n 3) okA first)) (entries-below nb (c .«index_b») n (and-r (leb n 3 && okA) okB rest))
 
-      go : (t : Bool) → (T t → T (fromCache f a b p c))
+      go : (t : Bool) → (T t → T (fromCache c (length a / 2) (length b / 2)))
           → Slots (cond t (cached f a b p c 0 ∷ cached f a b p c 1 ∷ cached f a b p c 2 ∷ []) (vertex f a b p 0 0 (Ground.one f) ∷ blank f ∷ blank f ∷ [])) (cond t n 1)
       go true h = valid (h tt)
       go false h = one (vertex-stands 0 0 _ (domain .someA) (domain .someB))
@@ -135,7 +135,7 @@ module _ (f : Format) {bound : ℕ} (room : Room f bound) {p : Pose} {a b : List
 
   -- ---- one round
   abbrev fresh : Vector → Float → SimplexVertex
-  fresh d x = vertex f a b p (supportA f a b p d) (supportB f a b p d) x
+  fresh d x = vertex f a b p (supportA f a d) (supportB f b p d) x
 
   -- the test d dot d < EPSILON * EPSILON passes just where there is no direction
   pub tiny-direction : {d : Vector} {e : Point} → SizedPoint bound d e 16 3
@@ -159,17 +159,17 @@ module _ (f : Format) {bound : ℕ} (room : Room f bound) {p : Pose} {a b : List
       → Kept e m (places bound na nb places-of t) n (places bound na nb places-of s) → Slots t m → (Spanned t m → Spanned u m)
       → (Stands bound na nb places-of (fresh d (slot t m .a)) → Right next)
       → Right (cond (I.lt (Ground.dot f d d) (I.mul f (epsilon f) (epsilon f))) (ended Touching t m (origin f) it)
-      (cond (held s n (supportA f a b p d) (supportB f a b p d)) (ended Settled u m d (it + 1)) next))
+      (cond (held s n (supportA f a d) (supportB f b p d)) (ended Settled u m d (it + 1)) next))
   round-ends s {t} {n} {m} {d} e u next it i K slots behind goes-on =
-      go (I.lt (Ground.dot f d d) (I.mul f (epsilon f) (epsilon f))) (tiny-direction i) (held s n (supportA f a b p d) (supportB f a b p d)) (λ h. h)
+      go (I.lt (Ground.dot f d d) (I.mul f (epsilon f) (epsilon f))) (tiny-direction i) (held s n (supportA f a d) (supportB f b p d)) (λ h. h)
     where
-      found : Extreme f room paper domain e (supportA f a b p d) (supportB f a b p d)
+      found : Extreme f room paper domain e (supportA f a d) (supportB f b p d)
       found = supports f room paper domain i
 
-      level : T (held s n (supportA f a b p d) (supportB f a b p d)) → dot e (places-of (supportA f a b p d) (supportB f a b p d)) ≼ K .level
-      level h = holds-of-held (λ k l. dot e (places-of k l) ≼ K .level) s n (supportA f a b p d) (supportB f a b p d) h (K .top)
+      level : T (held s n (supportA f a d) (supportB f b p d)) → dot e (places-of (supportA f a d) (supportB f b p d)) ≼ K .level
+      level h = holds-of-held (λ k l. dot e (places-of k l) ≼ K .level) s n (supportA f a d) (supportB f b p d) h (K .top)
 
-      go : (tiny : Bool) → Test tiny ((e .x ≃ 0Int) × (e .y ≃ 0Int)) (0Int ≺ e .x ⊠ e .x ⊞ e .y ⊠ e .y) → (known : Bool) → (T known → T (held s n (supportA f a b p d) (supportB f a b p d)))
+      go : (tiny : Bool) → Test tiny ((e .x ≃ 0Int) × (e .y ≃ 0Int)) (0Int ≺ e .x ⊠ e .x ⊞ e .y ⊠ e .y) → (known : Bool) → (T known → T (held s n (supportA f a d) (supportB f b p d)))
           → Right (cond tiny (ended Touching t m (origin f) it) (cond known (ended Settled u m d (it + 1)) next))
       go true h known k = shares slots (no-direction (outlineA paper) (posedB paper) (λ i. slot t i .«index_a») (λ i. slot t i .«index_b») K (h .0) (h .1))
       go false h true k = (
@@ -194,7 +194,7 @@ module _ (f : Format) {bound : ℕ} (room : Room f bound) {p : Pose} {a b : List
           → ((s : List SimplexVertex) (n : ℕ) (d : Vector) (it : ℕ) → Slots s n → Right (roundsFrom f a b p k s n d it))
           → let r = solved t m d in
           Right (cond (touches f r) (ended Touching t m (origin f) it)
-          (cond (held s n (supportA f a b p d) (supportB f a b p d)) (ended Settled (extended f a b p r) m d (it + 1)) (roundsFrom f a b p k (extended f a b p r) (m + 1) d (it + 1))))
+          (cond (held s n (supportA f a d) (supportB f b p d)) (ended Settled (extended f a b p r) m d (it + 1)) (roundsFrom f a b p k (extended f a b p r) (m + 1) d (it + 1))))
       go t m d (vertexLeft e x i K) ih =
           round-ends s e _ _ it i K (one x) (λ S. record { slots = one x; weight = S .weight; some = S .some; nearest = S .nearest }) (λ y. ih _ 2 d (it + 1) (two x y))
       go t m d (edgeLeft e x y i K) ih =
@@ -202,4 +202,4 @@ module _ (f : Format) {bound : ℕ} (room : Room f bound) {p : Pose} {a b : List
       go t m d (covers x y z c) ih = shares (three x y z) c
 
   pub call-right : (c : SimplexCache) → Right (rounds f a b p c)
-  call-right c = rounds-right _ (startSimplex f a b p c) (startCount f a b p c) (origin f) 0 (start-slots c)
+  call-right c = rounds-right _ (startSimplex f a b p c) (startCount c (length a / 2) (length b / 2)) (origin f) 0 (start-slots c)

@@ -5,7 +5,8 @@ use mathlib.Core.Path.{_≡_}
 use mathlib.Core.Logic.{_⊎_}
 use mathlib.Core.Bool.{Bool, false}
 use mathlib.Core.List.{List}
-use Prim.Native.Nat.{ℕ, suc, _+_, _<_}
+use Prim.Native.Nat.{ℕ, suc, _+_, _/_, _<_}
+use lib.ListN.{length}
 use lib.Ieee.{Float, Format}
 use Rattle.integers.specs.Signed.{ofNat}
 use Rattle.model.specs.declared.Vector.{Vector}
@@ -52,10 +53,10 @@ module _ (f : Format) (a b : List Float) (p : Pose) where
   -- neither touching nor settled
   pub record GoesOn (x : State) : Type 0 where
     pub apart : touches f (kept f x) ≡ false
-    pub new : held (x .simplex) (x .count) (supportA f a b p (kept f x .direction)) (supportB f a b p (kept f x .direction)) ≡ false
+    pub new : held (x .simplex) (x .count) (supportA f a (kept f x .direction)) (supportB f b p (kept f x .direction)) ≡ false
 
   abbrev pub start : SimplexCache → State
-  start c = record { simplex = startSimplex f a b p c; count = startCount f a b p c; direction = origin f; made = 0 }
+  start c = record { simplex = startSimplex f a b p c; count = startCount c (length a / 2) (length b / 2); direction = origin f; made = 0 }
 
   abbrev pub next : State → State
   next x = record { simplex = extended f a b p (kept f x); count = kept f x .count + 1; direction = kept f x .direction; made = x .made + 1 }
@@ -63,7 +64,7 @@ module _ (f : Format) (a b : List Float) (p : Pose) where
   abbrev pub roundsOf : ℕ → State → Rounds
   roundsOf k x = roundsFrom f a b p k (x .simplex) (x .count) (x .direction) (x .made)
 
-  -- the call that starts from c with a limit of rounds comes to a state, with k rounds left. (The call's own limit is 20.)
+  -- the call that starts from c with a limit of rounds comes to a state, with k rounds left. (The call's own limit is `maxIterations`.)
   pub data Reaches (c : SimplexCache) (limit : ℕ) : ℕ → State → Type 0 where
     first : Reaches c limit limit (start c)
     then : {k : ℕ} {x : State} → Reaches c limit (suc k) x → GoesOn x → Reaches c limit k (next x)

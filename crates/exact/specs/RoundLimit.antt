@@ -2,7 +2,8 @@
 use mathlib.Core.Path.{_≡_}
 use mathlib.Core.Bool.{Bool}
 use mathlib.Core.List.{List}
-use Prim.Native.Nat.{ℕ, _+_, _*_, _^_, _≤_, _<_}
+use Prim.Native.Nat.{ℕ, _+_, _*_, _/_, _^_, _≤_, _<_}
+use lib.ListN.{length}
 use lib.Ieee.{Float, Format, binary32, binary64}
 use Rattle.model.specs.declared.Pose.{Pose}
 use Rattle.model.specs.declared.SimplexCache.{SimplexCache}
@@ -27,14 +28,14 @@ pub record EnoughRounds (bound k : ℕ) : Type 0 where
   pub small : largestArea bound < 4 ^ quarterings
   pub rounds : roundsFor quarterings ≤ k
 
--- a bound for each format that leaves room, and for which 20 rounds are enough
+-- a bound for each format that leaves room, and for which the call's 20 rounds are enough
 abbrev pub boundInTime : Format → ℕ
 boundInTime binary32 = 16
 boundInTime binary64 = 22
 
 -- the rounds of a call with a limit of k in place of 20
 abbrev pub roundsWithin : Format → ℕ → Pose → List Float → List Float → SimplexCache → Rounds
-roundsWithin f k p a b c = roundsFrom f a b p k (startSimplex f a b p c) (startCount f a b p c) (origin f) 0
+roundsWithin f k p a b c = roundsFrom f a b p k (startSimplex f a b p c) (startCount c (length a / 2) (length b / 2)) (origin f) 0
 
 -- k rounds never run out: inputs of demand 3, whatever the radii and the cache that came, whether the outlines share a point or not
 abbrev pub NeverRunOut : Format → ℕ → ℕ → Type 0

@@ -193,7 +193,7 @@ check-fraction t = by-value _
 pub check-slop : (x : Float) → OneResult (λ r. r ≡ Domain.checkedSlop binary32 x)
 check-slop x = by-value _
 
-pub advance : (w : SweepTask) (a b : List Float) → OneResult (λ r. r ≡ SweepToi.advanceFrom binary32 a b w 19 (Ground.zero binary32) SweepToi.noCorners (SweepToi.counts 0 0 0))
+pub advance : (w : SweepTask) (a b : List Float) → OneResult (λ r. r ≡ SweepToi.advance binary32 w a b)
 advance w a b = by-value _
 
 pub sweep-time-of-impact : (a : List Float) (ra : Float) (wa : Sweep) (b : List Float) (rb : Float) (wb : Sweep) (tmax slop : Float) → OneResult (λ r. r ≡ SweepToi.sweepTimeOfImpact binary32 a ra wa b rb wb tmax slop)

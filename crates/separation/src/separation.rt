@@ -249,7 +249,7 @@ pub fn evaluate(
 
 // The corner of A that lies deepest along the axis.
 fn deepest_a(fcn: SeparationFunction, points_a: &[f32], xf_a: Pose, xf_b: Pose) -> u32
-    ensures { λ r. ⌜ r ≡ Separation.deepestA binary32 (now («points_a» .entry)) (now («points_a» .entry)) fcn «xf_a» «xf_b» (fcn .ty) ⌝ }
+    ensures { λ r. ⌜ r ≡ Separation.deepestA binary32 (now («points_a» .entry)) fcn «xf_a» «xf_b» (fcn .ty) ⌝ }
 {
     let ty = fcn.ty;
     match ty {
@@ -264,7 +264,7 @@ fn deepest_a(fcn: SeparationFunction, points_a: &[f32], xf_a: Pose, xf_b: Pose) 
 
 // The corner of B that lies deepest along the axis.
 fn deepest_b(fcn: SeparationFunction, points_b: &[f32], xf_a: Pose, xf_b: Pose) -> u32
-    ensures { λ r. ⌜ r ≡ Separation.deepestB binary32 (now («points_b» .entry)) (now («points_b» .entry)) fcn «xf_a» «xf_b» (fcn .ty) ⌝ }
+    ensures { λ r. ⌜ r ≡ Separation.deepestB binary32 (now («points_b» .entry)) fcn «xf_a» «xf_b» (fcn .ty) ⌝ }
 {
     let ty = fcn.ty;
     match ty {

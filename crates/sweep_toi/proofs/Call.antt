@@ -14,9 +14,8 @@ use Rattle.model.specs.declared.CheckedSweeps.{CheckedSweeps}
 use Rattle.model.specs.declared.CheckedSweeps.the-variants as CheckedSweeps
 use Rattle.model.specs.declared.CheckedNumber.{CheckedNumber}
 use Rattle.model.specs.declared.CheckedNumber.the-variants as CheckedNumber
-use Rattle.model.specs.Ground as Ground
 use Rattle.model.specs.Domain.{pairRefusal, sweepsRefusal, fractionRefusal, slopRefusal, orElse, pairBy, sweepsBy, numberBy, checkedPair, checkedSweeps, checkedFraction, checkedSlop}
-use Rattle.model.specs.SweepToi.{counts, noCorners, advanceFrom, sweepTask, sweepBy, sweepTimeOfImpact}
+use Rattle.model.specs.SweepToi.{advance, sweepTask, sweepBy, sweepTimeOfImpact}
 use Rattle.outline.specs.Refusal.{ofPair}
 use Rattle.sweep_toi.specs.Refusal.{ofSweeps, ofNumber}
 
@@ -105,8 +104,7 @@ module _ (f : Format) (a : List Float) (ra : Float) (wa : Sweep) (b : List Float
                 unfolding checkedSlop
                 slop-refused n g m em = rw (em ∙ ap ofNumber g) (last-refused-by (slopRefusal f slop) n slop (sym eo ∙ g) ∙ after-fraction)
 
-                pub all-passed : (s : Float) → o ≡ CheckedNumber.Good s → (w : SweepTask) → w ≡ sweepTask f a ra u b rb v t s →
-                    advanceFrom f a b w 19 (Ground.zero f) noCorners (counts 0 0 0) ≡ answer
+                pub all-passed : (s : Float) → o ≡ CheckedNumber.Good s → (w : SweepTask) → w ≡ sweepTask f ra u rb v t s → advance f w a b ≡ answer
                 unfolding checkedSlop
                 all-passed s g w ew =
                     let last = number-passed (slopRefusal f slop) slop s (sym eo ∙ g) in

@@ -33,15 +33,14 @@ use separation::find_min_separation;
 use separation::new_separation;
 use separation::shifted;
 use separation::transform_at;
-ghost use mathlib.Core.List.{List};
 ghost use mathlib.Core.Path.{_≡_};
-ghost use lib.Ieee.{Float, binary32};
+ghost use lib.Ieee.{binary32};
 ghost use Rattle.model.specs.Ground as Ground;
 ghost use Rattle.model.specs.SweepToi as SweepToi;
 
 // What a distance call tells, put into the world by the pose of A: the normal, and the point midway between the two rounded outlines.
 fn in_world(task: SweepTask, xf_a: Pose, measured: Measurement) -> Closest
-    ensures { λ r. ⌜ ((a b : List Float) → r ≡ SweepToi.closestBy binary32 a b task «xf_a» measured) ⌝ }
+    ensures { λ r. ⌜ r ≡ SweepToi.closestBy binary32 task «xf_a» measured ⌝ }
 {
     let normal = rotate_vec(xf_a.rotation, measured.output.normal);
     let point_a = add(
@@ -70,7 +69,7 @@ fn closest_at(
     t: f32,
     cache: SimplexCache,
 ) -> Closest
-    ensures { λ r. ⌜ r ≡ SweepToi.closestAt binary32 (now («points_a» .entry)) (now («points_b» .entry)) task t cache ⌝ }
+    ensures { λ r. ⌜ r ≡ SweepToi.closestAt binary32 task (now («points_a» .entry)) (now («points_b» .entry)) t cache ⌝ }
 {
     let xf_a = transform_at(task.sweep_a, t);
     let xf_b = transform_at(task.sweep_b, t);
@@ -89,7 +88,7 @@ fn closest_at(
 
 // The time that root step n tries: the bracket's middle where n is even, to guarantee progress; the secant where it is odd, to converge.
 fn tried(task: SweepTask, n: u32, a1: f32, a2: f32, s1: f32, s2: f32) -> f32
-    ensures { λ r. ⌜ ((a b : List Float) → r ≡ SweepToi.tried binary32 a b task n a1 a2 s1 s2) ⌝ }
+    ensures { λ r. ⌜ r ≡ SweepToi.tried binary32 task n a1 a2 s1 s2 ⌝ }
 {
     if n % 2 == 1 {
         a1 + (task.target - s1) * (a2 - a1) / (s2 - s1)
@@ -136,7 +135,7 @@ fn tally(distance_calls: u32, searches: u32, root_steps: u32) -> Counts
 // The answer of a task. Three loops inside one another: a distance call gives an axis, the push-backs along it look for the time at which the
 // deepest corners reach the target, and the root search ends with the new t2.
 pub fn advance(task: SweepTask, points_a: &[f32], points_b: &[f32]) -> SweepAnswer
-    ensures { λ r. ⌜ r ≡ SweepToi.advanceFrom binary32 (now («points_a» .entry)) (now («points_b» .entry)) task 19 (Ground.zero binary32) SweepToi.noCorners (SweepToi.counts 0 0 0) ⌝ }
+    ensures { λ r. ⌜ r ≡ SweepToi.advance binary32 task (now («points_a» .entry)) (now («points_b» .entry)) ⌝ }
 {
     let target = task.target;
     let tolerance = task.tolerance;
@@ -250,7 +249,7 @@ fn sweep_task(
     max_fraction: f32,
     linear_slop: f32,
 ) -> SweepTask
-    ensures { λ r. ⌜ ((a b : List Float) → r ≡ SweepToi.sweepTask binary32 a «radius_a» «sweep_a» b «radius_b» «sweep_b» «max_fraction» «linear_slop») ⌝ }
+    ensures { λ r. ⌜ r ≡ SweepToi.sweepTask binary32 «radius_a» «sweep_a» «radius_b» «sweep_b» «max_fraction» «linear_slop» ⌝ }
 {
     let origin = sweep_a.c1;
     let sweep_a = shifted(sweep_a, origin);

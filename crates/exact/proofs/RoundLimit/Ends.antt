@@ -167,10 +167,10 @@ module _ (f : Format) {bound : ℕ} (room : Room f bound) {p : Pose} {a b : List
 
   -- a round touches, or settles, or goes on
   goes-on : (k : ℕ) (s : List SimplexVertex) (n it : ℕ) (r : Solved)
-      → (touches f r ≡ false → held s n (supportA f a b p (r .direction)) (supportB f a b p (r .direction)) ≡ false
+      → (touches f r ≡ false → held s n (supportA f a (r .direction)) (supportB f b p (r .direction)) ≡ false
       → Finishes k (extended f a b p r) (r .count + 1) (r .direction) (it + 1))
       → InTime (roundOf k s n it r .ending)
-  goes-on k s n it r on = go (touches f r) (held s n (supportA f a b p (r .direction)) (supportB f a b p (r .direction))) on
+  goes-on k s n it r on = go (touches f r) (held s n (supportA f a (r .direction)) (supportB f b p (r .direction))) on
     where
       next : Rounds
       next = roundsFrom f a b p k (extended f a b p r) (r .count + 1) (r .direction) (it + 1)
@@ -184,7 +184,7 @@ module _ (f : Format) {bound : ℕ} (room : Room f bound) {p : Pose} {a b : List
 
   -- a round whose slots hold what is found along its direction
   ends-by-held : {d d' : Vector} {e e' : Point} → SizedPoint bound d e 16 3 → SizedPoint bound d' e' 16 3 → e .x ≃ e' .x → e .y ≃ e' .y
-      → (s : List SimplexVertex) (n : ℕ) → held s n (supportA f a b p d) (supportB f a b p d) ≡ true
+      → (s : List SimplexVertex) (n : ℕ) → held s n (supportA f a d) (supportB f b p d) ≡ true
       → (k it : ℕ) (t' : List SimplexVertex) (m' : ℕ) → InTime (roundOf k s n it (solved t' m' d') .ending)
   ends-by-held {d} {d'} {e} {e'} i i' same-x same-y s n known k it t' m' =
       goes-on k s n it (solved t' m' d') (λ apart new. absurd (true≢false (sym again ∙ new)))
@@ -199,11 +199,11 @@ module _ (f : Format) {bound : ℕ} (room : Room f bound) {p : Pose} {a b : List
         equal-y = ⊠-cong-r (ofNat 1) (e .y) (e' .y) same-y;
       }
 
-      again : held s n (supportA f a b p d') (supportB f a b p d') ≡ true
+      again : held s n (supportA f a d') (supportB f b p d') ≡ true
       again = held-still f room paper domain s n _ _ _ _ (same-A f room paper domain i i' along) (same-B f room paper domain i i' along) known
 
   abbrev fresh : Vector → Float → SimplexVertex
-  fresh d w = vertex f a b p (supportA f a b p d) (supportB f a b p d) w
+  fresh d w = vertex f a b p (supportA f a d) (supportB f b p d) w
 
   vertex-tie : {x : SimplexVertex} {d : Vector} (z : SimplexVertex) (w : Float) (k it : ℕ) → Corner x → Corner (fresh d w)
       → SizedPoint bound d (opposite (at x)) 16 3 → ahead (opposite (at x)) (at (fresh d w)) (at x) ≼ 0Int → Finishes (suc k) (x ∷ fresh d w ∷ z ∷ []) 2 d it
@@ -251,7 +251,7 @@ module _ (f : Format) {bound : ℕ} (room : Room f bound) {p : Pose} {a b : List
       q : SimplexVertex
       q = fresh d (y .a)
 
-      found : Extreme f room paper domain e (supportA f a b p d) (supportB f a b p d)
+      found : Extreme f room paper domain e (supportA f a d) (supportB f b p d)
       found = supports f room paper domain sized
 
       stands : Corner q
@@ -268,7 +268,7 @@ module _ (f : Format) {bound : ℕ} (room : Room f bound) {p : Pose} {a b : List
       q : SimplexVertex
       q = fresh d (z .a)
 
-      found : Extreme f room paper domain e (supportA f a b p d) (supportB f a b p d)
+      found : Extreme f room paper domain e (supportA f a d) (supportB f b p d)
       found = supports f room paper domain sized
 
       stands : Corner q
@@ -296,5 +296,5 @@ module _ (f : Format) {bound : ℕ} (room : Room f bound) {p : Pose} {a b : List
   rounds-end zero s n d it before = none-left before
   rounds-end (suc k) s n d it before = round-ends k (rounds-end k) s n it (solved-after before)
 
-  pub call-ends : (k : ℕ) → roundsFor J ≤ k → (c : SimplexCache) → Finishes k (startSimplex f a b p c) (startCount f a b p c) (origin f) 0
+  pub call-ends : (k : ℕ) → roundsFor J ≤ k → (c : SimplexCache) → Finishes k (startSimplex f a b p c) (startCount c (length a / 2) (length b / 2)) (origin f) 0
   call-ends k h c = rounds-end k _ _ _ 0 (start h (start-slots f room paper domain c))

@@ -57,8 +57,8 @@ zero-requires c κs = search needs
 
 loop-holds : tie.Need-loop-holds Inv-loop μ-loop
 loop-holds c =
-    let x = c .before .before .before .before .before .args in
-    (rw (c .before .start-count .ensures) (start-count-most binary32 (x .points-a .now) (x .points-b .now) (x .pos12) (x .cache)), omega arith, refl)
+    let cache = c .before .before .before .before .before .args .cache in
+    (rw (c .before .start-count .ensures) (start-count-most cache _ _), omega arith, refl)
 
 solve-requires : tie.Need-solve-requires Inv-loop μ-loop
 solve-requires c κs = search needs

@@ -15,8 +15,8 @@ use Rattle.sweep_toi.proofs.sweep_toi.advance.Tie as tie
 abbrev Inv-loop : tie.InvT-loop
 Inv-loop task points-a points-b target tolerance t1 cache distance-iterations searches root-steps closest fcn t2 push-back-iterations deepest s2₀ s1₀ a1₀ a2₀ root-iteration-count₀ s2 s1 a1 a2 root-iteration-count =
     (root-iteration-count < 50)
-    × (rootFrom binary32 points-a points-b task fcn (deepest .«index_a») (deepest .«index_b») t2 (50 - root-iteration-count) a1 a2 s1 s2 root-iteration-count
-    ≡ rootFrom binary32 points-a points-b task fcn (deepest .«index_a») (deepest .«index_b») t2 50 t1 t2 s1₀ s2₀ 0)
+    × (rootFrom binary32 task points-a points-b fcn (deepest .«index_a») (deepest .«index_b») t2 (50 - root-iteration-count) a1 a2 s1 s2 root-iteration-count
+    ≡ rootFrom binary32 task points-a points-b fcn (deepest .«index_a») (deepest .«index_b») t2 50 t1 t2 s1₀ s2₀ 0)
 
 abbrev μ-loop : tie.MeasureT-loop
 μ-loop task points-a points-b target tolerance t1 cache distance-iterations searches root-steps closest fcn t2 push-back-iterations deepest s2₀ s1₀ a1₀ a2₀ root-iteration-count₀ s2 s1 a1 a2 root-iteration-count = 50 - root-iteration-count
@@ -26,8 +26,8 @@ Inv-push-back task points-a points-b target tolerance t1₀ cache distance-itera
     (push-back-iterations < 8)
     × (searches ≡ searches₀ + push-back-iterations)
     × (root-steps ≤ root-steps₀ + 50 * push-back-iterations)
-    × (pushFrom binary32 points-a points-b task fcn t1 closest (8 - push-back-iterations) t2 (counts distance-iterations searches root-steps)
-    ≡ pushFrom binary32 points-a points-b task fcn t1₀ closest 8 (task .«t_max») (counts distance-iterations searches₀ root-steps₀))
+    × (pushFrom binary32 task points-a points-b fcn t1 closest (8 - push-back-iterations) t2 (counts distance-iterations searches root-steps)
+    ≡ pushFrom binary32 task points-a points-b fcn t1₀ closest 8 (task .«t_max») (counts distance-iterations searches₀ root-steps₀))
 
 abbrev μ-push-back : tie.MeasureT-push-back
 μ-push-back task points-a points-b target tolerance t1₀ cache distance-iterations searches₀ root-steps₀ closest fcn t2₀ push-back-iterations₀ t1 searches root-steps t2 push-back-iterations = 8 - push-back-iterations
@@ -37,8 +37,8 @@ Inv-advance task points-a points-b target tolerance t1₀ cache₀ distance-iter
     (distance-iterations < 20)
     × (searches ≤ 8 * distance-iterations)
     × (root-steps ≤ 400 * distance-iterations)
-    × (advanceFrom binary32 points-a points-b task (19 - distance-iterations) t1 cache (counts distance-iterations searches root-steps)
-    ≡ advanceFrom binary32 points-a points-b task 19 (Ground.zero binary32) noCorners (counts 0 0 0))
+    × (advanceFrom binary32 task points-a points-b (19 - distance-iterations) t1 cache (counts distance-iterations searches root-steps)
+    ≡ advanceFrom binary32 task points-a points-b 19 (Ground.zero binary32) noCorners (counts 0 0 0))
 
 abbrev μ-advance : tie.MeasureT-advance
 μ-advance task points-a points-b target tolerance t1₀ cache₀ distance-iterations₀ searches₀ root-steps₀ t1 cache distance-iterations searches root-steps = 20 - distance-iterations
@@ -48,10 +48,10 @@ whole : (c : tie.After-new-separation Inv-loop μ-loop Inv-push-back μ-push-bac
     let l = c .before .before .before .before .before .before .before .advance in
     let a = c .before .before .before .before .before .before .before .before .before .before .args in
     let x = c .before .before .before .before .before .before .closest-at .result in
-    onward binary32 (a .points-a .now) (a .points-b .now) (a .task)
-    (pushFrom binary32 (a .points-a .now) (a .points-b .now) (a .task) (c .new-separation .result) (l .t1) x 8 (a .task .«t_max») (counts (l .distance-iterations + 1) (l .searches) (l .root-steps)))
-    (after binary32 (a .points-a .now) (a .points-b .now) (a .task) (19 - l .distance-iterations) x)
-    ≡ advanceFrom binary32 (a .points-a .now) (a .points-b .now) (a .task) 19 (Ground.zero binary32) noCorners (counts 0 0 0)
+    onward
+    (pushFrom binary32 (a .task) (a .points-a .now) (a .points-b .now) (c .new-separation .result) (l .t1) x 8 (a .task .«t_max») (counts (l .distance-iterations + 1) (l .searches) (l .root-steps)))
+    (after binary32 (a .task) (a .points-a .now) (a .points-b .now) (19 - l .distance-iterations) x)
+    ≡ advanceFrom binary32 (a .task) (a .points-a .now) (a .points-b .now) 19 (Ground.zero binary32) noCorners (counts 0 0 0)
 whole c =
     let l = c .before .before .before .before .before .before .before .advance in
     sym (call-goes-on binary32 _ _ _ (l .t1) (l .cache) (l .distance-iterations) (l .searches) (l .root-steps) _ (c .before .before .before .before .before .before .closest-at .ensures) (c .before .before .before .if1 .left) (c .before .if2 .left) _ (c .new-separation .ensures)) ∙ l .inv .3
@@ -62,10 +62,10 @@ pushing : (c : tie.At-push-back Inv-loop μ-loop Inv-push-back μ-push-back Inv-
     let l = c .before .before .before .before .before .before .before .before .advance in
     let a = c .before .before .before .before .before .before .before .before .before .before .before .args in
     let x = c .before .before .before .before .before .before .before .closest-at .result in
-    onward binary32 (a .points-a .now) (a .points-b .now) (a .task)
-    (pushFrom binary32 (a .points-a .now) (a .points-b .now) (a .task) (c .before .new-separation .result) (p .t1) x (8 - p .push-back-iterations) (p .t2) (counts (l .distance-iterations + 1) (p .searches) (p .root-steps)))
-    (after binary32 (a .points-a .now) (a .points-b .now) (a .task) (19 - l .distance-iterations) x)
-    ≡ advanceFrom binary32 (a .points-a .now) (a .points-b .now) (a .task) 19 (Ground.zero binary32) noCorners (counts 0 0 0)
+    onward
+    (pushFrom binary32 (a .task) (a .points-a .now) (a .points-b .now) (c .before .new-separation .result) (p .t1) x (8 - p .push-back-iterations) (p .t2) (counts (l .distance-iterations + 1) (p .searches) (p .root-steps)))
+    (after binary32 (a .task) (a .points-a .now) (a .points-b .now) (19 - l .distance-iterations) x)
+    ≡ advanceFrom binary32 (a .task) (a .points-a .now) (a .points-b .now) 19 (Ground.zero binary32) noCorners (counts 0 0 0)
 pushing c = rw (c .push-back .inv .3) (whole (c .before))
 
 -- where the root search is left: what it yields is what its definition gives
@@ -73,12 +73,12 @@ searched : (c : tie.Joined7 Inv-loop μ-loop Inv-push-back μ-push-back Inv-adva
     let q = c .before .before .before .before .before .before .before .before .before .before .before in
     let a = q .before .before .before .before .before .before .before .before .before .before .before .args in
     let m = c .before .before .before .before .before .before .before .before .before .before .find-min-separation .result in
-    found binary32 (a .points-a .now) (a .points-b .now) (a .task) (c .if7 .t2) (c .before .before .before .before .loop .root-iteration-count + 1)
-    ≡ rootFrom binary32 (a .points-a .now) (a .points-b .now) (a .task) (q .before .new-separation .result) (m .«index_a») (m .«index_b») (q .push-back .t2) 50 (q .push-back .t1) (q .push-back .t2) (c .before .before .before .before .before .before .before .evaluate .result) (m .separation) 0
+    found (c .if7 .t2) (c .before .before .before .before .loop .root-iteration-count + 1)
+    ≡ rootFrom binary32 (a .task) (a .points-a .now) (a .points-b .now) (q .before .new-separation .result) (m .«index_a») (m .«index_b») (q .push-back .t2) 50 (q .push-back .t1) (q .push-back .t2) (c .before .before .before .before .before .before .before .evaluate .result) (m .separation) 0
 searched c =
     let l = c .before .before .before .before .loop in
     let a = c .before .before .before .before .before .before .before .before .before .before .before .before .before .before .before .before .before .before .before .before .before .before .args in
-    let p = c .before .before .before .tried .ensures (a .points-a .now) (a .points-b .now) in
+    let p = c .before .before .before .tried .ensures in
     let q = c .before .before .evaluate2 .ensures in
     let r = c .before .abs .ensures in
     ⊎-elim
@@ -93,8 +93,8 @@ round : (c : tie.Joined7 Inv-loop μ-loop Inv-push-back μ-push-back Inv-advance
     let a = q .before .before .before .before .before .before .before .before .before .before .before .args in
     let x = q .before .before .before .before .before .before .before .closest-at .result in
     let d = q .before .before .before .before .before .before .before .before .advance .distance-iterations + 1 in
-    pushFrom binary32 (a .points-a .now) (a .points-b .now) (a .task) (q .before .new-separation .result) (p .t1) x (8 - p .push-back-iterations) (p .t2) (counts d (p .searches) (p .root-steps))
-    ≡ pushFrom binary32 (a .points-a .now) (a .points-b .now) (a .task) (q .before .new-separation .result) (p .t1) x (8 - (p .push-back-iterations + 1)) (c .if7 .t2) (counts d (p .searches + 1) (p .root-steps + (c .before .before .before .before .loop .root-iteration-count + 1)))
+    pushFrom binary32 (a .task) (a .points-a .now) (a .points-b .now) (q .before .new-separation .result) (p .t1) x (8 - p .push-back-iterations) (p .t2) (counts d (p .searches) (p .root-steps))
+    ≡ pushFrom binary32 (a .task) (a .points-a .now) (a .points-b .now) (q .before .new-separation .result) (p .t1) x (8 - (p .push-back-iterations + 1)) (c .if7 .t2) (counts d (p .searches + 1) (p .root-steps + (c .before .before .before .before .loop .root-iteration-count + 1)))
 round c =
     let p = c .before .before .before .before .before .before .before .before .before .before .before .push-back in
     push-goes-on binary32 _ _ _ _ _ _ _ (p .push-back-iterations) _ (p .searches) (p .root-steps) (p .inv .0) _ (c .before .before .before .before .before .before .before .before .before .before .find-min-separation .ensures) (c .before .before .before .before .before .before .before .before .before .if3 .left) (c .before .before .before .before .before .before .before .before .if4 .left) _ (c .before .before .before .before .before .before .before .evaluate .ensures) (c .before .before .before .before .before .before .if5 .left) (c .before .before .before .before .before .if6 .left) (c .if7 .t2) (c .before .before .before .before .loop .root-iteration-count + 1) (searched c)
@@ -105,8 +105,8 @@ resumed : (c : tie.Joined4 Inv-loop μ-loop Inv-push-back μ-push-back Inv-advan
     let a = q .before .before .before .before .before .before .before .before .before .before .before .args in
     let d = q .before .before .before .before .before .before .before .before .advance .distance-iterations in
     (c .if4 .root-steps ≤ 400 * (d + 1))
-    × (after binary32 (a .points-a .now) (a .points-b .now) (a .task) (19 - d) (q .before .before .before .before .before .before .before .closest-at .result) (c .if4 .t1) (counts (d + 1) (q .push-back .searches + 1) (c .if4 .root-steps))
-    ≡ advanceFrom binary32 (a .points-a .now) (a .points-b .now) (a .task) 19 (Ground.zero binary32) noCorners (counts 0 0 0))
+    × (after binary32 (a .task) (a .points-a .now) (a .points-b .now) (19 - d) (q .before .before .before .before .before .before .before .closest-at .result) (c .if4 .t1) (counts (d + 1) (q .push-back .searches + 1) (c .if4 .root-steps))
+    ≡ advanceFrom binary32 (a .task) (a .points-a .now) (a .points-b .now) 19 (Ground.zero binary32) noCorners (counts 0 0 0))
 resumed c =
     let q = c .before .before .before in
     let p = q .push-back in
@@ -114,7 +114,7 @@ resumed c =
     let l = q .before .before .before .before .before .before .before .before .advance in
     ⊎-elim
     (λ w.
-    let e = push-moves binary32 (a .points-a .now) (a .points-b .now) (a .task) (q .before .new-separation .result) (p .t1) (q .before .before .before .before .before .before .before .closest-at .result) (p .t2) (p .push-back-iterations) (l .distance-iterations + 1) (p .searches) (p .root-steps) (p .inv .0) _ (c .before .before .find-min-separation .ensures) (c .before .if3 .left) (w .0 .taken) in
+    let e = push-moves binary32 (a .task) (a .points-a .now) (a .points-b .now) (q .before .new-separation .result) (p .t1) (q .before .before .before .before .before .before .before .closest-at .result) (p .t2) (p .push-back-iterations) (l .distance-iterations + 1) (p .searches) (p .root-steps) (p .inv .0) _ (c .before .before .find-min-separation .ensures) (c .before .if3 .left) (w .0 .taken) in
     (omega (arith, w .2, p .inv .0, p .inv .2, l .inv .2), rw (w .1, w .2) (rw e at (pushing q))))
     (λ w.
     let b6 : tie.Else6 Inv-loop μ-loop Inv-push-back μ-push-back Inv-advance μ-advance = record { before = record { before = record { before = record { before = c .before; if4 = w .0 }; evaluate = w .1 }; if5 = w .2 }; if6 = w .3 } in
@@ -242,7 +242,7 @@ loop-again : tie.Need-loop-again Inv-loop μ-loop Inv-push-back μ-push-back Inv
 loop-again c =
     let l = c .before .before .before .before .before .before .loop in
     let a = c .before .before .before .before .before .before .before .before .before .before .before .before .before .before .before .before .before .before .before .before .before .before .before .before .args in
-    let p = c .before .before .before .before .before .tried .ensures (a .points-a .now) (a .points-b .now) in
+    let p = c .before .before .before .before .before .tried .ensures in
     let q = c .before .before .before .before .evaluate2 .ensures in
     let r = c .before .before .before .abs .ensures in (
       omega arith,
@@ -314,7 +314,7 @@ returns-3 c =
     let q = c .before .before .before .before in
     let p = q .push-back in
     let a = q .before .before .before .before .before .before .before .before .before .before .before .args in
-    let e = push-separates binary32 (a .points-a .now) (a .points-b .now) (a .task) (q .before .new-separation .result) (p .t1) (q .before .before .before .before .before .before .before .closest-at .result) (p .t2) (p .push-back-iterations) (q .before .before .before .before .before .before .before .before .advance .distance-iterations + 1) (p .searches) (p .root-steps) (p .inv .0) _ (c .before .before .before .find-min-separation .ensures) (c .before .before .if3 .taken) in
+    let e = push-separates binary32 (a .task) (a .points-a .now) (a .points-b .now) (q .before .new-separation .result) (p .t1) (q .before .before .before .before .before .before .before .closest-at .result) (p .t2) (p .push-back-iterations) (q .before .before .before .before .before .before .before .before .advance .distance-iterations + 1) (p .searches) (p .root-steps) (p .inv .0) _ (c .before .before .before .find-min-separation .ensures) (c .before .before .if3 .taken) in
     rw (c .tally3 .ensures, c .before .no-contact .ensures) (rw e at (pushing q))
 
 returns-4 : tie.Need-returns-4 Inv-loop μ-loop Inv-push-back μ-push-back Inv-advance μ-advance
@@ -322,7 +322,7 @@ returns-4 c =
     let q = c .before .before .before .before .before .before .before in
     let p = q .push-back in
     let a = q .before .before .before .before .before .before .before .before .before .before .before .args in
-    let e = push-fails binary32 (a .points-a .now) (a .points-b .now) (a .task) (q .before .new-separation .result) (p .t1) (q .before .before .before .before .before .before .before .closest-at .result) (p .t2) (p .push-back-iterations) (q .before .before .before .before .before .before .before .before .advance .distance-iterations + 1) (p .searches) (p .root-steps) (p .inv .0) _ (c .before .before .before .before .before .before .find-min-separation .ensures) (c .before .before .before .before .before .if3 .left) (c .before .before .before .before .if4 .left) _ (c .before .before .before .evaluate .ensures) (c .before .before .if5 .taken) in
+    let e = push-fails binary32 (a .task) (a .points-a .now) (a .points-b .now) (q .before .new-separation .result) (p .t1) (q .before .before .before .before .before .before .before .closest-at .result) (p .t2) (p .push-back-iterations) (q .before .before .before .before .before .before .before .before .advance .distance-iterations + 1) (p .searches) (p .root-steps) (p .inv .0) _ (c .before .before .before .before .before .before .find-min-separation .ensures) (c .before .before .before .before .before .if3 .left) (c .before .before .before .before .if4 .left) _ (c .before .before .before .evaluate .ensures) (c .before .before .if5 .taken) in
     rw (c .tally4 .ensures, c .before .no-contact2 .ensures) (rw e at (pushing q))
 
 returns-5 : tie.Need-returns-5 Inv-loop μ-loop Inv-push-back μ-push-back Inv-advance μ-advance
@@ -330,7 +330,7 @@ returns-5 c =
     let q = c .before .before .before .before .before .before .before .before in
     let p = q .push-back in
     let a = q .before .before .before .before .before .before .before .before .before .before .before .args in
-    let e = push-hits binary32 (a .points-a .now) (a .points-b .now) (a .task) (q .before .new-separation .result) (p .t1) (q .before .before .before .before .before .before .before .closest-at .result) (p .t2) (p .push-back-iterations) (q .before .before .before .before .before .before .before .before .advance .distance-iterations + 1) (p .searches) (p .root-steps) (p .inv .0) _ (c .before .before .before .before .before .before .before .find-min-separation .ensures) (c .before .before .before .before .before .before .if3 .left) (c .before .before .before .before .before .if4 .left) _ (c .before .before .before .before .evaluate .ensures) (c .before .before .before .if5 .left) (c .before .before .if6 .taken) in
+    let e = push-hits binary32 (a .task) (a .points-a .now) (a .points-b .now) (q .before .new-separation .result) (p .t1) (q .before .before .before .before .before .before .before .closest-at .result) (p .t2) (p .push-back-iterations) (q .before .before .before .before .before .before .before .before .advance .distance-iterations + 1) (p .searches) (p .root-steps) (p .inv .0) _ (c .before .before .before .before .before .before .before .find-min-separation .ensures) (c .before .before .before .before .before .before .if3 .left) (c .before .before .before .before .before .if4 .left) _ (c .before .before .before .before .evaluate .ensures) (c .before .before .before .if5 .left) (c .before .before .if6 .taken) in
     rw (c .tally5 .ensures, c .before .contact-at2 .ensures) (rw e at (pushing q))
 
 returns-6 : tie.Need-returns-6 Inv-loop μ-loop Inv-push-back μ-push-back Inv-advance μ-advance

@@ -23,8 +23,7 @@ in-world-requires c κs = search needs
 
 returns : tie.Need-returns
 returns c =
-    let a = c .before .before .before .before .before .before .before .args in
-    c .in-world .ensures (a .points-a .now) (a .points-b .now)
+    c .in-world .ensures
     ∙ closest binary32 _ _ _ _ _ _ _ _ _ (c .before .before .before .before .transform-at .ensures) (c .before .before .before .transform-at2 .ensures) (c .before .before .inv-mul .ensures) (c .before .measure .ensures)
 
 pub closest-at-spec : {M : Type 1} → statement M

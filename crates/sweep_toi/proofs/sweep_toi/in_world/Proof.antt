@@ -37,7 +37,7 @@ returns : tie.Need-returns
 returns c =
     let s = c .before .before .before .before in
     let u = s .before .before .before in
-    λ a b. rw (c .before .add3 .ensures, c .before .before .scale3 .ensures, c .before .before .before .add2 .ensures, s .sub .ensures, s .before .scale2 .ensures, s .before .before .transform-point2 .ensures, u .add .ensures, u .before .scale .ensures, u .before .before .transform-point .ensures, u .before .before .before .rotate-vec .ensures)
+    rw (c .before .add3 .ensures, c .before .before .scale3 .ensures, c .before .before .before .add2 .ensures, s .sub .ensures, s .before .scale2 .ensures, s .before .before .transform-point2 .ensures, u .add .ensures, u .before .scale .ensures, u .before .before .transform-point .ensures, u .before .before .before .rotate-vec .ensures)
 
 pub in-world-spec : {M : Type 1} → statement M
 in-world-spec =

@@ -15,7 +15,7 @@ max-requires c κs = search needs
 
 returns : tie.Need-returns
 unfolding sweepTask
-returns c = λ a b. rw (c .max .ensures, c .before .shifted2 .ensures, c .before .before .shifted .ensures)
+returns c = rw (c .max .ensures, c .before .shifted2 .ensures, c .before .before .shifted .ensures)
 
 pub sweep-task-spec : {M : Type 1} → statement M
 sweep-task-spec = tie.close (tie.spec shifted-requires shifted-requires-2 max-requires returns)

@@ -82,9 +82,8 @@ returns-5 c =
     let n = c .before .before .before .before .before in
     let m = n .before .before .before .before in
     let p = m .before .before .before .before in
-    let a = p .before .before .before .before .before .before .args in
     c .advance .ensures
-    ∙ all-passed binary32 _ _ _ _ _ _ _ _ _ (p .before .before .before .check-pair .ensures) _ _ (p .before .enum-told .given .1) _ (p .check-sweeps .ensures) _ _ (m .before .before .sweeps .given .1) _ (m .check-fraction .ensures) _ (n .before .before .fraction .given .1) _ (n .check-slop .ensures) _ (c .before .before .before .checked-slop .given .1) _ (c .before .sweep-task .ensures (a .points-a .now) (a .points-b .now))
+    ∙ all-passed binary32 _ _ _ _ _ _ _ _ _ (p .before .before .before .check-pair .ensures) _ _ (p .before .enum-told .given .1) _ (p .check-sweeps .ensures) _ _ (m .before .before .sweeps .given .1) _ (m .check-fraction .ensures) _ (n .before .before .fraction .given .1) _ (n .check-slop .ensures) _ (c .before .before .before .checked-slop .given .1) _ (c .before .sweep-task .ensures)
 
 pub sweep-time-of-impact-spec : {M : Type 1} → statement M
 sweep-time-of-impact-spec =

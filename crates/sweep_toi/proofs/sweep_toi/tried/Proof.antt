@@ -6,11 +6,11 @@ use Rattle.sweep_toi.proofs.sweep_toi.tried.Tie as tie
 
 returns : tie.Need-returns
 unfolding tried
-returns c = λ a b. simp (eq-eqb _ _ (c .before .if1 .taken))
+returns c = simp (eq-eqb _ _ (c .before .if1 .taken))
 
 returns-2 : tie.Need-returns-2
 unfolding tried
-returns-2 c = λ a b. simp (ne-eqb _ _ (c .if1 .left))
+returns-2 c = simp (ne-eqb _ _ (c .if1 .left))
 
 pub tried-spec : {M : Type 1} → statement M
 tried-spec = tie.close (tie.spec returns returns-2)
