@@ -1,5 +1,5 @@
-//! Demand 3 tested by running: on squared paper a distance call that does not end at the round limit ends touching exactly when the outlines share a point,
-//! and otherwise the corners in the returned cache span a nearest place; and from one solve to the next what is kept comes nearer to the origin, or it
+//! Demand 3 tested by running: on squared paper within 16 a distance call never ends at the round limit, it ends touching exactly when the outlines share a
+//! point, and otherwise the corners in the returned cache span a nearest place; and from one solve to the next what is kept comes nearer to the origin, or it
 //! comes as near and the call settles there. What is right is worked out here in whole numbers and fractions of them, with no float.
 use crate::counts;
 use crate::math::{Pose, Rotation, Vector};

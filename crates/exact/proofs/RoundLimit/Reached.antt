@@ -62,17 +62,15 @@ call =
     let o = Ground.zero binary64 in
     proxyDistance binary64 (drawnPose binary64 flat) (drawn binary64 (flat .a)) o (drawn binary64 (flat .b)) o false none
 
+-- of the one call eight rounds run out and the ninth settles; of the other the 20 run out
 pub record Computed : Type 0 where
-  pub nineSettles : roundsOn binary32 20 nine .ending ≡ Settled
-  pub nineRounds : roundsOn binary32 20 nine .iterations ≡ 9
-  -- 20 rounds run out; with more, the call settles in the 21st
+  pub eight : roundsOn binary32 8 nine .ending ≡ RoundLimit
+  pub ninth : roundsOn binary32 9 nine .ending ≡ Settled
   pub limit : endings (call .answer) ≡ (RoundLimit ∷ [])
-  pub flatSettles : roundsOn binary64 33 flat .ending ≡ Settled
-  pub flatRounds : roundsOn binary64 33 flat .iterations ≡ 21
 
 pub computed : Computed
 unfolding proxyDistance measure roundsFrom startSimplex vertex held solve solveSimplex2 solveSimplex3 region2 region3 kept supportFrom witnessPoints allBelow replaced badParts abs ofBits ofInt round add sub mul div neg lt le eq root
-computed = record { nineSettles = refl; nineRounds = refl; limit = refl; flatSettles = refl; flatRounds = refl }
+computed = record { eight = refl; ninth = refl; limit = refl }
 
 pub not-at-2048 : LimitNeverReached binary64 2048 → ⊥
 not-at-2048 never = go (call .answer) refl (computed .limit)
