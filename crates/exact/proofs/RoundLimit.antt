@@ -1,11 +1,11 @@
 -- On squared paper the round limit is never reached, over either format and every bound that leaves the room, if there are enough rounds; within 16 the
 -- call's 20 are, so there the call is exact, always. The parts, in order:
---   Potential   of two points that were found: each round quarters it, and it never falls below 1; plain numbers, no geometry
+--   Potential   of two points that were found: each round leaves at most a quarter, and it never falls below 1; plain numbers, no geometry
 --   Turning     turns and distances ahead, and the identities that make a round one of those of `Potential`
 --   Between     the next direction lies between those along which the two points were found
 --   Edge        what a solve tells of the vertex or the edge that it kept
 --   States      what can be known of what was kept, and how many rounds are left; each round leads to a state with fewer
---   Caps        no triangle of differences is larger than the bound allows
+--   Triangles   no triangle of differences is larger than the bound allows
 --   Regions     which region of a solve leads to which state
 --   Ends        the rounds of the call themselves
 --   Reached     at 2,048 the limit is reached: a call, computed
@@ -15,7 +15,7 @@ mod Turning
 mod Between
 mod Edge
 mod States
-mod Caps
+mod Triangles
 mod Regions
 mod Ends
 pub mod Reached

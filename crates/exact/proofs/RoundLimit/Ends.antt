@@ -39,7 +39,7 @@ use Rattle.exact.proofs.NoCircles.{same-A, same-B, roundBy, held-still,
 use Rattle.exact.proofs.RoundLimit.Turning.{Sense, turn, ahead}
 use Rattle.exact.proofs.RoundLimit.Edge.{Edge, edge-not-side, ahead-off-vertex}
 use Rattle.exact.proofs.RoundLimit.States.{Certified, AtVertex, two-left-at-vertex, two-left-at-edge}
-use Rattle.exact.proofs.RoundLimit.Caps.{within-cap}
+use Rattle.exact.proofs.RoundLimit.Triangles.{no-larger}
 use Rattle.exact.proofs.RoundLimit.Regions.{KnownVertex, EitherWay, KnownEdge, Known2, Known3, free-vertex, start2, start3, next2, next3}
 
 -- not at the round limit
@@ -78,8 +78,8 @@ module _ (f : Format) {bound : ℕ} (room : Room f bound) {p : Pose} {a b : List
   near-D : {z : Point} → D z → Near bound z
   near-D (pairOf i j h k) = paper .near i j h k
 
-  caps : (σ : Sense) (a b q : Point) → D a → D b → D q → turn σ (difference b a) (difference q a) ≺ ofNat (4 ^ J)
-  caps σ a b q h i j = within-cap bound J enough σ a b q (near-D h) (near-D i) (near-D j)
+  triangles : (σ : Sense) (a b q : Point) → D a → D b → D q → turn σ (difference b a) (difference q a) ≺ ofNat (4 ^ J)
+  triangles σ a b q h i j = no-larger bound J enough σ a b q (near-D h) (near-D i) (near-D j)
 
   -- the pair that is found along a direction is certified by it
   found-certified : {e : Point} {i j : ℕ} → Extreme f room paper domain e i j → Certified D J e (spot i j)
@@ -153,10 +153,10 @@ module _ (f : Format) {bound : ℕ} (room : Room f bound) {p : Pose} {a b : List
   solved-after {k} (start h (three i j l)) =
       after3 i j l (region3 f _ _ _) (start3 D J k h _ _ _ (region3 f _ _ _) (region3-lies f bound room (i .whole) (j .whole) (l .whole)))
   solved-after {k} (vertexNext {z = z} i j c E s) =
-      after2 i j z (region2 f _ _) (next2 D J k caps s (in-D i) (in-D j) c E (region2 f _ _) (region2-lies f bound room (i .whole) (j .whole)))
+      after2 i j z (region2 f _ _) (next2 D J k triangles s (in-D i) (in-D j) c E (region2 f _ _) (region2-lies f bound room (i .whole) (j .whole)))
   solved-after {k} (edgeNext i j l edge c E s) =
       after3 i j l (region3 f _ _ _)
-      (next3 D J k caps edge s (in-D i) (in-D j) (in-D l) c E (region3 f _ _ _) (region3-lies f bound room (i .whole) (j .whole) (l .whole)))
+      (next3 D J k triangles edge s (in-D i) (in-D j) (in-D l) c E (region3 f _ _ _) (region3-lies f bound room (i .whole) (j .whole) (l .whole)))
 
   -- ---- a tie: what was found lies no further than what was kept, so the next solve keeps the same, and the round after it finds what is held
   abbrev Finishes : ℕ → List SimplexVertex → ℕ → Vector → ℕ → Type 0

@@ -1,4 +1,4 @@
--- The potential of a pair of certified points, over plain whole numbers: each round divides it by four, and it never falls below 1. No geometry.
+-- The potential of two points that were found, over plain whole numbers: each round leaves at most a quarter, and it never falls below 1. No geometry.
 -- Assumes nothing.
 use mathlib.Core.Path.{_≡_, refl}
 use mathlib.Core.Logic.{_⊎_, inl, inr}
@@ -16,20 +16,31 @@ use Rattle.exact.proofs.Weights.{⊠-mono}
 pub spread : (k a b : Int) → k ⊠ (a ⊟ b) ≃ k ⊠ a ⊟ k ⊠ b
 spread k a b = ring (var 0 :* (var 1 :- var 2)) (var 0 :* var 1 :- var 0 :* var 2) (k ∷ a ∷ b ∷ []) tt
 
--- the other factor of a product above 0
+-- a factor of a product above 0, where the other is not negative
 pub first-factor : (a b : Int) → 0Int ≼ b → 0Int ≺ a ⊠ b → 0Int ≺ a
 first-factor a b h k = ⊠-pos-back b a h (omega (arith, ⊠-comm a b))
 
 -- the order is kept by a factor above 0, and back
-pub times-lt : (k a b : Int) → 0Int ≺ k → a ≺ b → k ⊠ a ≺ k ⊠ b
+times-lt : (k a b : Int) → 0Int ≺ k → a ≺ b → k ⊠ a ≺ k ⊠ b
 times-lt k a b h l = omega (arith, ⊠-pos k (b ⊟ a) h (omega arith), spread k b a)
 
-pub cancel-lt : (k a b : Int) → 0Int ≼ k → k ⊠ a ≺ k ⊠ b → a ≺ b
+cancel-lt : (k a b : Int) → 0Int ≼ k → k ⊠ a ≺ k ⊠ b → a ≺ b
 cancel-lt k a b h l = let p = ⊠-pos-back k (b ⊟ a) h (omega (arith, spread k b a)) in omega arith
 
 -- ---- a round
--- κ α β: how far the two old directions, and each of them and the new one, turn into each other
--- u w: how far each old point lies ahead of the other; A C: ahead of the new point; E δ: the new point and the other old one, along the new direction
+-- Two points were found, each along its direction, and now a third one along a new direction.
+--   κ        how far the first direction turns into the second; α: the new one into the second; β: the first into the new one
+--   u, w     how far the first point lies ahead of the second along its own direction, and the second ahead of the first along its own
+--   A, C     how far the first and the second lie ahead of the new point, each along its own direction
+--   E, δ     how far the new point and the second lie ahead of, and behind, the first along the new direction
+--   t        the doubled area of the triangle of all three
+-- The potential of the first two is u w / κ; where the new point takes the second's place it is A E / β.
+pub record Equations (κ α β u w A C E δ t : Int) : Type 0 where
+  pub along : α ⊠ A ⊞ κ ⊠ E ≃ β ⊠ (w ⊟ C)
+  pub level : α ⊠ u ⊟ β ⊠ w ≃ κ ⊠ δ
+  pub area-before : κ ⊠ t ≃ u ⊠ w ⊟ u ⊠ C ⊟ w ⊠ A
+  pub area-after : β ⊠ t ≃ u ⊠ E ⊞ A ⊠ δ
+
 pub record Round (κ α β u w A C E δ t : Int) : Type 0 where
   pub κ-pos : 0Int ≺ κ
   pub α-pos : 0Int ≺ α
@@ -38,23 +49,20 @@ pub record Round (κ α β u w A C E δ t : Int) : Type 0 where
   pub A-nonneg : 0Int ≼ A
   pub C-nonneg : 0Int ≼ C
   pub δ-nonneg : 0Int ≼ δ
-  pub along : α ⊠ A ⊞ κ ⊠ E ≃ β ⊠ (w ⊟ C)
-  pub level : α ⊠ u ⊟ β ⊠ w ≃ κ ⊠ δ
-  pub area : κ ⊠ t ≃ u ⊠ w ⊟ u ⊠ C ⊟ w ⊠ A
-  pub cap : β ⊠ t ≃ u ⊠ E ⊞ A ⊠ δ
+  pub equations : Equations κ α β u w A C E δ t
 
 module _ {κ α β u w A C E δ t : Int} (r : Round κ α β u w A C E δ t) where
-  abbrev αA : 0Int ≼ α ⊠ A
+  αA : 0Int ≼ α ⊠ A
   αA = ⊠-nonneg α A (omega (arith, r .α-pos)) (r .A-nonneg)
 
   -- α A and κ E together are at most β w
   within : α ⊠ A ⊞ κ ⊠ E ≼ β ⊠ w
-  within = omega (arith, r .along, spread β w C, ⊠-nonneg β C (omega (arith, r .β-pos)) (r .C-nonneg))
+  within = omega (arith, r .equations .along, spread β w C, ⊠-nonneg β C (omega (arith, r .β-pos)) (r .C-nonneg))
 
   κE : 0Int ≺ κ ⊠ E
   κE = ⊠-pos κ E (r .κ-pos) (r .E-pos)
 
-  pub w-pos : 0Int ≺ w
+  w-pos : 0Int ≺ w
   w-pos = ⊠-pos-back β w (omega (arith, r .β-pos)) (omega (arith, αA, κE, within))
 
   βw : 0Int ≺ β ⊠ w
@@ -64,20 +72,22 @@ module _ {κ α β u w A C E δ t : Int} (r : Round κ α β u w A C E δ t) whe
   κδ = ⊠-nonneg κ δ (omega (arith, r .κ-pos)) (r .δ-nonneg)
 
   pub u-pos : 0Int ≺ u
-  u-pos = ⊠-pos-back α u (omega (arith, r .α-pos)) (omega (arith, βw, κδ, r .level))
+  u-pos = ⊠-pos-back α u (omega (arith, r .α-pos)) (omega (arith, βw, κδ, r .equations .level))
 
-  -- the cap has an area, of at least 1
+  -- the triangle has an area, of at least 1
   t-pos : 0Int ≺ t
-  t-pos = ⊠-pos-back β t (omega (arith, r .β-pos)) (omega (arith, ⊠-pos u E u-pos (r .E-pos), ⊠-nonneg A δ (r .A-nonneg) (r .δ-nonneg), r .cap))
+  t-pos =
+      let Aδ = ⊠-nonneg A δ (r .A-nonneg) (r .δ-nonneg) in
+      ⊠-pos-back β t (omega (arith, r .β-pos)) (omega (arith, ⊠-pos u E u-pos (r .E-pos), Aδ, r .equations .area-after))
 
   -- so the old potential u w / κ was at least 1
-  pub floor : κ ≼ u ⊠ w
+  floor : κ ≼ u ⊠ w
   floor =
       let once : κ ≼ κ ⊠ t = omega (arith, ⊠-mono κ (ofNat 1) t (omega (arith, r .κ-pos)) (omega (arith, t-pos)), ⊠-one κ) in
-      omega (arith, once, r .area, ⊠-nonneg u C (omega (arith, u-pos)) (r .C-nonneg), ⊠-nonneg w A (omega (arith, w-pos)) (r .A-nonneg))
+      omega (arith, once, r .equations .area-before, ⊠-nonneg u C (omega (arith, u-pos)) (r .C-nonneg), ⊠-nonneg w A (omega (arith, w-pos)) (r .A-nonneg))
 
   -- the new one A E / β is at most a quarter of it: of two numbers, four times the product is at most the square of the sum
-  pub quarter : ofNat 4 ⊠ (κ ⊠ (A ⊠ E)) ≼ β ⊠ (u ⊠ w)
+  quarter : ofNat 4 ⊠ (κ ⊠ (A ⊠ E)) ≼ β ⊠ (u ⊠ w)
   quarter =
       let x = α ⊠ A in
       let y = κ ⊠ E in
@@ -89,7 +99,7 @@ module _ {κ α β u w A C E δ t : Int} (r : Round κ α β u w A C E δ t) whe
         ring ((var 0 :- var 1) :* (var 0 :- var 1)) ((var 0 :+ var 1) :* (var 0 :+ var 1) :- lit (ofNat 4) :* (var 0 :* var 1)) (x ∷ y ∷ []) tt,
       ) in
       let up : s ⊠ s ≼ s ⊠ (β ⊠ w) = ⊠-mono s s (β ⊠ w) (omega (arith, αA, κE)) within in
-      let on : β ⊠ w ⊠ s ≼ β ⊠ w ⊠ (α ⊠ u) = ⊠-mono (β ⊠ w) s (α ⊠ u) (omega (arith, βw)) (omega (arith, within, r .level, κδ)) in
+      let on : β ⊠ w ⊠ s ≼ β ⊠ w ⊠ (α ⊠ u) = ⊠-mono (β ⊠ w) s (α ⊠ u) (omega (arith, βw)) (omega (arith, within, r .equations .level, κδ)) in
       let all : 0Int ≼ α ⊠ (β ⊠ (u ⊠ w) ⊟ ofNat 4 ⊠ (κ ⊠ (A ⊠ E))) =
       omega (
         arith,
@@ -104,22 +114,23 @@ module _ {κ α β u w A C E δ t : Int} (r : Round κ α β u w A C E δ t) whe
       let back = ⊠-nonneg-back α (β ⊠ (u ⊠ w) ⊟ ofNat 4 ⊠ (κ ⊠ (A ⊠ E))) (r .α-pos) all in
       omega (arith, back)
 
-  -- and at most the cap's doubled area
-  pub under-cap : A ⊠ E ≼ β ⊠ t
-  under-cap =
-      let less = ⊠-nonneg-back α (u ⊟ A) (r .α-pos) (omega (arith, within, κE, r .level, κδ, spread α u A)) in
+  -- and at most the triangle's doubled area
+  in-triangle : A ⊠ E ≼ β ⊠ t
+  in-triangle =
+      let less = ⊠-nonneg-back α (u ⊟ A) (r .α-pos) (omega (arith, within, κE, r .equations .level, κδ, spread α u A)) in
       let A≤u : A ≼ u = omega (arith, less) in
-      omega (arith, ⊠-mono E A u (omega (arith, r .E-pos)) A≤u, ⊠-comm E A, ⊠-comm E u, r .cap, ⊠-nonneg A δ (r .A-nonneg) (r .δ-nonneg))
+      omega (arith, ⊠-mono E A u (omega (arith, r .E-pos)) A≤u, ⊠-comm E A, ⊠-comm E u, r .equations .area-after, ⊠-nonneg A δ (r .A-nonneg) (r .δ-nonneg))
 
 -- ---- the level of a potential: from J down it says that the potential is below 4 ^ g, above J it says nothing
 pub record Below (J g : ℕ) (u w κ : Int) : Type 0 where
   pub holds : g ≤ J → u ⊠ w ≺ ofNat (4 ^ g) ⊠ κ
 
 module _ {κ α β u w A C E δ t : Int} (r : Round κ α β u w A C E δ t) (J : ℕ) (small : t ≺ ofNat (4 ^ J)) where
-  -- the first new potential is at most the cap, whose area is bounded
+  -- whatever the old potential was, the new one is at most the triangle's doubled area
   first : A ⊠ E ≺ ofNat (4 ^ J) ⊠ β
-  first = omega (arith, under-cap r, times-lt β t (ofNat (4 ^ J)) (r .β-pos) small, ⊠-comm β (ofNat (4 ^ J)))
+  first = omega (arith, in-triangle r, times-lt β t (ofNat (4 ^ J)) (r .β-pos) small, ⊠-comm β (ofNat (4 ^ J)))
 
+  -- and a quarter of it
   fourth : (g : ℕ) → u ⊠ w ≺ ofNat (4 ^ suc g) ⊠ κ → A ⊠ E ≺ ofNat (4 ^ g) ⊠ β
   fourth g h =
       let k = ofNat 4 ⊠ κ in

@@ -83,13 +83,13 @@ module _ (D : Point → Type 0) (J k : ℕ) where
     start3 x y z inside h = tt
 
   -- ---- after a round that improves, q is kept
-  module _ (caps : (σ : Sense) (a b q : Point) → D a → D b → D q → turn σ (difference b a) (difference q a) ≺ ofNat (4 ^ J)) where
+  module _ (triangles : (σ : Sense) (a b q : Point) → D a → D b → D q → turn σ (difference b a) (difference q a) ≺ ofNat (4 ^ J)) where
     -- q was found off the vertex x, further than x
     pub next2 : {x q : Point} → AtVertex D J (suc k) x → D x → D q → Certified D J (opposite x) q → 0Int ≺ ahead (opposite x) q x
         → (ρ : Region) → Lies2 x q ρ → Known2 x q ρ
     next2 {x} {q} at inX inQ c E at1 h = let bad : ⊥ = omega (arith, h, E, ahead-off-vertex x q) in absurd bad
-    next2 {x} {q} at inX inQ c E at2 h = λ some. vertex-to-vertex D J caps inX inQ c E at h (as-long q some)
-    next2 {x} {q} at inX inQ c E on12 h = let edge = off-edge (h .1) (h .0) in (edge, λ some. inl (vertex-to-edge D J caps inX inQ c E at edge))
+    next2 {x} {q} at inX inQ c E at2 h = λ some. vertex-to-vertex D J triangles inX inQ c E at h (as-long q some)
+    next2 {x} {q} at inX inQ c E on12 h = let edge = off-edge (h .1) (h .0) in (edge, λ some. inl (vertex-to-edge D J triangles inX inQ c E at edge))
     next2 at inX inQ c E at3 h = h
     next2 at inX inQ c E on13 h = h
     next2 at inX inQ c E on23 h = h
@@ -105,22 +105,22 @@ module _ (D : Point → Type 0) (J k : ℕ) where
       q-alone h i some = go at
         where
           go : AtEdge D J (suc k) e x y ⊎ AtEdge D J (suc k) e y x → AtVertex D J k q
-          go (inl s) = edge-to-vertex D J caps edge inX inY inQ c E s h i (as-long q some)
-          go (inr s) = edge-to-vertex D J caps (edge-back edge) inY inX inQ c from-y s i h (as-long q some)
+          go (inl s) = edge-to-vertex D J triangles edge inX inY inQ c E s h i (as-long q some)
+          go (inr s) = edge-to-vertex D J triangles (edge-back edge) inY inX inQ c from-y s i h (as-long q some)
 
       q-with-x : {e' : Point} → Edge e' x q → 0Int ≼ ahead e' x y → 0Int ≺ dot e' e' → AtEdge D J k e' x q
       q-with-x {e'} next behind some = go at
         where
           go : AtEdge D J (suc k) e x y ⊎ AtEdge D J (suc k) e y x → AtEdge D J k e' x q
-          go (inl s) = edge-to-edge D J caps edge inX inY inQ c E s next behind some
-          go (inr s) = edge-to-other D J caps (edge-back edge) inY inX inQ c from-y s next behind some
+          go (inl s) = edge-to-edge D J triangles edge inX inY inQ c E s next behind some
+          go (inr s) = edge-to-other D J triangles (edge-back edge) inY inX inQ c from-y s next behind some
 
       q-with-y : {e' : Point} → Edge e' y q → 0Int ≼ ahead e' y x → 0Int ≺ dot e' e' → AtEdge D J k e' y q
       q-with-y {e'} next behind some = go at
         where
           go : AtEdge D J (suc k) e x y ⊎ AtEdge D J (suc k) e y x → AtEdge D J k e' y q
-          go (inl s) = edge-to-other D J caps edge inX inY inQ c E s next behind some
-          go (inr s) = edge-to-edge D J caps (edge-back edge) inY inX inQ c from-y s next behind some
+          go (inl s) = edge-to-other D J triangles edge inX inY inQ c E s next behind some
+          go (inr s) = edge-to-edge D J triangles (edge-back edge) inY inX inQ c from-y s next behind some
 
       pub next3 : (ρ : Region) → Lies3 x y q ρ → Known3 x y q ρ
       next3 at1 h = let bad : ⊥ = omega (arith, h .0, edge .ahead-of-x) in absurd bad

@@ -74,7 +74,8 @@ module _ (D : Point → Type 0) (J : ℕ) where
       record { foundA = p .foundB; foundB = p .foundA; between = between-back σ da d db (p .between); below = below-back (turn-back σ da db) (p .below) }
 
 -- ---- rounds, where no triangle of differences has a doubled area of 4 ^ J
-module _ (D : Point → Type 0) (J : ℕ) (caps : (σ : Sense) (a b q : Point) → D a → D b → D q → turn σ (difference b a) (difference q a) ≺ ofNat (4 ^ J)) where
+module _ (D : Point → Type 0) (J : ℕ)
+    (triangles : (σ : Sense) (a b q : Point) → D a → D b → D q → turn σ (difference b a) (difference q a) ≺ ofNat (4 ^ J)) where
   -- q takes b's place in a pair, one level lower
   record Renewed (g : ℕ) (σ : Sense) (a da b q d : Point) : Type 0 where
     level : ℕ
@@ -90,7 +91,7 @@ module _ (D : Point → Type 0) (J : ℕ) (caps : (σ : Sense) (a b q : Point) �
       let C = p .foundB q inQ in
       let proper = properly σ a b q da db d (p .between) A C lower E in
       let round = round-of σ a b q da db d (proper .apart) (proper .before) (proper .after) E A C lower in
-      let (level, less, below) = descend round J (caps (other σ) a b q inA inB inQ) g (p .below) in
+      let (level, less, below) = descend round J (triangles (other σ) a b q inA inB inQ) g (p .below) in
       record {
         level = level;
         less = less;
@@ -147,7 +148,8 @@ module _ (D : Point → Type 0) (J : ℕ) (caps : (σ : Sense) (a b q : Point) �
         → 0Int ≼ ahead x x q → (level : ℕ) × (g ≡ suc level) × Below J level (ahead x x q) (ahead e q x) (turn σ x e)
     renew-half {g} {σ} {dl} cy proper below A =
         let lower : 0Int ≼ ahead e x y = omega (arith, edge-level edge) in
-        descend (round-of σ x y q x dl e (proper .apart) (proper .before) (proper .after) E A (cy q inQ) lower) J (caps (other σ) x y q inX inY inQ) g below
+        let round = round-of σ x y q x dl e (proper .apart) (proper .before) (proper .after) E A (cy q inQ) lower in
+        descend round J (triangles (other σ) x y q inX inY inQ) g below
 
     -- e' is across the edge from x to q: it lies properly between x and e
     half-turn : {σ : Sense} {e' : Point} → 0Int ≺ turn σ x e → Edge e' x q → 0Int ≼ ahead e' x y → 0Int ≺ dot e' e' → Properly σ x e' e

@@ -9,7 +9,7 @@ use Rattle.integers.proofs.Signed.{⊠-cong}
 use Rattle.integers.proofs.Ring.{ring}
 use Rattle.exact.specs.Plane.{Point, difference, dot, perp}
 use Rattle.exact.proofs.Sketch.{Sketch, differenceᴱ, dotᴱ, perpᴱ, P, Q, R}
-use Rattle.exact.proofs.RoundLimit.Potential.{Round}
+use Rattle.exact.proofs.RoundLimit.Potential.{Equations, Round}
 
 -- ---- the two senses of turning
 pub data Sense : Type 0 where
@@ -92,53 +92,46 @@ levelL σ = turnᴱ σ R Q :* aheadᴱ P S U :- turnᴱ σ P R :* aheadᴱ Q U S
 abbrev levelR : Sense → Expr
 levelR σ = turnᴱ σ P Q :* aheadᴱ R S U
 
-abbrev areaL : Sense → Expr
-areaL σ = turnᴱ σ P Q :* turnᴱ (other σ) (differenceᴱ U S) (differenceᴱ W S)
+abbrev triangleᴱ : Sense → Expr
+triangleᴱ σ = turnᴱ (other σ) (differenceᴱ U S) (differenceᴱ W S)
 
-abbrev areaR : Expr
-areaR = aheadᴱ P S U :* aheadᴱ Q U S :- aheadᴱ P S U :* aheadᴱ Q U W :- aheadᴱ Q U S :* aheadᴱ P S W
+abbrev beforeR : Expr
+beforeR = aheadᴱ P S U :* aheadᴱ Q U S :- aheadᴱ P S U :* aheadᴱ Q U W :- aheadᴱ Q U S :* aheadᴱ P S W
 
-abbrev capL : Sense → Expr
-capL σ = turnᴱ σ P R :* turnᴱ (other σ) (differenceᴱ U S) (differenceᴱ W S)
-
-abbrev capR : Expr
-capR = aheadᴱ P S U :* aheadᴱ R W S :+ aheadᴱ P S W :* aheadᴱ R S U
+abbrev afterR : Expr
+afterR = aheadᴱ P S U :* aheadᴱ R W S :+ aheadᴱ P S W :* aheadᴱ R S U
 
 module _ (σ : Sense) (a b q da db d : Point) where
+  -- the doubled area of the triangle, above 0 where d lies between da and db
+  abbrev pub triangle : Int
+  triangle = turn (other σ) (difference b a) (difference q a)
+
+  abbrev EquationsOf : Type 0
+  EquationsOf =
+      Equations (turn σ da db) (turn σ d db) (turn σ da d) (ahead da a b) (ahead db b a) (ahead da a q) (ahead db b q) (ahead d q a) (ahead d a b) triangle
+
   abbrev pub RoundOf : Type 0
-  RoundOf =
-      Round (turn σ da db) (turn σ d db) (turn σ da d) (ahead da a b) (ahead db b a) (ahead da a q) (ahead db b q) (ahead d q a) (ahead d a b)
-      (turn (other σ) (difference b a) (difference q a))
+  RoundOf = Round (turn σ da db) (turn σ d db) (turn σ da d) (ahead da a b) (ahead db b a) (ahead da a q) (ahead db b q) (ahead d q a) (ahead d a b) triangle
+
+equations-of : (σ : Sense) (a b q da db d : Point) → EquationsOf σ a b q da db d
+equations-of left a b q da db d =
+    let ρ = six da db d a b q in
+    record {
+      along = ring (alongL left) (alongR left) ρ tt;
+      level = ring (levelL left) (levelR left) ρ tt;
+      area-before = ring (turnᴱ left P Q :* triangleᴱ left) beforeR ρ tt;
+      area-after = ring (turnᴱ left P R :* triangleᴱ left) afterR ρ tt;
+    }
+equations-of right a b q da db d =
+    let ρ = six da db d a b q in
+    record {
+      along = ring (alongL right) (alongR right) ρ tt;
+      level = ring (levelL right) (levelR right) ρ tt;
+      area-before = ring (turnᴱ right P Q :* triangleᴱ right) beforeR ρ tt;
+      area-after = ring (turnᴱ right P R :* triangleᴱ right) afterR ρ tt;
+    }
 
 pub round-of : (σ : Sense) (a b q da db d : Point) → 0Int ≺ turn σ da db → 0Int ≺ turn σ d db → 0Int ≺ turn σ da d
     → 0Int ≺ ahead d q a → 0Int ≼ ahead da a q → 0Int ≼ ahead db b q → 0Int ≼ ahead d a b → RoundOf σ a b q da db d
-round-of left a b q da db d κ α β E A C δ =
-    let ρ = six da db d a b q in
-    record {
-      κ-pos = κ;
-      α-pos = α;
-      β-pos = β;
-      E-pos = E;
-      A-nonneg = A;
-      C-nonneg = C;
-      δ-nonneg = δ;
-      along = ring (alongL left) (alongR left) ρ tt;
-      level = ring (levelL left) (levelR left) ρ tt;
-      area = ring (areaL left) areaR ρ tt;
-      cap = ring (capL left) capR ρ tt;
-    }
-round-of right a b q da db d κ α β E A C δ =
-    let ρ = six da db d a b q in
-    record {
-      κ-pos = κ;
-      α-pos = α;
-      β-pos = β;
-      E-pos = E;
-      A-nonneg = A;
-      C-nonneg = C;
-      δ-nonneg = δ;
-      along = ring (alongL right) (alongR right) ρ tt;
-      level = ring (levelL right) (levelR right) ρ tt;
-      area = ring (areaL right) areaR ρ tt;
-      cap = ring (capL right) capR ρ tt;
-    }
+round-of σ a b q da db d κ α β E A C δ =
+    record { κ-pos = κ; α-pos = α; β-pos = β; E-pos = E; A-nonneg = A; C-nonneg = C; δ-nonneg = δ; equations = equations-of σ a b q da db d }

@@ -1,4 +1,4 @@
--- Three points within the bound have a doubled area below the largest. Assumes nothing.
+-- A triangle of three points within the bound has no doubled area above the largest. Assumes nothing.
 use mathlib.Core.Path.{_≡_, ap, _∙_}
 use Prim.Native.Nat.{ℕ, _*_, _^_, _<_}
 use native.Mathlib.Nat.{pow-suc, pow-zero, one-mul}
@@ -24,8 +24,8 @@ module _ (bound J : ℕ) (enough : largestArea bound < 4 ^ J) where
       let yx = within-product (2 * bound) (2 * bound) (u .y) (w .x) (h .y) (k .x) in
       omega (arith, xy .upper, yx .lower, squared bound)
 
-  pub within-cap : (σ : Sense) (a b q : Point) → Near bound a → Near bound b → Near bound q → turn σ (difference b a) (difference q a) ≺ ofNat (4 ^ J)
-  within-cap σ a b q h i j = go σ
+  pub no-larger : (σ : Sense) (a b q : Point) → Near bound a → Near bound b → Near bound q → turn σ (difference b a) (difference q a) ≺ ofNat (4 ^ J)
+  no-larger σ a b q h i j = go σ
     where
       from-a : {z : Point} → Near bound z → Near (2 * bound) (difference z a)
       from-a k = record { x = apart (k .x) (h .x); y = apart (k .y) (h .y) }
