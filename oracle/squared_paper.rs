@@ -1,6 +1,7 @@
 //! Demand 3 tested by running: on squared paper within 16 a distance call never ends at the round limit, it ends touching exactly when the outlines share a
 //! point, and otherwise the corners in the returned cache span a nearest place; and from one solve to the next what is kept comes nearer to the origin, or it
-//! comes as near and the call settles there. What is right is worked out here in whole numbers and fractions of them, with no float.
+//! comes as near and the call settles there; and with the outlines exchanged or B shifted the nearest difference is the same, seen from there. What is right
+//! is worked out here in whole numbers and fractions of them, with no float.
 use crate::counts;
 use crate::math::{Pose, Rotation, Vector};
 use crate::random::Random;
@@ -140,6 +141,47 @@ fn spanned(places: &[Point]) -> Fraction {
     one_way(&[(0, 0)], places)
 }
 
+/// A point whose parts are fractions: both numbers divided by the third, which is above 0.
+#[derive(Copy, Clone, Debug)]
+struct Place(i128, i128, i128);
+
+impl Place {
+    fn is(self, b: Place) -> bool {
+        self.0 * b.2 == b.0 * self.2 && self.1 * b.2 == b.1 * self.2
+    }
+
+    fn squared(self) -> Fraction {
+        Fraction(self.0 * self.0 + self.1 * self.1, self.2 * self.2)
+    }
+
+    /// Negated, and turned by the cosine c and the sine s.
+    fn negated_and_turned(self, c: i128, s: i128) -> Place {
+        Place(s * self.1 - c * self.0, -s * self.0 - c * self.1, self.2)
+    }
+}
+
+/// The place of a point or of a segment that is nearest to the origin.
+fn nearest(places: &[Point]) -> Place {
+    let whole = |p: Point| Place(p.0 as i128, p.1 as i128, 1);
+    let mut best = whole(places[0]);
+    let mut take = |p: Place| {
+        if p.squared().below(best.squared()) {
+            best = p;
+        }
+    };
+    for (i, &w) in places.iter().enumerate() {
+        take(whole(w));
+        for &u in &places[..i] {
+            let e = minus(w, u);
+            let (near, far) = (dot(w, e) as i128, -dot(u, e) as i128);
+            if near > 0 && far > 0 {
+                take(Place(near * u.0 as i128 + far * w.0 as i128, near * u.1 as i128 + far * w.1 as i128, near + far));
+            }
+        }
+    }
+    best
+}
+
 // ---- one call
 
 struct Job<'a> {
@@ -149,6 +191,13 @@ struct Job<'a> {
     whole_a: &'a [Point],
     posed_b: &'a [Point],
     least: Fraction,
+}
+
+/// How a call ended, and the cache that it returned.
+struct Called {
+    ending: u32,
+    cache: SimplexCache,
+    rounds: u32,
 }
 
 #[derive(Default)]
@@ -162,8 +211,8 @@ struct Tally {
 }
 
 impl Tally {
-    /// Makes the call and looks at what the claim says of it. Tells how many rounds it took.
-    fn call(&mut self, job: &Job, radii: (f32, f32, bool), given: SimplexCache) -> u32 {
+    /// Makes the call and looks at what the claims say of it.
+    fn call(&mut self, job: &Job, radii: (f32, f32, bool), given: SimplexCache) -> Called {
         let (a, b) = (ToiProxy::from_points(job.a, radii.0), ToiProxy::from_points(job.b, radii.1));
         let mut cache = given;
         let output = proxy_distance(&job.pose, &a, &b, radii.2, &mut cache);
@@ -208,7 +257,7 @@ impl Tally {
             println!("WRONG: ending {ending}, least {:?}, A {:?}, B {:?}, pose {:?}, cache {given:?} to {cache:?}", job.least, job.a, job.b, job.pose);
             std::process::exit(1);
         }
-        output.iterations
+        Called { ending, cache, rounds: output.iterations }
     }
 
     fn tell(&self, what: &str, since: Instant) {
@@ -321,44 +370,151 @@ fn intervals(random: &mut Random, bound: i64) -> [i64; 4] {
     [base, wide_a, base + gap, wide_b]
 }
 
+fn within(random: &mut Random, from: i64, wide: i64) -> i64 {
+    from + random.below(wide as u64 + 1) as i64
+}
+
+fn turned((c, s): Point, p: Point) -> Point {
+    (c * p.0 - s * p.1, s * p.0 + c * p.1)
+}
+
+fn turned_back((c, s): Point, p: Point) -> Point {
+    (c * p.0 + s * p.1, c * p.1 - s * p.0)
+}
+
+/// Two outlines on squared paper in whole numbers: A, B, and B posed by a quarter-turn and a shift.
+struct Pair {
+    a: Vec<Point>,
+    b: Vec<Point>,
+    posed: Vec<Point>,
+    turn: Point,
+    shift: Point,
+}
+
+impl Pair {
+    /// With at most `most` points each; may lie outside the domain.
+    fn random(random: &mut Random, bound: i64, most: u64) -> Pair {
+        let (na, nb) = (1 + random.below(most), 1 + random.below(most));
+        let (x, y) = (intervals(random, bound), intervals(random, bound));
+        let a: Vec<Point> = (0..na).map(|_| (within(random, x[0], x[1]), within(random, y[0], y[1]))).collect();
+        let posed: Vec<Point> = (0..nb).map(|_| (within(random, x[2], x[3]), within(random, y[2], y[3]))).collect();
+        let turn = random.pick(&[(1, 0), (0, 1), (-1, 0), (0, -1)]);
+        let shift = (random.below(1 << 20) as i64 - (1 << 19), random.below(1 << 20) as i64 - (1 << 19));
+        let b = posed.iter().map(|p| turned_back(turn, minus(*p, shift))).collect();
+        Pair { a, b, posed, turn, shift }
+    }
+
+    fn in_domain(&self) -> bool {
+        self.a.iter().chain(&self.b).chain([&self.shift]).all(|p| p.0.abs() <= 1 << 20 && p.1.abs() <= 1 << 20)
+    }
+
+    /// The outlines exchanged, under the inverse pose.
+    fn exchanged(&self) -> Pair {
+        let (c, s) = self.turn;
+        let posed = self.a.iter().map(|p| turned_back(self.turn, minus(*p, self.shift))).collect();
+        Pair { a: self.b.clone(), b: self.a.clone(), posed, turn: (c, -s), shift: turned_back(self.turn, minus((0, 0), self.shift)) }
+    }
+
+    /// All points of B moved, and that move, turned, taken off the shift.
+    fn moved(&self, by: Point) -> Pair {
+        let b = self.b.iter().map(|p| (p.0 + by.0, p.1 + by.1)).collect();
+        Pair { a: self.a.clone(), b, posed: self.posed.clone(), turn: self.turn, shift: minus(self.shift, turned(self.turn, by)) }
+    }
+
+    /// What the call gets, with zeros of either sign.
+    fn drawn(&self, random: &mut Random) -> (Vec<Vector>, Vec<Vector>, Pose) {
+        let list = |random: &mut Random, o: &[Point]| -> Vec<Vector> { o.iter().map(|p| Vector::new(float(random, p.0), float(random, p.1))).collect() };
+        let (a, b) = (list(random, &self.a), list(random, &self.b));
+        let rotation = Rotation { c: float(random, self.turn.0), s: float(random, self.turn.1) };
+        let translation = Vector::new(float(random, self.shift.0), float(random, self.shift.1));
+        (a, b, Pose::from_parts(translation, rotation))
+    }
+
+    fn least(&self, most: u64) -> Fraction {
+        if most > 4 {
+            return between_hulls(&self.a, &self.posed);
+        }
+        let (least, again) = (between(&self.a, &self.posed), between_hulls(&self.a, &self.posed));
+        assert!(!again.below(least) && !least.below(again), "the two ways to measure differ: {:?} {:?}", self.a, self.posed);
+        least
+    }
+
+    /// A call from a random cache: the nearest difference that it tells, and the corner pairs named; nothing at the round limit.
+    fn told(&self, random: &mut Random, tally: &mut Tally, least: Fraction) -> Option<(Place, Vec<(u32, u32)>)> {
+        let (a, b, pose) = self.drawn(random);
+        let job = Job { a: &a, b: &b, pose, whole_a: &self.a, posed_b: &self.posed, least };
+        let (radii, cache) = (any_radii(random), any_cache(random, a.len() as u32, b.len() as u32));
+        let Called { ending, cache, .. } = tally.call(&job, radii, cache);
+        let named: Vec<(u32, u32)> = (0..cache.count.min(3) as usize).map(|i| (cache.index_a[i], cache.index_b[i])).collect();
+        match ending {
+            counts::TOUCHING => Some((Place(0, 0, 1), Vec::new())),
+            counts::SETTLED => {
+                let places: Vec<Point> = named.iter().map(|&(i, j)| minus(self.a[i as usize], self.posed[j as usize])).collect();
+                Some((nearest(&places), named))
+            }
+            _ => None,
+        }
+    }
+}
+
+fn any_radii(random: &mut Random) -> (f32, f32, bool) {
+    (random.below(1 << 20) as f32 / 64.0, random.below(1 << 20) as f32 / 64.0, random.below(2) == 0)
+}
+
 fn random_calls(bound: i64, calls: u64, seed: u64) {
     let since = Instant::now();
     let random = &mut Random(seed);
     let mut tally = Tally::default();
     while tally.calls < calls {
         let most = random.pick(&[2, 4, 6, 6, 10, 64]);
-        let (na, nb) = (1 + random.below(most), 1 + random.below(most));
-        let (x, y) = (intervals(random, bound), intervals(random, bound));
-        let within = |random: &mut Random, from: i64, wide: i64| from + random.below(wide as u64 + 1) as i64;
-        let a: Vec<Point> = (0..na).map(|_| (within(random, x[0], x[1]), within(random, y[0], y[1]))).collect();
-        let posed: Vec<Point> = (0..nb).map(|_| (within(random, x[2], x[3]), within(random, y[2], y[3]))).collect();
-        let (c, s) = random.pick(&[(1, 0), (0, 1), (-1, 0), (0, -1)]);
-        let shift = (random.below(1 << 20) as i64 - (1 << 19), random.below(1 << 20) as i64 - (1 << 19));
-        let turned_back = |p: &Point| {
-            let d = minus(*p, shift);
-            (c * d.0 + s * d.1, c * d.1 - s * d.0)
-        };
-        let b: Vec<Point> = posed.iter().map(turned_back).collect();
-        if b.iter().chain(&a).any(|p| p.0.abs() > 1 << 20 || p.1.abs() > 1 << 20) {
+        let pair = Pair::random(random, bound, most);
+        if !pair.in_domain() {
             continue;
         }
-        let list = |random: &mut Random, o: &[Point]| -> Vec<Vector> { o.iter().map(|p| Vector::new(float(random, p.0), float(random, p.1))).collect() };
-        let (fa, fb) = (list(random, &a), list(random, &b));
-        let rotation = Rotation { c: float(random, c), s: float(random, s) };
-        let translation = Vector::new(float(random, shift.0), float(random, shift.1));
-        let least = if most <= 4 { between(&a, &posed) } else { between_hulls(&a, &posed) };
-        if most <= 4 {
-            let again = between_hulls(&a, &posed);
-            assert!(!again.below(least) && !least.below(again), "the two ways to measure differ: {a:?} {posed:?}");
-        }
-        let job = Job { a: &fa, b: &fb, pose: Pose::from_parts(translation, rotation), whole_a: &a, posed_b: &posed, least };
+        let (a, b, pose) = pair.drawn(random);
+        let job = Job { a: &a, b: &b, pose, whole_a: &pair.a, posed_b: &pair.posed, least: pair.least(most) };
         for _ in 0..4 {
-            let radii = (random.below(1 << 20) as f32 / 64.0, random.below(1 << 20) as f32 / 64.0, random.below(2) == 0);
-            let cache = any_cache(random, na as u32, nb as u32);
+            let radii = any_radii(random);
+            let cache = any_cache(random, a.len() as u32, b.len() as u32);
             tally.call(&job, radii, cache);
         }
     }
     tally.tell(&format!("random calls within {bound}, seed {seed}"), since);
+}
+
+/// Random pairs, each called as it is, with the outlines exchanged and with B shifted: the nearest difference is the same, seen from there.
+fn either_way(bound: i64, pairs: u64, seed: u64) {
+    let since = Instant::now();
+    let random = &mut Random(seed);
+    let mut tally = Tally::default();
+    let (mut done, mut touching, mut skipped, mut otherwise) = (0, 0, 0, 0);
+    while done < pairs {
+        let most = random.pick(&[2, 4, 6, 6, 10, 64]);
+        let pair = Pair::random(random, bound, most);
+        let by = (random.below(1 << 19) as i64 - (1 << 18), random.below(1 << 19) as i64 - (1 << 18));
+        let (exchanged, moved) = (pair.exchanged(), pair.moved(by));
+        if !(pair.in_domain() && exchanged.in_domain() && moved.in_domain()) {
+            continue;
+        }
+        done += 1;
+        let least = pair.least(most);
+        let (here, there, after) = (pair.told(random, &mut tally, least), exchanged.told(random, &mut tally, least), moved.told(random, &mut tally, least));
+        let (Some((u, named)), Some((v, named_there)), Some((w, _))) = (here, there, after) else {
+            skipped += 1;
+            continue;
+        };
+        if !(u.is(v.negated_and_turned(pair.turn.0 as i128, pair.turn.1 as i128)) && u.is(w)) {
+            println!("WRONG: {u:?}, exchanged {v:?}, shifted {w:?}: A {:?}, B {:?}, turn {:?}, shift {:?}, by {by:?}", pair.a, pair.b, pair.turn, pair.shift);
+            std::process::exit(1);
+        }
+        touching += (u.0 == 0 && u.1 == 0) as u64;
+        otherwise += named.iter().any(|&(i, j)| !named_there.contains(&(j, i))) as u64;
+    }
+    println!(
+        "either way within {bound}, seed {seed}: {done} pairs, {} calls, {touching} pairs touch, {skipped} at the round limit, {otherwise} name other corners when exchanged, {} s",
+        tally.calls,
+        since.elapsed().as_secs()
+    );
 }
 
 // ---- hunted calls
@@ -405,7 +561,7 @@ fn hunted_calls(bound: i64, calls: u64, seed: u64) {
             let origin = [(0, 0)];
             let (a, b) = (floats(&points), floats(&origin));
             let job = Job { a: &a, b: &b, pose: STILL, whole_a: &points, posed_b: &origin, least: between_hulls(&points, &origin) };
-            let rounds = tally.call(&job, (0.0, 0.0, false), cache);
+            let rounds = tally.call(&job, (0.0, 0.0, false), cache).rounds;
             stale = if rounds > best.0 { 0 } else { stale + 1 };
             if rounds >= best.0 {
                 best = (rounds, points, cache);
@@ -419,7 +575,7 @@ fn hunted_calls(bound: i64, calls: u64, seed: u64) {
     println!("  a longest one: {:?}, from {:?}", longest.1, longest.2);
 }
 
-/// `millions` of random calls from `seed` on, after all small outlines, and as many hunted ones.
+/// `millions` of random calls from `seed` on, after all small outlines; then half as many pairs, each called three ways; and `millions` of hunted calls.
 pub fn run(millions: u64, seed: u64) {
     if !cfg!(rounds) {
         eprintln!("squared-paper: build with the cfg `rounds`, as tests/squared-paper.sh does");
@@ -433,5 +589,6 @@ pub fn run(millions: u64, seed: u64) {
         caches
     });
     random_calls(16, millions * 1_000_000, seed);
+    either_way(16, millions * 500_000, seed);
     hunted_calls(16, millions * 1_000_000, seed);
 }

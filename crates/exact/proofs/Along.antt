@@ -83,7 +83,8 @@ same-order {d} {e} A u w h k =
       less (A .theirs) (dot e u) (dot e w),
     )
 
-module _ (f : Format) (bound : ℕ) (room : Room f bound) {d d' : Vector} {e e' : Point} (along : SizedPoint bound d e 32 3) (along' : SizedPoint bound d' e' 32 3) (A : Along e e')
+module _ (f : Format) (bound : ℕ) (room : Room f bound) {d d' : Vector} {e e' : Point} (along : SizedPoint bound d e 32 3)
+    (along' : SizedPoint bound d' e' 32 3) (A : Along e e')
     (z : ℕ → Point) (o : Vector) where
   abbrev ours : ℕ → Int
   ours = value f bound room along z o
@@ -112,14 +113,16 @@ module _ (f : Format) (bound : ℕ) (room : Room f bound) {d d' : Vector} {e e' 
       Same : ℕ → Float → Float → Type 0
       Same best x x' = supportFrom f d o l (i + 1) best x ≡ supportFrom f d' o l (i + 1) best x'
 
-      go : (t t' : Bool) → Test t (ours best ≺ ours i) (ours i ≼ ours best) → Test t' (theirs best ≺ theirs i) (theirs i ≼ theirs best) → Same best x x' → Same i y y'
+      go : (t t' : Bool) → Test t (ours best ≺ ours i) (ours i ≼ ours best) → Test t' (theirs best ≺ theirs i) (theirs i ≼ theirs best) → Same best x x'
+          → Same i y y'
           → supportFrom f d o l (i + 1) (cond t i best) (cond t y x) ≡ supportFrom f d' o l (i + 1) (cond t' i best) (cond t' y' x')
       go true true h h' stays goes = goes
       go false false h h' stays goes = stays
       go true false h h' stays goes = absurd (same-order A (difference (z best) (z 0)) (difference (z i) (z 0)) h h')
       go false true h h' stays goes = absurd (same-order (along-back A) (difference (z best) (z 0)) (difference (z i) (z 0)) h' h)
 
-pub support-same : (f : Format) (bound : ℕ) (room : Room f bound) {d d' : Vector} {e e' : Point} → SizedPoint bound d e 32 3 → SizedPoint bound d' e' 32 3 → Along e e'
+pub support-same : (f : Format) (bound : ℕ) (room : Room f bound) {d d' : Vector} {e e' : Point} → SizedPoint bound d e 32 3 → SizedPoint bound d' e' 32 3
+    → Along e e'
     → (z : ℕ → Point) (s : List Float) → ((k : ℕ) → k < length s / 2 → SizedPoint bound (minus f (point s k) (point s 0)) (difference (z k) (z 0)) 4 1)
     → support f s d ≡ support f s d'
 unfolding supportFrom
@@ -130,7 +133,8 @@ support-same f bound room {d} {d'} {e} {e'} along along' A z (x ∷ y ∷ s) fit
     let nothing : (e : Point) → IsWhole (Ground.zero f) (dot e (difference (z 0) (z 0))) =
     λ e. whole-of-equal (zero-whole f) (ring (lit 0Int) (var 0 :* (var 2 :- var 2) :+ var 1 :* (var 3 :- var 3)) (e .x ∷ e .y ∷ z 0 .x ∷ z 0 .y ∷ []) tt) in
     ap (λ (i : ℕ). i % 2 ^ 32)
-    (search-same f bound room along along' A z o s 1 0 (Ground.zero f) (Ground.zero f) (nothing e) (nothing e') (rest-are f bound room along z o x y s 0 (λ k r. rw (from-zero k) (fits k r))))
+    (search-same f bound room along along' A z o s 1 0 (Ground.zero f) (Ground.zero f) (nothing e) (nothing e')
+    (rest-are f bound room along z o x y s 0 (λ k r. rw (from-zero k) (fits k r))))
   where
     from-zero : (k : ℕ) → 0 + k ≡ k
     from-zero k = omega arith

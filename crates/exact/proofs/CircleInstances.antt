@@ -18,7 +18,7 @@ use Rattle.model.specs.Ground as Ground
 use Rattle.model.specs.Domain.{badParts}
 use Rattle.model.specs.Support.{supportFrom}
 use Rattle.model.specs.Simplex.{slot, region2, region3, kept, solveSimplex2, solveSimplex3, solve}
-use Rattle.model.specs.Distance.{allBelow, held, maxIterations, vertex, startSimplex, roundsFrom, proxyDistance}
+use Rattle.model.specs.Distance.{allBelow, held, vertex, startSimplex, roundsFrom, proxyDistance}
 use Rattle.exact.specs.Plane.{Point, difference, scaled, dot, total, weightedSum}
 use Rattle.exact.specs.Sheet.{Sheet, cornerOf, drawn, drawnPose, every, posedCorner, OnPaper}
 use Rattle.exact.specs.Fraction.{Fraction, _≃ᶠ_}
@@ -69,7 +69,7 @@ module _ (s : Sheet) where
   On n = GoesOn binary32 (drawn binary32 (s .a)) (drawn binary32 (s .b)) (drawnPose binary32 s) (at n)
 
   abbrev pub whole : Rounds
-  whole = roundsOf binary32 (drawn binary32 (s .a)) (drawn binary32 (s .b)) (drawnPose binary32 s) maxIterations (at 0)
+  whole = roundsOf binary32 (drawn binary32 (s .a)) (drawn binary32 (s .b)) (drawnPose binary32 s) 20 (at 0)
 
 pub falling-on : On falling 0 × On falling 1 × On falling 2 × (whole falling .ending ≡ Settled) × (whole falling .iterations ≡ 4)
 unfolding roundsFrom startSimplex vertex held solve solveSimplex2 solveSimplex3 region2 region3 kept supportFrom allBelow ofBits ofInt round add sub mul div neg lt le eq
@@ -95,7 +95,8 @@ module _ (s : Sheet) where
       → let u = weightedSum (solvedAt n .count) weight (placeOf n) in
       ((i : ℕ) → i < solvedAt n .count → dot u u ≼ dot (scaled (ofNat (total (solvedAt n .count) weight)) u) (placeOf n i))
       → squaredLength (solvedAt n .count) (placeOf n) weight ≃ᶠ r → Length n r
-  by-weights n r weight some behind is = (record { weight = weight; some = some; least = λ other h. least-by-level (solvedAt n .count) (placeOf n) weight behind other }, is)
+  by-weights n r weight some behind is =
+      (record { weight = weight; some = some; least = λ other h. least-by-level (solvedAt n .count) (placeOf n) weight behind other }, is)
 
 pub falling-lengths : Length falling 0 (fraction 25 1) × Length falling 1 (fraction 45 2) × Length falling 2 (fraction 361 17) × Length falling 3 (fraction 98 5)
 unfolding roundsFrom startSimplex vertex held solve solveSimplex2 solveSimplex3 region2 region3 kept supportFrom allBelow ofBits ofInt round add sub mul div neg lt le eq _⊠_
@@ -122,15 +123,17 @@ staying-lengths = (
 -- ---- what the theorem says of the last round that goes on in each
 module _ (s : Sheet) where
   abbrev CallReaches : ℕ → ℕ → Type 0
-  CallReaches k n = Reaches binary32 (drawn binary32 (s .a)) (drawn binary32 (s .b)) (drawnPose binary32 s) none maxIterations k (at s n)
+  CallReaches k n = Reaches binary32 (drawn binary32 (s .a)) (drawn binary32 (s .b)) (drawnPose binary32 s) none 20 k (at s n)
 
   abbrev NearerAt : OnPaper s 16 → ℕ → Type 0
   NearerAt paper n = Nearer binary32 (on-squared-paper binary32 s 16 paper) (whole s) (at s n)
 
-  says : (paper : OnPaper s 16) (o : ProxyDistanceOutput) → call s none .answer ≡ Measured o → (k n : ℕ) → CallReaches (suc (suc k)) n → On s n → NearerAt paper n
+  says : (paper : OnPaper s 16) (o : ProxyDistanceOutput) → call s none .answer ≡ Measured o → (k n : ℕ) → CallReaches (suc (suc k)) n → On s n
+      → NearerAt paper n
   says paper o answered k n r g =
-      no-circles-on-squared-paper binary32 (drawnPose binary32 s) (drawn binary32 (s .a)) (Ground.zero binary32) (drawn binary32 (s .b)) (Ground.zero binary32) false none
-      (on-squared-paper binary32 s 16 paper) o answered maxIterations k (at s n) r g
+      no-circles-on-squared-paper binary32 (drawnPose binary32 s) (drawn binary32 (s .a)) (Ground.zero binary32) (drawn binary32 (s .b))
+      (Ground.zero binary32) false none
+      (on-squared-paper binary32 s 16 paper) o answered 20 k (at s n) r g
 
 pub falling-nearer : NearerAt falling falling-on-paper 2
 unfolding proxyDistance badParts abs ofBits ofInt round add sub mul neg lt le

@@ -122,10 +122,10 @@ tells s paper c arrays e h n = go (call s c .answer) refl h
 settled-is-not-touching : Settled ≡ Touching → ⊥
 settled-is-not-touching e = let z : _≡_ {A = ℕ} 0 1 = cc in omega arith
 
-settled-is-not-limit : Settled ≡ RoundLimit → ⊥
+pub settled-is-not-limit : Settled ≡ RoundLimit → ⊥
 settled-is-not-limit e = let z : _≡_ {A = ℕ} 0 1 = cc in omega arith
 
-touching-is-not-limit : Touching ≡ RoundLimit → ⊥
+pub touching-is-not-limit : Touching ≡ RoundLimit → ⊥
 touching-is-not-limit e = let z : _≡_ {A = ℕ} 0 1 = cc in omega arith
 
 -- ---- and so

@@ -10,14 +10,19 @@ mod Paper
 mod Along
 mod Weights
 mod Nearest
-mod Shorter
+pub mod Shorter
+pub mod Places
 mod Entries
 mod Rounds
+mod Told
 mod Answered
 pub mod Accepted
 pub mod Demand3
 pub mod NoCircles
+pub mod Exchange
+pub mod Shift
 pub mod RoundLimit
 mod Sheets
 mod Instances
 mod CircleInstances
+mod ExchangeInstances

@@ -68,7 +68,7 @@ kept-off-origin {d} {m} {kept} K far =
 
 module _ (a b : Outline) where
   -- along d a point of the difference lies no further than its corners do
-  within-reach : (d : Point) (i j : ℕ) → ((k : ℕ) → k < a .count → dot d (a .corner k) ≼ dot d (a .corner i)) → ((k : ℕ) → k < b .count → dot d (b .corner j) ≼ dot d (b .corner k))
+  pub within-reach : (d : Point) (i j : ℕ) → ((k : ℕ) → k < a .count → dot d (a .corner k) ≼ dot d (a .corner i)) → ((k : ℕ) → k < b .count → dot d (b .corner j) ≼ dot d (b .corner k))
       → (p : PointOf a) (q : PointOf b) → dot d (gap a b p q) ≼ divisor a p ⊠ divisor b q ⊠ dot d (difference (a .corner i) (b .corner j))
   within-reach d i j topA topB p q =
       let A = divisor a p in

@@ -26,14 +26,14 @@ use Rattle.model.specs.Ground.{epsilon, origin}
 use Rattle.model.specs.Ground as Ground
 use Rattle.model.specs.Simplex.{slot, solved, solve}
 use Rattle.model.specs.Distance.{held, vertex, touches, ended, supportA, supportB, extended, roundsFrom, distanceBy, distanceRefusal, proxyDistance}
-use Rattle.exact.specs.Plane.{Point, opposite, dot}
+use Rattle.exact.specs.Plane.{Point, opposite, turnedBack, dot}
 use Rattle.exact.specs.SquaredPaper.{SquaredPaper, Room, boundOf}
 use Rattle.exact.specs.NoCircles.{State, kept, GoesOn, start, next, roundsOf, Reaches, first, then, Nearer, NoCircles}
 use Rattle.exact.proofs.Below.{below1, below2}
 use Rattle.exact.proofs.Vectors.{SizedPoint, weaken-point}
 use Rattle.exact.proofs.Kept.{Kept}
 use Rattle.exact.proofs.Solved.{places, two, three, Outcome, vertexLeft, edgeLeft, covers, solves}
-use Rattle.exact.proofs.Paper.{InDomain, unturned, acrossA, acrossB, turned-back, supports}
+use Rattle.exact.proofs.Paper.{InDomain, acrossA, acrossB, turned-back, supports}
 use Rattle.exact.proofs.Along.{Along, both-some, support-same}
 use Rattle.exact.proofs.Shorter.{Descent, shorter-or-same-way, shorter-at-origin}
 use Rattle.exact.proofs.Rounds.{places-of, Slots, vertex-stands, start-slots, tiny-direction}
@@ -54,8 +54,8 @@ module _ (f : Format) (a b : List Float) (p : Pose) where
 
 -- ---- the same supports
 module _ (f : Format) {bound : ℕ} (room : Room f bound) {p : Pose} {a b : List Float} (paper : SquaredPaper bound p a b) (domain : InDomain paper) where
-  unturned-along : {e e' : Point} → Along e e' → Along (unturned (paper .cosine) (paper .sine) (opposite e)) (unturned (paper .cosine) (paper .sine) (opposite e'))
-  unturned-along {e} {e'} A =
+  turned-back-along : {e e' : Point} → Along e e' → Along (turnedBack (paper .cosine) (paper .sine) (opposite e)) (turnedBack (paper .cosine) (paper .sine) (opposite e'))
+  turned-back-along {e} {e'} A =
       let c = paper .cosine in
       let s = paper .sine in
       let k = A .ours in
@@ -76,7 +76,7 @@ module _ (f : Format) {bound : ℕ} (room : Room f bound) {p : Pose} {a b : List
 
     pub same-B : supportB f b p d ≡ supportB f b p d'
     same-B =
-        support-same f bound room (turned-back f room paper domain i) (turned-back f room paper domain i') (unturned-along A) (paper .cornerB) b (acrossB f room paper domain)
+        support-same f bound room (turned-back f room paper domain i) (turned-back f room paper domain i') (turned-back-along A) (paper .cornerB) b (acrossB f room paper domain)
 
   -- ---- one round after the other
   abbrev spots : List SimplexVertex → ℕ → Point

@@ -20,7 +20,7 @@ use Rattle.model.specs.declared.Pose.{Pose}
 use Rattle.model.specs.Ground.{minus, negate, inverseRotate, onPoint}
 use Rattle.model.specs.Support.{point}
 use Rattle.model.specs.Distance.{supportA, supportB}
-use Rattle.exact.specs.Plane.{Point, sum, difference, opposite, turned, dot}
+use Rattle.exact.specs.Plane.{Point, sum, difference, opposite, turned, turnedBack, dot}
 use Rattle.exact.specs.SquaredPaper.{IsPoint, Near, SquaredPaper, Room, posedB}
 use Rattle.exact.proofs.Vectors.{SizedPoint, weaken-point, negate-sized}
 use Rattle.exact.proofs.Furthest.{support-furthest}
@@ -95,10 +95,6 @@ pub record InDomain {bound : ℕ} {p : Pose} {a b : List Float} (paper : Squared
   pub fewB : length b ≤ 128
   pub smallB : (j : ℕ) → j < length b / 2 → Near 1048576 (paper .cornerB j)
   pub smallShift : Near 1048576 (paper .shift)
-
--- turned back
-abbrev pub unturned : Int → Int → Point → Point
-unturned c s a = record { x = c ⊠ a .x ⊞ s ⊠ a .y; y = c ⊠ a .y ⊟ s ⊠ a .x }
 
 module _ (f : Format) {bound : ℕ} (room : Room f bound) {p : Pose} {a b : List Float} (paper : SquaredPaper bound p a b) (domain : InDomain paper) where
   abbrev c : Int
@@ -175,8 +171,8 @@ module _ (f : Format) {bound : ℕ} (room : Room f bound) {p : Pose} {a b : List
       let Y = var 1 :* var 2 :+ var 0 :* var 3 :+ var 7 :- (var 1 :* var 4 :+ var 0 :* var 5 :+ var 7) in
       let square = var 0 :* var 0 :+ var 1 :* var 1 in
       let one-times : (z : Int) → z ⊠ (c ⊠ c ⊞ s ⊠ s) ≃ z = λ z. omega (arith, ⊠-cong-r z (c ⊠ c ⊞ s ⊠ s) (ofNat 1) (paper .quarterTurn), ⊠-one z) in
-      let ex : unturned c s D .x ≃ q .x ⊟ o .x = omega (arith, ring (var 0 :* X :+ var 1 :* Y) ((var 2 :- var 4) :* square) ρ tt, one-times (q .x ⊟ o .x)) in
-      let ey : unturned c s D .y ≃ q .y ⊟ o .y = omega (arith, ring (var 0 :* Y :- var 1 :* X) ((var 3 :- var 5) :* square) ρ tt, one-times (q .y ⊟ o .y)) in
+      let ex : turnedBack c s D .x ≃ q .x ⊟ o .x = omega (arith, ring (var 0 :* X :+ var 1 :* Y) ((var 2 :- var 4) :* square) ρ tt, one-times (q .x ⊟ o .x)) in
+      let ey : turnedBack c s D .y ≃ q .y ⊟ o .y = omega (arith, ring (var 0 :* Y :- var 1 :* X) ((var 3 :- var 5) :* square) ρ tt, one-times (q .y ⊟ o .y)) in
       minus-within 4 (paper .wholeB j h) (paper .wholeB 0 (domain .someB)) tt (record {
         x = record { upper = omega (arith, cx .upper, sy .upper, ex); lower = omega (arith, cx .lower, sy .lower, ex) };
         y = record { upper = omega (arith, cy .upper, sx .lower, ey); lower = omega (arith, cy .lower, sx .upper, ey) };
@@ -188,7 +184,7 @@ module _ (f : Format) {bound : ℕ} (room : Room f bound) {p : Pose} {a b : List
       let e : 1 * bound ^ 0 ≡ 1 = ap (λ (q : ℕ). 1 * q) (pow-zero bound) in
       record { int = i .whole; small = record { upper = omega (arith, i .within .upper); lower = omega (arith, i .within .lower) } }
 
-  pub turned-back : {d : Vector} {e : Point} → SizedPoint bound d e 16 3 → SizedPoint bound (inverseRotate f (p .rotation) (negate d)) (unturned c s (opposite e)) 32 3
+  pub turned-back : {d : Vector} {e : Point} → SizedPoint bound d e 16 3 → SizedPoint bound (inverseRotate f (p .rotation) (negate d)) (turnedBack c s (opposite e)) 32 3
   turned-back i =
       let n = negate-sized f bound room i in
       let ic = unit-sized (cosine-is paper) in
@@ -199,7 +195,7 @@ module _ (f : Format) {bound : ℕ} (room : Room f bound) {p : Pose} {a b : List
       }
 
   -- along the opposite of e, turned back, a corner of B lies as far as its posed corner lies back along e
-  adjoint : (e u w : Point) → dot (unturned c s (opposite e)) u ⊟ dot (unturned c s (opposite e)) w ≃ dot e (sum (turned c s w) (paper .shift)) ⊟ dot e (sum (turned c s u) (paper .shift))
+  adjoint : (e u w : Point) → dot (turnedBack c s (opposite e)) u ⊟ dot (turnedBack c s (opposite e)) w ≃ dot e (sum (turned c s w) (paper .shift)) ⊟ dot e (sum (turned c s u) (paper .shift))
   adjoint e u w =
       let X = var 6 :* negated (var 0) :+ var 7 :* negated (var 1) in
       let Y = var 6 :* negated (var 1) :- var 7 :* negated (var 0) in

@@ -12,14 +12,17 @@ use lib.ListN.{length, getD, length-map}
 use lib.Ieee.{Float, nan, Format, ofInt}
 use lib.Ieee.Back.{round-whole}
 use lib.Ieee.Fits.{and-l, and-r}
-use Rattle.integers.specs.Signed.{Int, ofNat, _⊞_, _⊟_, _⊠_, _≃_}
+use Rattle.integers.specs.Signed.{Int, ofNat, neg, _⊞_, _⊟_, _⊠_, _≃_}
 use Rattle.integers.specs.Whole.{IsWhole, Within}
 use Rattle.integers.proofs.Signed.{⊠-square}
 use Rattle.model.specs.declared.SimplexVertex.{SimplexVertex}
 use Rattle.model.specs.Support.{point}
-use Rattle.exact.specs.Plane.{Point, difference}
-use Rattle.exact.specs.SquaredPaper.{IsPoint, Near, SquaredPaper}
+use Rattle.exact.specs.Plane.{Point, difference, opposite, turned, turnedBack}
+use Rattle.exact.specs.Outline.{Outline}
+use Rattle.exact.specs.SquaredPaper.{IsPoint, Near, SquaredPaper, outlineA, posedB}
 use Rattle.exact.specs.NoCircles.{place}
+use Rattle.exact.specs.Exchange.{IsInverse, IsShifted}
+use Rattle.exact.proofs.Vectors.{whole-of-equal}
 use Rattle.exact.proofs.Paper.{wide, unit-root}
 use Rattle.exact.specs.Sheet.{Sheet, int, cornerOf, drawn, drawnPose, every, within, isZero, nearPoint, inDomain, shift, posedCorner, OnPaper}
 
@@ -93,3 +96,44 @@ module _ (f : Format) where
   pub place-drawn : (s : Sheet) (bound : ℕ) (h : OnPaper s bound) (v : SimplexVertex) → place (on-squared-paper s bound h) v ≡ difference (cornerOf (s .a) (v .«index_a»)) (posedCorner s (v .«index_b»))
   unfolding on-squared-paper
   place-drawn s bound h v = refl
+
+  -- its outlines
+  abbrev pub sheetA : Sheet → Outline
+  sheetA s = record { count = length (drawn f (s .a)) / 2; corner = cornerOf (s .a) }
+
+  abbrev pub sheetB : Sheet → Outline
+  sheetB s = record { count = length (drawn f (s .b)) / 2; corner = posedCorner s }
+
+  pub outlines-drawn : (s : Sheet) (bound : ℕ) (h : OnPaper s bound) → (outlineA (on-squared-paper s bound h) ≡ sheetA s) × (posedB (on-squared-paper s bound h) ≡ sheetB s)
+  unfolding on-squared-paper
+  outlines-drawn s bound h = (refl, refl)
+
+  module _ (s s' : Sheet) {bound : ℕ} (h : OnPaper s bound) (h' : OnPaper s' bound) where
+    abbrev there : SquaredPaper bound (drawnPose f s') (drawn f (s' .a)) (drawn f (s' .b))
+    there = on-squared-paper s' bound h'
+
+    -- a sheet with the inverse pose
+    pub inverse-drawn : int (s' .cosine) ≃ int (s .cosine) → int (s' .sine) ≃ neg (int (s .sine))
+        → let back = opposite (turnedBack (int (s .cosine)) (int (s .sine)) (shift s)) in
+        int (s' .shiftX) ≃ back .x → int (s' .shiftY) ≃ back .y → IsInverse (on-squared-paper s bound h) (drawnPose f s')
+    unfolding on-squared-paper
+    inverse-drawn ec es ex ey = record {
+      cosine = whole-of-equal (there .wholeCosine) ec;
+      sine = whole-of-equal (there .wholeSine) es;
+      shift = record { x = whole-of-equal (there .wholeShift .x) ex; y = whole-of-equal (there .wholeShift .y) ey };
+    }
+
+    -- a sheet with B moved and the pose taking it back
+    pub shifted-drawn : (by : Point) → length (drawn f (s' .b)) ≡ length (drawn f (s .b)) → int (s' .cosine) ≃ int (s .cosine) → int (s' .sine) ≃ int (s .sine)
+        → let off = difference (shift s) (turned (int (s .cosine)) (int (s .sine)) by) in
+        int (s' .shiftX) ≃ off .x → int (s' .shiftY) ≃ off .y
+        → ((j : ℕ) → j < length (drawn f (s' .b)) / 2 → (cornerOf (s' .b) j .x ≃ cornerOf (s .b) j .x ⊞ by .x) × (cornerOf (s' .b) j .y ≃ cornerOf (s .b) j .y ⊞ by .y))
+        → IsShifted (on-squared-paper s bound h) by (drawnPose f s') (drawn f (s' .b))
+    unfolding on-squared-paper
+    shifted-drawn by el ec es ex ey moved = record {
+      sameLength = el;
+      points = λ j k. record { x = whole-of-equal (there .wholeB j k .x) (moved j k .0); y = whole-of-equal (there .wholeB j k .y) (moved j k .1) };
+      cosine = whole-of-equal (there .wholeCosine) ec;
+      sine = whole-of-equal (there .wholeSine) es;
+      shift = record { x = whole-of-equal (there .wholeShift .x) ex; y = whole-of-equal (there .wholeShift .y) ey };
+    }

@@ -148,7 +148,12 @@ module _ {d d' : Point} {m n m' n' : ℕ} {kept held kept' held' : ℕ → Point
 
   pub shorter-or-same-way : Descent m kept m' kept' (Along d d')
   unfolding nearest-of-kept
-  shorter-or-same-way = record { before = nearest-of-kept K; after = nearest-of-kept K'; falls = go (le-or-lt (ours .plus + theirs .minus) (theirs .plus + ours .minus)) }
+  shorter-or-same-way = record {
+    before = nearest-of-kept K;
+    after = nearest-of-kept K';
+    falls = go
+        (le-or-lt (ours .plus + theirs .minus) (theirs .plus + ours .minus));
+  }
     where
       ours : Int
       ours = k' ⊠ k' ⊠ dot u u
@@ -161,7 +166,8 @@ module _ {d d' : Point} {m n m' n' : ℕ} {kept held kept' held' : ℕ → Point
       go (inr h) = inl h
 
 -- nothing is shorter than the origin, to which the next solve comes
-pub shorter-at-origin : {d : Point} {m n n' : ℕ} {kept held held' : ℕ → Point} {Else : Type 0} → Kept d m kept n held → 0Int ≺ dot d d → Covered n' held' → Descent m kept n' held' Else
+pub shorter-at-origin : {d : Point} {m n n' : ℕ} {kept held held' : ℕ → Point} {Else : Type 0} → Kept d m kept n held → 0Int ≺ dot d d → Covered n' held'
+    → Descent m kept n' held' Else
 unfolding nearest-of-kept nearest-of-covered
 shorter-at-origin {d} {m} {n' = n'} {kept = kept} {held' = held'} K far c = record { before = nearest-of-kept K; after = nearest-of-covered c; falls = inl shorter }
   where

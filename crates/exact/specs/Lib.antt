@@ -5,4 +5,5 @@ pub mod SquaredPaper
 pub mod Regions
 pub mod Sheet
 pub mod NoCircles
+pub mod Exchange
 pub mod RoundLimit
