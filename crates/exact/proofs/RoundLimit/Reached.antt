@@ -1,10 +1,11 @@
--- Long calls, computed by the checker. Within 16 the longest that was met takes nine rounds. At 2,048, which leaves the room in f64, a call reaches the round
--- limit: so the bound stands in the statement. Assumes nothing.
+-- Long calls, computed by the checker. Within 16 the longest that was met takes nine rounds, and the theorem says that it is exact. At 2,048, which leaves the
+-- room in f64, a call reaches the round limit: so the bound stands in the statement. Assumes nothing.
 use mathlib.Core.Path.{_≡_, refl}
 use mathlib.Core.Bool.{false}
 use mathlib.Core.List.{List, [], _∷_}
 use Prim.Native.Nat.{ℕ}
 use native.Mathlib.Omega.{arith}
+use lib.Dec.{lit≤, lit<}
 use lib.IntN.{ℤ, pos, negsuc}
 use lib.Ieee.{Format, binary32, binary64, ofBits, ofInt, add, sub, mul, div, neg, lt, le, eq, round}
 use Rattle.integers.specs.Signed.{_⊠_}
@@ -20,10 +21,12 @@ use Rattle.model.specs.Domain.{badParts}
 use Rattle.model.specs.Support.{supportFrom}
 use Rattle.model.specs.Simplex.{region2, region3, kept, solveSimplex2, solveSimplex3, solve}
 use Rattle.model.specs.Distance.{allBelow, replaced, held, vertex, startSimplex, roundsFrom, witnessPoints, measure, proxyDistance}
+use Rattle.exact.specs.SquaredPaper.{Fits}
 use Rattle.exact.specs.Sheet.{Sheet, drawn, drawnPose, every, OnPaper}
-use Rattle.exact.specs.RoundLimit.{roundsWithin, LimitNeverReached}
-use Rattle.exact.proofs.Sheets.{on-squared-paper}
+use Rattle.exact.specs.RoundLimit.{roundsWithin, LimitNeverReached, ExactAnswer}
+use Rattle.exact.proofs.Sheets.{on-squared-paper, drawn-in-domain}
 use Rattle.exact.proofs.Instances.{none, endings}
+use Rattle.exact.proofs.RoundLimit.{always-exact-on-squared-paper}
 
 -- corners, and the origin
 abbrev besideOrigin : List ℤ → Sheet
@@ -49,7 +52,7 @@ flat = besideOrigin (
     ∷ pos 536 ∷ pos 406 ∷ negsuc 1505 ∷ negsuc 1388 ∷ negsuc 14 ∷ negsuc 14 ∷ []
     )
 
-nine-on-paper : OnPaper nine 16
+pub nine-on-paper : OnPaper nine 16
 unfolding every _⊠_
 nine-on-paper = record { numbersA = tt; numbersB = tt; quarterTurn = tt; shifted = tt; near = tt }
 
@@ -72,6 +75,17 @@ pub computed : Computed
 unfolding proxyDistance measure roundsFrom startSimplex vertex held solve solveSimplex2 solveSimplex3 region2 region3 kept supportFrom witnessPoints allBelow replaced badParts abs ofBits ofInt round add sub mul div neg lt le eq root
 computed = record { eight = refl; ninth = refl; limit = refl }
 
+-- what the theorem says of the one
+pub nine-exact :
+    let o = Ground.zero binary32 in
+    ExactAnswer binary32 (drawnPose binary32 nine) (drawn binary32 (nine .a)) o (drawn binary32 (nine .b)) o false none
+    (on-squared-paper binary32 nine 16 nine-on-paper)
+nine-exact =
+    let a : Fits (drawn binary32 (nine .a)) = record { even = refl; some = lit< tt; few = lit≤ tt } in
+    let b : Fits (drawn binary32 (nine .b)) = record { even = refl; some = lit< tt; few = lit≤ tt } in
+    always-exact-on-squared-paper binary32 _ _ _ _ _ false none _ (drawn-in-domain binary32 nine 16 nine-on-paper a b) (record { a = refl; b = refl })
+
+-- and what it cannot say of the other's bound
 pub not-at-2048 : LimitNeverReached binary64 2048 → ⊥
 not-at-2048 never = go (call .answer) refl (computed .limit)
   where
