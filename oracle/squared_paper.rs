@@ -1,5 +1,5 @@
-//! Demand 3 tested by running: on squared paper a distance call that does not end at the round limit ends touching exactly when the outlines share a point,
-//! and otherwise the corners in the returned cache span a nearest place; and from one solve to the next what is kept comes nearer to the origin, or it
+//! Demand 3 tested by running: on squared paper within 16 a distance call never ends at the round limit, it ends touching exactly when the outlines share a
+//! point, and otherwise the corners in the returned cache span a nearest place; and from one solve to the next what is kept comes nearer to the origin, or it
 //! comes as near and the call settles there; and with the outlines exchanged or B shifted the nearest difference is the same, seen from there. What is right
 //! is worked out here in whole numbers and fractions of them, with no float.
 use crate::counts;
@@ -197,6 +197,7 @@ struct Job<'a> {
 struct Called {
     ending: u32,
     cache: SimplexCache,
+    rounds: u32,
 }
 
 #[derive(Default)]
@@ -229,7 +230,8 @@ impl Tally {
                     !job.least.below(spanned(&places))
                 }
             }
-            _ => true,
+            // 20 rounds never run out within 16
+            _ => false,
         };
         let mut last: Option<Fraction> = None;
         let (mut stays, mut circles) = (0, false);
@@ -255,7 +257,7 @@ impl Tally {
             println!("WRONG: ending {ending}, least {:?}, A {:?}, B {:?}, pose {:?}, cache {given:?} to {cache:?}", job.least, job.a, job.b, job.pose);
             std::process::exit(1);
         }
-        Called { ending, cache }
+        Called { ending, cache, rounds: output.iterations }
     }
 
     fn tell(&self, what: &str, since: Instant) {
@@ -442,7 +444,7 @@ impl Pair {
         let (a, b, pose) = self.drawn(random);
         let job = Job { a: &a, b: &b, pose, whole_a: &self.a, posed_b: &self.posed, least };
         let (radii, cache) = (any_radii(random), any_cache(random, a.len() as u32, b.len() as u32));
-        let Called { ending, cache } = tally.call(&job, radii, cache);
+        let Called { ending, cache, .. } = tally.call(&job, radii, cache);
         let named: Vec<(u32, u32)> = (0..cache.count.min(3) as usize).map(|i| (cache.index_a[i], cache.index_b[i])).collect();
         match ending {
             counts::TOUCHING => Some((Place(0, 0, 1), Vec::new())),
@@ -515,7 +517,65 @@ fn either_way(bound: i64, pairs: u64, seed: u64) {
     );
 }
 
-/// `millions` of random calls from `seed` on, after all small outlines; then half as many pairs, each called three ways.
+// ---- hunted calls
+
+/// A small change: a point moved, thrown anew, added beside another or taken away, or another start.
+fn changed(random: &mut Random, bound: i64, points: &mut Vec<Point>, cache: &mut SimplexCache) {
+    let any = |random: &mut Random, far: i64| random.below(2 * far as u64 + 1) as i64 - far;
+    let near = |random: &mut Random, p: Point, far: i64| ((p.0 + any(random, far)).clamp(-bound, bound), (p.1 + any(random, far)).clamp(-bound, bound));
+    let i = random.below(points.len() as u64) as usize;
+    match random.below(10) {
+        0..=3 => points[i] = near(random, points[i], 2),
+        4..=5 => points[i] = near(random, points[i], bound / 4 + 1),
+        6 => points[i] = near(random, (0, 0), bound),
+        7 if points.len() < 16 => points.push(near(random, points[i], 3)),
+        8 if points.len() > 3 => drop(points.swap_remove(i)),
+        _ => {
+            cache.count = random.below(4) as u8;
+            cache.index_a[random.below(3) as usize] = i as u32;
+        }
+    }
+    for index in &mut cache.index_a {
+        *index = (*index).min(points.len() as u32 - 1);
+    }
+}
+
+/// How long can a call be made? The search depends on the differences alone, so B is the origin. From random points and a random start on, a change that
+/// does not shorten the call is kept, until 20,000 in a row have not made it longer.
+fn hunted_calls(bound: i64, calls: u64, seed: u64) {
+    let since = Instant::now();
+    let random = &mut Random(seed);
+    let mut tally = Tally::default();
+    let mut longest = (0, Vec::new(), SimplexCache::default());
+    while tally.calls < calls {
+        let mut best = (0, vec![(bound, 1); 6], SimplexCache::default());
+        for _ in 0..100 {
+            changed(random, bound, &mut best.1, &mut best.2);
+        }
+        let mut stale = 0;
+        while stale < 20_000 && tally.calls < calls {
+            let (mut points, mut cache) = (best.1.clone(), best.2);
+            for _ in 0..1 + random.below(3) {
+                changed(random, bound, &mut points, &mut cache);
+            }
+            let origin = [(0, 0)];
+            let (a, b) = (floats(&points), floats(&origin));
+            let job = Job { a: &a, b: &b, pose: STILL, whole_a: &points, posed_b: &origin, least: between_hulls(&points, &origin) };
+            let rounds = tally.call(&job, (0.0, 0.0, false), cache).rounds;
+            stale = if rounds > best.0 { 0 } else { stale + 1 };
+            if rounds >= best.0 {
+                best = (rounds, points, cache);
+            }
+        }
+        if best.0 > longest.0 {
+            longest = best;
+        }
+    }
+    tally.tell(&format!("hunted calls within {bound}, seed {seed}"), since);
+    println!("  a longest one: {:?}, from {:?}", longest.1, longest.2);
+}
+
+/// `millions` of random calls from `seed` on, after all small outlines; then half as many pairs, each called three ways; and `millions` of hunted calls.
 pub fn run(millions: u64, seed: u64) {
     if !cfg!(rounds) {
         eprintln!("squared-paper: build with the cfg `rounds`, as tests/squared-paper.sh does");
@@ -530,4 +590,5 @@ pub fn run(millions: u64, seed: u64) {
     });
     random_calls(16, millions * 1_000_000, seed);
     either_way(16, millions * 500_000, seed);
+    hunted_calls(16, millions * 1_000_000, seed);
 }

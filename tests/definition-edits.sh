@@ -54,6 +54,8 @@ try cache-on-touching Distance.antt refused \
   'cacheBy Touching c r = c' 'cacheBy Touching c r = written c (r .simplex) (r .count)'
 try nineteen-rounds Distance.antt passes \
   'maxIterations = 20' 'maxIterations = 19'
+try eighteen-rounds Distance.antt refused \
+  'maxIterations = 20' 'maxIterations = 18'
 try region-strictly Simplex.antt refused \
   'notAbove x = le x (Ground.zero f)' 'notAbove x = lt x (Ground.zero f)'
 try support-along-d Distance.antt refused \

@@ -1,7 +1,8 @@
 #!/usr/bin/env bash
-# squared-paper.sh SRC OUT [MILLIONS] [SEED]: the claims on squared paper tested by running: demand 3, that no call goes round in circles, and that either
-# outline may be called A. Builds the oracle from SRC (the folder that holds query/sweep_toi/*.rs as published) into OUT and makes calls: all pairs of small
-# outlines, MILLIONS of random ones from SEED on, and half as many random pairs, each three ways. It stops at the first call that a claim does not fit.
+# squared-paper.sh SRC OUT [MILLIONS] [SEED]: the claims on squared paper tested by running: demand 3, that the round limit is never reached, that no call
+# goes round in circles, and that either outline may be called A. Builds the oracle from SRC (the folder that holds query/sweep_toi/*.rs as published) into
+# OUT and makes calls: all pairs of small outlines, MILLIONS of random ones from SEED on, half as many random pairs, each three ways, and MILLIONS that are
+# hunted for their length. It stops at the first call that a claim does not fit.
 set -eu
 here="$(cd "$(dirname "$0")/.." && pwd)"
 "$here/oracle/build.sh" "$1" "$2" rustc rounds

@@ -92,7 +92,7 @@ module _ (f : Format) {bound : ℕ} (room : Room f bound) {p : Pose} {a b : List
       go RoundLimit h n = absurd (n refl)
 
 -- the answer tells the ending of the rounds
-ending-told : (f : Format) (e : Ending) (radii : Bool) (ra rb : Float) (w : WitnessPoints) (r : Rounds) → measuredBy f e radii ra rb w r .ending ≡ r .ending
+pub ending-told : (f : Format) (e : Ending) (radii : Bool) (ra rb : Float) (w : WitnessPoints) (r : Rounds) → measuredBy f e radii ra rb w r .ending ≡ r .ending
 ending-told f Touching radii ra rb w r = refl
 ending-told f Settled true ra rb w r = refl
 ending-told f Settled false ra rb w r = refl

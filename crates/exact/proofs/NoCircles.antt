@@ -71,10 +71,10 @@ module _ (f : Format) {bound : ℕ} (room : Room f bound) {p : Pose} {a b : List
       record { ours = k; theirs = l; ours-some = A .ours-some; theirs-some = A .theirs-some; equal-x = omega (arith, across k e, across l e'); equal-y = omega (arith, up k e, up l e') }
 
   module _ {d d' : Vector} {e e' : Point} (i : SizedPoint bound d e 16 3) (i' : SizedPoint bound d' e' 16 3) (A : Along e e') where
-    same-A : supportA f a d ≡ supportA f a d'
+    pub same-A : supportA f a d ≡ supportA f a d'
     same-A = support-same f bound room (weaken-point f bound room 32 3 i tt tt) (weaken-point f bound room 32 3 i' tt tt) A (paper .cornerA) a (acrossA f room paper domain)
 
-    same-B : supportB f b p d ≡ supportB f b p d'
+    pub same-B : supportB f b p d ≡ supportB f b p d'
     same-B =
         support-same f bound room (turned-back f room paper domain i) (turned-back f room paper domain i') (turned-back-along A) (paper .cornerB) b (acrossB f room paper domain)
 
@@ -86,7 +86,7 @@ module _ (f : Format) {bound : ℕ} (room : Room f bound) {p : Pose} {a b : List
   Left = Outcome bound (length a / 2) (length b / 2) (places-of f room paper domain)
 
   -- a round that starts from n slots s, with `made` before it and k after it, when its solve leaves r
-  abbrev roundBy : ℕ → List SimplexVertex → ℕ → ℕ → Solved → Rounds
+  abbrev pub roundBy : ℕ → List SimplexVertex → ℕ → ℕ → Solved → Rounds
   roundBy k s n made r =
       cond (touches f r) (ended Touching (r .simplex) (r .count) (origin f) made)
       (cond (held s n (supportA f a (r .direction)) (supportB f b p (r .direction))) (ended Settled (extended f a b p r) (r .count) (r .direction) (made + 1))
@@ -95,7 +95,7 @@ module _ (f : Format) {bound : ℕ} (room : Room f bound) {p : Pose} {a b : List
   abbrev SettlesAt : ℕ → Rounds → Type 0
   SettlesAt n r = (r .ending ≡ Settled) × (r .iterations ≡ n)
 
-  held-still : (s : List SimplexVertex) (n i j i' j' : ℕ) → i ≡ i' → j ≡ j' → held s n i j ≡ true → held s n i' j' ≡ true
+  pub held-still : (s : List SimplexVertex) (n i j i' j' : ℕ) → i ≡ i' → j ≡ j' → held s n i j ≡ true → held s n i' j' ≡ true
   held-still s n i j i' j' ei ej h = rw (← ei, ← ej) h
 
   -- the next round, from n slots s that hold what K kept and the pair found along its direction d
@@ -125,7 +125,7 @@ module _ (f : Format) {bound : ℕ} (room : Room f bound) {p : Pose} {a b : List
     second (covers x y z c) = shorter-at-origin K far c
 
   -- the pair that was added last is held
-  last-held : (s : List SimplexVertex) (n i j : ℕ) → slot s n .«index_a» ≡ i → slot s n .«index_b» ≡ j → held s (suc n) i j ≡ true
+  pub last-held : (s : List SimplexVertex) (n i j : ℕ) → slot s n .«index_a» ≡ i → slot s n .«index_b» ≡ j → held s (suc n) i j ≡ true
   unfolding held
   last-held s n i j ei ej = rw (ei, ej) (go (held s n i j) (eqb i i) (eqb j j) (eqb-refl i) (eqb-refl j))
     where
@@ -134,7 +134,7 @@ module _ (f : Format) {bound : ℕ} (room : Room f bound) {p : Pose} {a b : List
       go false true true h h' = refl
 
   -- there is a direction where the solve does not touch
-  direction-left : {d : Vector} {e : Point} → SizedPoint bound d e 16 3 → I.lt (Ground.dot f d d) (I.mul f (epsilon f) (epsilon f)) ≡ false → 0Int ≺ dot e e
+  pub direction-left : {d : Vector} {e : Point} → SizedPoint bound d e 16 3 → I.lt (Ground.dot f d d) (I.mul f (epsilon f) (epsilon f)) ≡ false → 0Int ≺ dot e e
   direction-left {d} {e} i h = subst (λ (t : Bool). Test t ((e .x ≃ 0Int) × (e .y ≃ 0Int)) (0Int ≺ dot e e)) h (tiny-direction f room paper domain i)
 
   -- the slots that a round hands on, and what the next one does

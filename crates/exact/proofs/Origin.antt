@@ -1,8 +1,9 @@
 -- In which region a solver finds the origin: over whole numbers of bounded size, where it lies. Assumes nothing.
-use mathlib.Core.Path.{refl}
+use mathlib.Core.Path.{_≡_, refl}
 use mathlib.Core.Logic.{_⊎_, inl, inr}
 use mathlib.Core.Bool.{Bool, true, false, _&&_, cond}
 use Prim.Native.Nat.{ℕ, _*_}
+use native.Mathlib.Omega.{arith}
 use lib.Ieee.{Float, Format}
 use lib.Ieee as I
 use Rattle.integers.specs.Signed.{Int, 0Int, _⊠_, _≼_, _≺_, _≃_}
@@ -12,7 +13,7 @@ use Rattle.integers.proofs.Compare.{test-and, lt-exact, le-exact}
 use Rattle.integers.proofs.Sized.{neg-sized, mul-sized}
 use Rattle.integers.specs.Polynomial.{_:*_}
 use Rattle.model.specs.declared.Vector.{Vector}
-use Rattle.model.specs.Simplex.{at1, at2, at3, on12, on13, on23, inside, near, far, region2, region3}
+use Rattle.model.specs.Simplex.{Region, at1, at2, at3, on12, on13, on23, inside, near, far, region2, region3}
 use Rattle.model.specs.Simplex as Simplex
 use Rattle.model.specs.Ground as Ground
 use Rattle.exact.specs.Plane.{Point, difference, perp}
@@ -70,6 +71,15 @@ module _ (f : Format) (bound : ℕ) (room : Room f bound) where
       go false true h k = k
       go false false h k = (k, h)
 
+  -- where the origin is not ahead of vertex 1, the first test of all says so
+  pub region2-stays : {u w : Vector} {y z : Point} → SizedPoint bound u y 1 1 → SizedPoint bound w z 1 1 → toward y z ≼ 0Int → region2 f u w ≡ at1
+  unfolding region2
+  region2-stays {u} {w} {y} {z} i j behind = go (I.le (far f u w) (Ground.zero f)) (at-most f (far-is i j))
+    where
+      go : (s : Bool) → AtMost s (toward y z) → cond s at1 (cond (I.le (near f u w) (Ground.zero f)) at2 on12) ≡ at1
+      go true h = refl
+      go false h = let bad : ⊥ = omega arith in absurd bad
+
   module _ {u w h : Vector} {x y z : Point} (i : SizedPoint bound u x 1 1) (j : SizedPoint bound w y 1 1) (k : SizedPoint bound h z 1 1) where
     -- the triangle's weight of the vertex opposite to an edge
     opposite-is : {v v' : Vector} {p p' : Point} {t : Int} → SizedPoint bound v p 1 1 → SizedPoint bound v' p' 1 1
@@ -113,3 +123,20 @@ module _ (f : Format) (bound : ℕ) (room : Room f bound) where
         go false false false false true b6 h1 h2 h3 h4 h5 h6 = h5
         go false false false false false true h1 h2 h3 h4 h5 h6 = h6
         go false false false false false false h1 h2 h3 h4 h5 h6 = enclosed x y z h1 h2 h3 h4 h5 h6
+
+    -- where the origin is ahead of both ends of edge 12, and not on vertex 3's side, the first two tests say so
+    pub region3-stays : 0Int ≺ toward x y → 0Int ≺ toward y x → across x y z ≼ 0Int → region3 f u w h ≡ on12
+    unfolding region3
+    region3-stays ahead-of-x ahead-of-y off =
+        go (vertexTest f (far f u w) (far f u h)) (edgeTest f (near f u w) (far f u w) (Simplex.opposite f u w h u w)) _
+        (vertex-tells f (far-is i j) (far-is i k)) (edge-tells f (near-is i j) (far-is i j) (opposite-is i j refl))
+      where
+        go : (b1 b2 : Bool) (rest : Region)
+            → Test b1 ((toward x y ≼ 0Int) × (toward x z ≼ 0Int)) ((0Int ≺ toward x y) ⊎ (0Int ≺ toward x z))
+            → Test b2 ((0Int ≺ toward y x) × (0Int ≺ toward x y) × (across x y z ≼ 0Int)) ((toward y x ≼ 0Int) ⊎ ((toward x y ≼ 0Int) ⊎ (0Int ≺ across x y z)))
+            → cond b1 at1 (cond b2 on12 rest) ≡ on12
+        go true b2 rest h1 h2 = let bad : ⊥ = omega (arith, h1 .0) in absurd bad
+        go false true rest h1 h2 = refl
+        go false false rest h1 (inl n) = let bad : ⊥ = omega arith in absurd bad
+        go false false rest h1 (inr (inl n)) = let bad : ⊥ = omega arith in absurd bad
+        go false false rest h1 (inr (inr n)) = let bad : ⊥ = omega arith in absurd bad

@@ -9,17 +9,20 @@ use native.Mathlib.Omega.{arith}
 use lib.Dec.{T, leb, leb→le, eqb→eq}
 use lib.IntN.{ℤ, pos, negsuc}
 use lib.ListN.{length, getD, length-map}
-use lib.Ieee.{Float, nan, Format, ofInt}
+use lib.Ieee.{Float, nan, Format, binary32, binary64, ofBits, ofInt}
+use lib.Ieee as I
 use lib.Ieee.Back.{round-whole}
 use lib.Ieee.Fits.{and-l, and-r}
 use Rattle.integers.specs.Signed.{Int, ofNat, neg, _⊞_, _⊟_, _⊠_, _≃_}
 use Rattle.integers.specs.Whole.{IsWhole, Within}
 use Rattle.integers.proofs.Signed.{⊠-square}
 use Rattle.model.specs.declared.SimplexVertex.{SimplexVertex}
+use Rattle.model.specs.Ground as Ground
+use Rattle.model.specs.Domain.{badRadius}
 use Rattle.model.specs.Support.{point}
 use Rattle.exact.specs.Plane.{Point, difference, opposite, turned, turnedBack}
 use Rattle.exact.specs.Outline.{Outline}
-use Rattle.exact.specs.SquaredPaper.{IsPoint, Near, SquaredPaper, outlineA, posedB}
+use Rattle.exact.specs.SquaredPaper.{IsPoint, Near, SquaredPaper, outlineA, posedB, Fits, InTheDomain}
 use Rattle.exact.specs.NoCircles.{place}
 use Rattle.exact.specs.Exchange.{IsInverse, IsShifted}
 use Rattle.exact.proofs.Vectors.{whole-of-equal}
@@ -44,6 +47,11 @@ is-near n z h = record { x = is-within n (z .x) (and-l (within n (z .x)) (within
 zero-is : (z : Int) → T (isZero (z ⊟ ofNat 1)) → z ≃ ofNat 1
 zero-is z h = omega (arith, eqb→eq ((z ⊟ ofNat 1) .plus) ((z ⊟ ofNat 1) .minus) h)
 
+no-radius : (f : Format) → badRadius f (Ground.zero f) ≡ false
+unfolding ofBits I.le I.lt I.eq
+no-radius binary32 = refl
+no-radius binary64 = refl
+
 module _ (f : Format) where
   -- a number drawn is that number
   number-is : (z : ℤ) → Within 1048576 (int z) → IsWhole (ofInt f z) (int z)
@@ -60,10 +68,16 @@ module _ (f : Format) where
   drawn-at (z ∷ l) (suc i) h = drawn-at l i (le-of-suc-le-suc h)
 
   module _ (l : List ℤ) (small : T (inDomain l)) where
+    part-within : (i : ℕ) → i < length l → Within 1048576 (int (getD l i (pos 0)))
+    part-within i h = is-within 1048576 (int (getD l i (pos 0))) (every-one (length l) (λ i. within 1048576 (int (getD l i (pos 0)))) small i h)
+
     part-is : (i : ℕ) → i < length l → IsWhole (getD (drawn f l) i nan) (int (getD l i (pos 0)))
     part-is i h =
         subst (λ (x : Float). IsWhole x (int (getD l i (pos 0)))) (sym (drawn-at l i h))
-        (number-is (getD l i (pos 0)) (is-within 1048576 (int (getD l i (pos 0))) (every-one (length l) (λ i. within 1048576 (int (getD l i (pos 0)))) small i h)))
+        (number-is (getD l i (pos 0)) (part-within i h))
+
+    corners-near : (i : ℕ) → i < length (drawn f l) / 2 → Near 1048576 (cornerOf l i)
+    corners-near i h = let e = length-map l (ofInt f) in record { x = part-within (2 * i) (omega arith); y = part-within (2 * i + 1) (omega arith) }
 
     corners-are : (i : ℕ) → i < length (drawn f l) / 2 → IsPoint (point (drawn f l) i) (cornerOf l i)
     corners-are i h = let e = length-map l (ofInt f) in record { x = part-is (2 * i) (omega arith); y = part-is (2 * i + 1) (omega arith) }
@@ -137,3 +151,16 @@ module _ (f : Format) where
       sine = whole-of-equal (there .wholeSine) es;
       shift = record { x = whole-of-equal (there .wholeShift .x) ex; y = whole-of-equal (there .wholeShift .y) ey };
     }
+
+  -- ---- and it is in the domain, where its outlines have 1 to 64 corners and no radius
+  pub drawn-in-domain : (s : Sheet) (bound : ℕ) (h : OnPaper s bound) → Fits (drawn f (s .a)) → Fits (drawn f (s .b))
+      → InTheDomain f (on-squared-paper s bound h) (Ground.zero f) (Ground.zero f)
+  unfolding on-squared-paper
+  drawn-in-domain s bound h a b = record {
+    pointsA = a;
+    pointsB = b;
+    nearA = corners-near (s .a) (h .numbersA);
+    nearB = corners-near (s .b) (h .numbersB);
+    radii = (no-radius f, no-radius f);
+    nearShift = is-near 1048576 (shift s) (h .shifted);
+  }

@@ -53,17 +53,17 @@ module _ (bound na nb : ℕ) (pair : ℕ → ℕ → Point) where
   abbrev pub Solves : List SimplexVertex → ℕ → Solved → Type 0
   Solves s n r = Outcome s n (r .simplex) (r .count) (r .direction)
 
-  reweighed : {v : SimplexVertex} (x : Float) → Stands v → Stands (weighted v x)
+  pub reweighed : {v : SimplexVertex} (x : Float) → Stands v → Stands (weighted v x)
   reweighed x h = record { inA = h .inA; inB = h .inB; whole = h .whole }
 
   module _ (f : Format) (room : Room f bound) where
-    offEdge-sized : {u w : Vector} {p q : Point} → SizedPoint bound u p 1 1 → SizedPoint bound w q 1 1 → SizedPoint bound (Simplex.offEdge f u w) (offEdge p q) 16 3
+    pub offEdge-sized : {u w : Vector} {p q : Point} → SizedPoint bound u p 1 1 → SizedPoint bound w q 1 1 → SizedPoint bound (Simplex.offEdge f u w) (offEdge p q) 16 3
     offEdge-sized i j =
         let e = minus-sized f bound room j i tt tt in
         let k = perpDot-sized f bound room (plus-sized f bound room i j tt tt) e tt tt tt in
         record { x = mul-sized f bound (room .0) (room .1) (neg-sized f bound (room .0) (room .1) k) (e .y) tt tt; y = mul-sized f bound (room .0) (room .1) k (e .x) tt tt }
 
-    negated-sized : {v : SimplexVertex} → Stands v → SizedPoint bound (negate (v .w)) (opposite (place v)) 16 3
+    pub negated-sized : {v : SimplexVertex} → Stands v → SizedPoint bound (negate (v .w)) (opposite (place v)) 16 3
     negated-sized h = weaken-point f bound room 16 3 (negate-sized f bound room (h .whole)) tt tt
 
     level : (d u : Point) → dot d u ≼ dot d u

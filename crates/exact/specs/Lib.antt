@@ -6,3 +6,4 @@ pub mod Regions
 pub mod Sheet
 pub mod NoCircles
 pub mod Exchange
+pub mod RoundLimit
