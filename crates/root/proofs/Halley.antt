@@ -7,7 +7,8 @@ use native.Mathlib.Nat.{mul-add, add-mul, mul-comm, mul-assoc, mul-left-comm, mu
 use native.Mathlib.Numerals.{add-one}
 use native.Mathlib.Decide.{decLe}
 use native.Mathlib.Omega.{arith}
-use lib.Dec.{lit≤}
+use mathlib.Core.Bool.{Bool, true, false, not, cond}
+use lib.Dec.{T, leb, leb→le, nleb→lt, lit≤}
 use Rattle.model.specs.Root.{nearRoot}
 use Rattle.root_list.proofs.Rule.{Guess}
 use Rattle.model.proofs.Root.Floor.{sq-suc, sq-two, sq-lt-back, floor-le, near-down, near-up}
@@ -91,7 +92,9 @@ module _ (n g : ℕ) (lo : 70368744177664 ≤ n) (hi : n < 281474976710656)
   low = subst (λ (x : ℕ). t * x ≤ 2 * g * e) same (div-mul-le-self (2 * g * e) (3 * (g * g) + n))
 
   high : 2 * g * e < (t + 1) * (4 * (g * g) + e)
-  high = subst (λ (x : ℕ). 2 * g * e < (t + 1) * x) same (subst (λ (x : ℕ). 2 * g * e < x * (3 * (g * g) + n)) (sym (add-one t)) (div-lt-iff-lt-mul (omega arith) .0 (lt-suc-self t)))
+  high =
+      subst (λ (x : ℕ). 2 * g * e < (t + 1) * x) same
+      (subst (λ (x : ℕ). 2 * g * e < x * (3 * (g * g) + n)) (sym (add-one t)) (div-lt-iff-lt-mul (omega arith) .0 (lt-suc-self t)))
 
   small : t ≤ 32766
   small = go (decLe t 32766)
@@ -101,7 +104,8 @@ module _ (n g : ℕ) (lo : 70368744177664 ≤ n) (hi : n < 281474976710656)
       go (no f) =
           let a : 32767 * (4 * (g * g) + e) ≤ t * (4 * (g * g) + e) = mul-le-mul-right (4 * (g * g) + e) (omega arith) in
           let b : 2 * g * e ≤ 2 * g * (274877906944 + 2 * g) = mul-le-mul-left (2 * g) left in
-          let c : 2 * g * (274877906944 + 2 * g) ≡ 2 * g * 274877906944 + 4 * (g * g) = mul-add (2 * g) 274877906944 (2 * g) ∙ ap (λ (x : ℕ). 2 * g * 274877906944 + x) (sq-two g) in
+          let c : 2 * g * (274877906944 + 2 * g) ≡ 2 * g * 274877906944 + 2 * g * (2 * g) = mul-add (2 * g) 274877906944 (2 * g) in
+          let q : 2 * g * (2 * g) ≡ 4 * (g * g) = sq-two g in
           let d : 8388608 * g ≤ g * g = mul-le-mul-right g g-ge in
           let x = low in
           let y = g-ge in
@@ -185,3 +189,19 @@ guessed n g lo hi (gl, gh) =
         s-near = near-by n g lo hi gl gh;
       };
     }
+
+-- s or s + 1, by the last test
+abbrev pub rounded : ℕ → ℕ → ℕ
+rounded n s = cond (leb n (s * s + s)) s (s + 1)
+
+settles : (n s : ℕ) → Corrected n s → nearRoot n ≡ rounded n s
+settles n s c = go (leb n (s * s + s)) refl
+  where
+    go : (b : Bool) → leb n (s * s + s) ≡ b → nearRoot n ≡ cond b s (s + 1)
+    go true e = rounds-down n s (c .s-under) (leb→le n (s * s + s) (subst T (sym e) tt))
+    go false e = rounds-up n s (c .s-under) (c .s-near) (nleb→lt n (s * s + s) (subst (λ (b : Bool). T (not b)) (sym e) tt))
+
+-- from any entry that meets the rule of the list, the correction and the last test give the whole number nearest to the root
+pub nearest-from-guess : (n g : ℕ) → 70368744177664 ≤ n → n < 281474976710656 → Guess (n / 274877906944) g
+    → nearRoot n ≡ rounded n (g + 2 * g * (n - g * g) / (3 * (g * g) + n))
+nearest-from-guess n g lo hi h = settles n _ (guessed n g lo hi h .corrects)

@@ -14,14 +14,16 @@ use Rattle.root.proofs.quotient.Reads as quotient-reads
 use Rattle.root_guess.proofs.guess.Reads as guess-reads
 
 -- what holds of the number and its stored guess
-known : (c : lts.After-guess (guess-reads.Asked, guess-reads.Learnt, quotient-reads.Asked, quotient-reads.Learnt) reads.Pre reads.Post) → Guessed (c .before .args .n) (c .guess .result)
+known : (c : lts.After-guess (guess-reads.Asked, guess-reads.Learnt, quotient-reads.Asked, quotient-reads.Learnt) reads.Pre reads.Post)
+    → Guessed (c .before .args .n) (c .guess .result)
 known c =
     let n = c .before .args .n in
     let h = c .before .pre in
     guessed n (c .guess .result) (h .0) (h .1) (subst (Guess (n / 274877906944)) (sym (c .guess .ensures)) (rule (n / 274877906944) (omega arith)))
 
 -- and of the corrected guess
-settled : (c : lts.After-quotient (guess-reads.Asked, guess-reads.Learnt, quotient-reads.Asked, quotient-reads.Learnt) reads.Pre reads.Post) → Corrected (c .before .before .args .n) (c .before .guess .result + c .quotient .result)
+settled : (c : lts.After-quotient (guess-reads.Asked, guess-reads.Learnt, quotient-reads.Asked, quotient-reads.Learnt) reads.Pre reads.Post)
+    → Corrected (c .before .before .args .n) (c .before .guess .result + c .quotient .result)
 settled c = subst (λ (q : ℕ). Corrected (c .before .before .args .n) (c .before .guess .result + q)) (sym (c .quotient .ensures)) (known (c .before) .corrects)
 
 guess-requires : tie.Need-guess-requires
