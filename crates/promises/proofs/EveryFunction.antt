@@ -9,6 +9,8 @@ use contract.Monad.{Fun}
 use mathlib.Core.Path.{_≡_, refl}
 use Rattle.promises.specs.OneResult.{OneResult}
 use Rattle.promises.proofs.Once.{told, told-in-two, each-list, same-value}
+use Rattle.root_list.proofs as root_list
+use Rattle.root_guess.proofs as root_guess
 use Rattle.root.proofs as root
 use Rattle.ground.proofs as ground
 use Rattle.domain.proofs as domain
@@ -35,6 +37,22 @@ written-by-parts : {x y : Written} → x .at ≡ y .at → x .totals ≡ y .tota
 written-by-parts p0 p1 p2 = λ i. record { at = p0 i; totals = p1 i; last = p2 i }
 
 module _ {M : Type 1} (𝓤 : URA M) (H : Heap 𝓤) (A : Atoms 𝓤) (mem : Memory → SProp 𝓤) (run : Routine → Fun 𝓤) where
+  -- ---- root_list
+  pub root-list-entry : OneResult 𝓤 H A root_list.entry.ended (root_list.entry.spec 𝓤 H A mem run)
+  root-list-entry = record {
+    clauses = root_list.entry.clauses 𝓤 H A mem run;
+    of-contract = refl;
+    once = λ κs a g r r' v v'. told 𝓤 (λ p q. (search same-value, refl));
+  }
+
+  -- ---- root_guess
+  pub root-guess-guess : OneResult 𝓤 H A root_guess.guess.ended (root_guess.guess.spec 𝓤 H A mem run)
+  root-guess-guess = record {
+    clauses = root_guess.guess.clauses 𝓤 H A mem run;
+    of-contract = refl;
+    once = λ κs a g r r' v v'. told 𝓤 (λ p q. (search same-value, refl));
+  }
+
   -- ---- root
   pub root-root : OneResult 𝓤 H A root.root.ended (root.root.spec 𝓤 H A mem run)
   root-root = record {
