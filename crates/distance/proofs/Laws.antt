@@ -35,7 +35,8 @@ held-step s i a b = rw add-one
 
 -- ---- the rounds
 -- a round that went on to its new vertex v, the pair (i, j): what was worked out, and whether the pair came again
-pub record Made (f : Format) (a b : List Float) (p : Pose) (s : List SimplexVertex) (n it : ℕ) (r : Solved) (i j : ℕ) (v : SimplexVertex) (again : Bool) : Type 0 where
+pub record Made (f : Format) (a b : List Float) (p : Pose) (s : List SimplexVertex) (n it : ℕ) (r : Solved) (i j : ℕ) (v : SimplexVertex)
+    (again : Bool) : Type 0 where
   pub left : it < 20
   pub solves : r ≡ solve f s n
   pub apart : touches f r ≡ false

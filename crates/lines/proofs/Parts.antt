@@ -24,19 +24,74 @@ use Rattle.lines.proofs.Pieces.{length-line}
 
 -- ---- the totals
 pub below-less : {m n : ℕ} {t : Totals} → m ≤ n → Below m t → Below n t
-below-less le h = record { blocks = omega (arith, h .blocks); clear = omega (arith, h .clear); contact = omega (arith, h .contact); undecided = omega (arith, h .undecided); refused = omega (arith, h .refused) }
+below-less le h =
+    record {
+      blocks = omega (
+        arith,
+        h .blocks,
+      );
+      clear = omega (arith, h .clear);
+      contact = omega (arith, h .contact);
+      undecided = omega (arith, h .undecided);
+      refused = omega (arith, h .refused);
+    }
 
 -- an answer adds at most one to each
 pub below-more : (n : ℕ) (t : Totals) (x : BlockAnswer) → Below n t → Below (n + 1) (counted t x)
 below-more n t (Refused job number) h =
-    record { blocks = omega (arith, h .blocks); clear = omega (arith, h .clear); contact = omega (arith, h .contact); undecided = omega (arith, h .undecided); refused = omega (arith, h .refused) }
+    record {
+      blocks = omega (
+        arith,
+        h .blocks,
+      );
+      clear = omega (arith, h .clear);
+      contact = omega (arith, h .contact);
+      undecided = omega (arith, h .undecided);
+      refused = omega (arith, h .refused);
+    }
 below-more n t (Worked job v) h = go (v .status)
   where
     go : (s : Status) → Below (n + 1) (oneWorked t s)
-    go Overlapped = record { blocks = omega (arith, h .blocks); clear = omega (arith, h .clear); contact = omega (arith, h .contact); undecided = omega (arith, h .undecided); refused = omega (arith, h .refused) }
-    go Hit = record { blocks = omega (arith, h .blocks); clear = omega (arith, h .clear); contact = omega (arith, h .contact); undecided = omega (arith, h .undecided); refused = omega (arith, h .refused) }
-    go Separated = record { blocks = omega (arith, h .blocks); clear = omega (arith, h .clear); contact = omega (arith, h .contact); undecided = omega (arith, h .undecided); refused = omega (arith, h .refused) }
-    go Failed = record { blocks = omega (arith, h .blocks); clear = omega (arith, h .clear); contact = omega (arith, h .contact); undecided = omega (arith, h .undecided); refused = omega (arith, h .refused) }
+    go Overlapped = record {
+      blocks = omega (
+        arith,
+        h .blocks,
+      );
+      clear = omega (arith, h .clear);
+      contact = omega (arith, h .contact);
+      undecided = omega (arith, h .undecided);
+      refused = omega (arith, h .refused);
+    }
+    go Hit = record {
+      blocks = omega (
+        arith,
+        h .blocks,
+      );
+      clear = omega (arith, h .clear);
+      contact = omega (arith, h .contact);
+      undecided = omega (arith, h .undecided);
+      refused = omega (arith, h .refused);
+    }
+    go Separated = record {
+      blocks = omega (
+        arith,
+        h .blocks,
+      );
+      clear = omega (arith, h .clear);
+      contact = omega (arith, h .contact);
+      undecided = omega (arith, h .undecided);
+      refused = omega (arith, h .refused);
+    }
+    go Failed = record {
+      blocks = omega (
+        arith,
+        h .blocks,
+      );
+      clear = omega (arith, h .clear);
+      contact = omega (arith, h .contact);
+      undecided = omega (arith, h .undecided);
+      refused = omega (arith, h .refused);
+    }
 
 -- ---- what there is room for
 both : (x y : Bool) → (x && y) ≡ true → (x ≡ true) × (y ≡ true)
@@ -45,7 +100,8 @@ both false y e = (cc, cc)
 
 pub countable-below : (t : Totals) → countable t ≡ true → Below countLimit t
 countable-below t e =
-    let four = both (ltb (t .blocks) countLimit && ltb (t .clear) countLimit && ltb (t .contact) countLimit && ltb (t .undecided) countLimit) (ltb (t .refused) countLimit) e in
+    let four = both (ltb (t .blocks) countLimit && ltb (t .clear) countLimit && ltb (t .contact) countLimit && ltb (t .undecided) countLimit)
+    (ltb (t .refused) countLimit) e in
     let three = both (ltb (t .blocks) countLimit && ltb (t .clear) countLimit && ltb (t .contact) countLimit) (ltb (t .undecided) countLimit) (four .0) in
     let two = both (ltb (t .blocks) countLimit && ltb (t .clear) countLimit) (ltb (t .contact) countLimit) (three .0) in
     let one = both (ltb (t .blocks) countLimit) (ltb (t .clear) countLimit) (two .0) in

@@ -71,8 +71,20 @@ length-worked : (n job : ℕ) (v : Verdict) → length (workedLine binary32 n jo
 length-worked n job v =
     let s = number n 32 ++ number job 32 in
     let status : List ℕ = 48 ∷ 32 ∷ letterOf (v .status) ∷ 32 ∷ [] in
-    rw (worked-is n job v, length-append, length-append (s ++ status) (floats (v .contact)), length-append s status, length-append (number n 32) (number job 32))
-    (omega (arith, length-number n 32, length-number job 32, length-floats (v .contact), length-three (v .counts .«distance_calls») (v .counts .searches) (v .counts .«root_steps»)))
+    rw (
+      worked-is n job v,
+      length-append,
+      length-append (s ++ status) (floats (v .contact)),
+      length-append s status,
+      length-append (number n 32) (number job 32),
+    )
+    (omega (
+      arith,
+      length-number n 32,
+      length-number job 32,
+      length-floats (v .contact),
+      length-three (v .counts .«distance_calls») (v .counts .searches) (v .counts .«root_steps»),
+    ))
 
 pub length-line : (n : ℕ) (x : BlockAnswer) → length (answerLine binary32 n x) ≤ longestLine
 length-line n (Worked job v) = length-worked n job v

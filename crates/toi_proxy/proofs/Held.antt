@@ -62,8 +62,10 @@ module _ (α : NamedLft) where
     pub lends : ent 𝓤 (sem 𝓤 H A (Own d)) (sep 𝓤 (sem 𝓤 H A (Lent d)) (sem 𝓤 H A (Own d)))
     lends =
         qed W (‵ (Own d) ∷ []) ∵ use1 W (‵ (Own d) ⊛ ‵ (Own d)) (LL.copy declared (T′.the-copy α) 𝓤 H A W .twice d (proxyVal d ∷ [])) $ split ! $
-        use1 W (given (proxyVal d ∷ [] ≡ proxyVal d ∷ []) (‵ (all-own (declared .parts) laws (values d)))) (own-open 𝓤 H A W declared laws (values d) (proxyVal d)) $ learn ! (λ _.
-        use1 W (‵ (ownAt (declared .parts) laws 0 (d .points)) ⊛ ‵ (rest (declared .parts) laws 0 (values d))) (own-out 𝓤 H A W (declared .parts) laws 0 (values d)) $ split ! $
+        use1 W (given (proxyVal d ∷ [] ≡ proxyVal d ∷ []) (‵ (all-own (declared .parts) laws (values d))))
+        (own-open 𝓤 H A W declared laws (values d) (proxyVal d)) $ learn ! (λ _.
+        use1 W (‵ (ownAt (declared .parts) laws 0 (d .points)) ⊛ ‵ (rest (declared .parts) laws 0 (values d)))
+        (own-out 𝓤 H A W (declared .parts) laws 0 (values d)) $ split ! $
         -- [what the list owns; what the radius owns; what the proxy owns]
         move ! (1 ∷ []) $ drop ! $ frame ! $ done !)
 

@@ -60,7 +60,8 @@ unfolding taken
 bad-taken f d s i p = same-bad (eqb i 0) _ _ refl
 
 -- ---- one turn, and the end
-pub goes-on : (f : Format) (d : Vector) (ps : List Vector) (i : ℕ) (s : Farthest) → i < length ps → takenFrom f d s i (drop i ps) ≡ takenFrom f d (taken f d s i (pointOf ps i)) (i + 1) (drop (i + 1) ps)
+pub goes-on : (f : Format) (d : Vector) (ps : List Vector) (i : ℕ) (s : Farthest) → i < length ps → takenFrom f d s i (drop i ps)
+    ≡ takenFrom f d (taken f d s i (pointOf ps i)) (i + 1) (drop (i + 1) ps)
 unfolding takenFrom
 goes-on f d ps i s h =
     let e : drop i ps ≡ pointOf ps i ∷ drop (i + 1) ps = rw (add-one i) (drop-cons ps i noPoint h) in
@@ -85,10 +86,12 @@ bad-from f d (p ∷ ps) s i =
 not-first : (i : ℕ) → eqb (i + 1) 0 ≡ false
 not-first i = rw (add-one i) (eqb·suc-zero i)
 
-best-from : (f : Format) (d : Vector) (ps : List Vector) (s : Farthest) (i : ℕ) → eqb i 0 ≡ false → takenFrom f d s i ps .best ≡ supportFrom f d (vector (s .x) (s .y)) (flat ps) i (s .best) (s .value)
+best-from : (f : Format) (d : Vector) (ps : List Vector) (s : Farthest) (i : ℕ) → eqb i 0 ≡ false → takenFrom f d s i ps .best
+    ≡ supportFrom f d (vector (s .x) (s .y)) (flat ps) i (s .best) (s .value)
 unfolding takenFrom supportFrom
 best-from f d [] s i h = refl
-best-from f d (p ∷ ps) s i h = ap (λ (t : Farthest). takenFrom f d t (i + 1) ps .best) (later-taken f d s i p h) ∙ best-from f d ps (later f d s i p) (i + 1) (not-first i)
+best-from f d (p ∷ ps) s i h = ap (λ (t : Farthest). takenFrom f d t (i + 1) ps .best) (later-taken f d s i p h)
+    ∙ best-from f d ps (later f d s i p) (i + 1) (not-first i)
 
 -- the flat list's length
 length-flat : (ps : List Vector) → length (flat ps) ≡ 2 * length ps
@@ -108,7 +111,11 @@ outline-tests : (m n : ℕ) → m ≡ 2 * n → (eqb m 0 || eqb (m % 2) 1 || ltb
 outline-tests m n e =
     let empty : eqb m 0 ≡ eqb n 0 = same-test _ _ (λ t. is-equal n 0 (omega (arith, e, eqb→eq m 0 t))) (λ t. is-equal m 0 (omega (arith, e, eqb→eq n 0 t))) in
     let even : eqb (m % 2) 1 ≡ false = same-test _ _ (λ t. omega (arith, e, eqb→eq (m % 2) 1 t)) (λ t. absurd t) in
-    let long : ltb 128 m ≡ ltb 64 n = same-test _ _ (λ t. lt→ltb 64 n (omega (arith, e, ltb→lt 128 m t))) (λ t. lt→ltb 128 m (omega (arith, e, ltb→lt 64 n t))) in
+    let long : ltb 128 m ≡ ltb 64 n = same-test _ _ (λ t. lt→ltb 64 n (omega (
+      arith,
+      e,
+      ltb→lt 128 m t,
+    ))) (λ t. lt→ltb 128 m (omega (arith, e, ltb→lt 64 n t))) in
     rw (empty, even, long) (or-middle (eqb n 0) (ltb 64 n))
   where
     or-middle : (a b : Bool) → (a || false || b) ≡ (a || b)
@@ -116,7 +123,8 @@ outline-tests m n e =
     or-middle false b = refl
 
 -- point 0 starts as the best
-best-all : (f : Format) (d : Vector) (p : Vector) (ps : List Vector) → takenFrom f d (start f) 0 (p ∷ ps) .best ≡ supportFrom f d p (flat ps) 1 0 (Ground.zero f)
+best-all : (f : Format) (d : Vector) (p : Vector) (ps : List Vector) → takenFrom f d (start f) 0 (p ∷ ps) .best
+    ≡ supportFrom f d p (flat ps) 1 0 (Ground.zero f)
 unfolding takenFrom
 best-all f d p ps =
     ap (λ (t : Farthest). takenFrom f d t 1 ps .best) (sym (first-taken f d (start f) 0 p (badVector f p) refl refl))
@@ -138,7 +146,8 @@ answers f d [] = refl
 answers f d (p ∷ ps) = by-tests _ _ _ _ _ _ (outline-tests _ _ (length-flat (p ∷ ps))) (bad-from f d (p ∷ ps) (start f) 0) (best-all f d p ps)
 
 -- where all points are taken
-pub finishes : (f : Format) (d : Vector) (ps : List Vector) (i : ℕ) (s : Farthest) → i ≤ length ps → length ps ≤ i → takenFrom f d s i (drop i ps) ≡ takenFrom f d (start f) 0 ps → answerOf s i ≡ supportAnswer f (flat ps) d
+pub finishes : (f : Format) (d : Vector) (ps : List Vector) (i : ℕ) (s : Farthest) → i ≤ length ps → length ps ≤ i → takenFrom f d s i (drop i ps)
+    ≡ takenFrom f d (start f) 0 ps → answerOf s i ≡ supportAnswer f (flat ps) d
 finishes f d ps i s below above e =
     let all : i ≡ length ps = omega (arith, below, above) in
     ap (λ (t : Farthest). answerOf t i) (sym (ends f d ps i s above) ∙ e) ∙ (ap (answerOf (takenFrom f d (start f) 0 ps)) all ∙ answers f d ps)

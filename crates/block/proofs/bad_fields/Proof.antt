@@ -19,7 +19,14 @@ bad-count-requires : tie.Need-bad-count-requires
 bad-count-requires c κs = search needs
 
 returns-2 : tie.Need-returns-2
-returns-2 c = simp (← c .before .before .before .before .word .ensures, ne-eqb _ _ (c .before .before .before .if1 .left), ← c .before .before .byte .ensures, ← c .before .bad-count .ensures, c .if2 .taken)
+returns-2 c =
+    simp (
+      ← c .before .before .before .before .word .ensures,
+      ne-eqb _ _ (c .before .before .before .if1 .left),
+      ← c .before .before .byte .ensures,
+      ← c .before .bad-count .ensures,
+      c .if2 .taken,
+    )
 
 byte-requires-2 : tie.Need-byte-requires-2
 byte-requires-2 c κs = search needs
@@ -28,13 +35,42 @@ bad-count-requires-2 : tie.Need-bad-count-requires-2
 bad-count-requires-2 c κs = search needs
 
 returns-3 : tie.Need-returns-3
-returns-3 c = simp (← c .before .before .before .before .before .before .before .word .ensures, ne-eqb _ _ (c .before .before .before .before .before .before .if1 .left), ← c .before .before .before .before .before .byte .ensures, ← c .before .before .before .before .bad-count .ensures, c .before .before .before .if2 .left, ← c .before .before .byte2 .ensures, ← c .before .bad-count2 .ensures, c .if3 .taken)
+returns-3 c =
+    simp (
+      ← c .before .before .before .before .before .before .before .word .ensures,
+      ne-eqb _ _ (c .before .before .before .before .before .before .if1 .left),
+      ← c .before .before .before .before .before .byte .ensures,
+      ← c .before .before .before .before .bad-count .ensures,
+      c .before .before .before .if2 .left,
+      ← c .before .before .byte2 .ensures,
+      ← c .before .bad-count2 .ensures,
+      c .if3 .taken,
+    )
 
 zeros-hold-requires : tie.Need-zeros-hold-requires
-zeros-hold-requires c κs = rw (← c .before .before .before .before .before .byte .ensures, ← c .before .before .byte2 .ensures) (fair-count _ (sym (c .before .before .before .before .bad-count .ensures) ∙ c .before .before .before .if2 .left), fair-count _ (sym (c .before .bad-count2 .ensures) ∙ c .if3 .left))
+zeros-hold-requires c κs =
+    rw (
+      ← c .before .before .before .before .before .byte .ensures,
+      ← c .before .before .byte2 .ensures,
+    ) (
+      fair-count _ (sym (c .before .before .before .before .bad-count .ensures) ∙ c .before .before .before .if2 .left),
+      fair-count _
+          (sym (c .before .bad-count2 .ensures) ∙ c .if3 .left),
+    )
 
 returns-4 : tie.Need-returns-4
-returns-4 c = simp (c .zeros-hold .ensures, ← c .before .before .before .before .before .before .before .before .word .ensures, ne-eqb _ _ (c .before .before .before .before .before .before .before .if1 .left), ← c .before .before .before .before .before .before .byte .ensures, ← c .before .before .before .before .before .bad-count .ensures, c .before .before .before .before .if2 .left, ← c .before .before .before .byte2 .ensures, ← c .before .before .bad-count2 .ensures, c .before .if3 .left)
+returns-4 c =
+    simp (
+      c .zeros-hold .ensures,
+      ← c .before .before .before .before .before .before .before .before .word .ensures,
+      ne-eqb _ _ (c .before .before .before .before .before .before .before .if1 .left),
+      ← c .before .before .before .before .before .before .byte .ensures,
+      ← c .before .before .before .before .before .bad-count .ensures,
+      c .before .before .before .before .if2 .left,
+      ← c .before .before .before .byte2 .ensures,
+      ← c .before .before .bad-count2 .ensures,
+      c .before .if3 .left,
+    )
 
 pub bad-fields-spec : {M : Type 1} → statement M
 bad-fields-spec =

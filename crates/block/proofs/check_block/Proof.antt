@@ -20,14 +20,28 @@ word-requires c κs = search needs
 
 returns-2 : tie.Need-returns-2
 unfolding checkedBlock
-returns-2 c = simp (c .word .ensures, ← c .before .before .before .before .sum-of-words .ensures, eq-eqb _ _ (c .before .before .before .if1 .left), ← c .before .before .bad-fields .ensures, c .before .if2 .taken)
+returns-2 c =
+    simp (
+      c .word .ensures,
+      ← c .before .before .before .before .sum-of-words .ensures,
+      eq-eqb _ _ (c .before .before .before .if1 .left),
+      ← c .before .before .bad-fields .ensures,
+      c .before .if2 .taken,
+    )
 
 block-of-requires : tie.Need-block-of-requires
 block-of-requires c κs = search needs
 
 returns-3 : tie.Need-returns-3
 unfolding checkedBlock
-returns-3 c = simp (c .block-of .ensures, ← c .before .before .before .before .sum-of-words .ensures, eq-eqb _ _ (c .before .before .before .if1 .left), ← c .before .before .bad-fields .ensures, c .before .if2 .left)
+returns-3 c =
+    simp (
+      c .block-of .ensures,
+      ← c .before .before .before .before .sum-of-words .ensures,
+      eq-eqb _ _ (c .before .before .before .if1 .left),
+      ← c .before .before .bad-fields .ensures,
+      c .before .if2 .left,
+    )
 
 pub check-block-spec : {M : Type 1} → statement M
 check-block-spec =

@@ -37,7 +37,9 @@ loop-again : tie.Need-loop-again Inv-loop μ-loop
 loop-again c = (search needs, simp (c .wrapping-add-u32 .ensures, c .before .before .before .loop .inv .1, c .before .word .ensures) (sum-step _ _))
 
 returns : tie.Need-returns Inv-loop μ-loop
-returns c = c .before .loop .inv .1 ∙ ap (λ (n : ℕ). sumOfWords (c .before .before .before .args .part .now) n % 2 ^ 32) (le-antisymm (c .before .loop .inv .0) (c .loop-test .left))
+returns c =
+    c .before .loop .inv .1
+    ∙ ap (λ (n : ℕ). sumOfWords (c .before .before .before .args .part .now) n % 2 ^ 32) (le-antisymm (c .before .loop .inv .0) (c .loop-test .left))
 
 pub sum-of-words-spec : {M : Type 1} → statement M
 sum-of-words-spec =

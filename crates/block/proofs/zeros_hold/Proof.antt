@@ -49,7 +49,14 @@ all-zero-requires-3 : tie.Need-all-zero-requires-3
 all-zero-requires-3 c κs = search needs
 
 returns : tie.Need-returns
-returns c = simp (c .all-zero3 .ensures, c .before .all-zero2 .ensures, c .before .before .all-zero .ensures, c .before .before .before .byte2 .ensures, c .before .before .before .before .byte .ensures)
+returns c =
+    simp (
+      c .all-zero3 .ensures,
+      c .before .all-zero2 .ensures,
+      c .before .before .all-zero .ensures,
+      c .before .before .before .byte2 .ensures,
+      c .before .before .before .before .byte .ensures,
+    )
 
 pub zeros-hold-spec : {M : Type 1} → statement M
 zeros-hold-spec =

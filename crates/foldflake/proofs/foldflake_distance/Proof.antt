@@ -33,12 +33,17 @@ same-length-2 c = search needs
 returns : tie.Need-returns
 returns c =
     let a = c .before .before .before .before .before .before .before .before .before .before .before .before .before .before .before .before .before .before .args in
-    distance-told (a .numbers .now) (a .cache .now) (a .out .now) (a .points-a .now) (a .points-b .now) (a .use-radii) _ _ _ _ _ (c .before .before .before .before .before .before .before .before .before .before .before .before .if1 .taken) (c .before .before .before .before .before .before .before .before .before .before .if2 .taken) (c .before .before .before .before .before .before .before .before .cache-of .ensures) (c .before .before .before .before .before .before .before .distance-of .ensures) (c .before .before .before .before .tell-distance .ensures)
+    distance-told (a .numbers .now) (a .cache .now) (a .out .now) (a .points-a .now) (a .points-b .now) (a .use-radii) _ _ _ _ _
+    (c .before .before .before .before .before .before .before .before .before .before .before .before .if1 .taken)
+    (c .before .before .before .before .before .before .before .before .before .before .if2 .taken)
+    (c .before .before .before .before .before .before .before .before .cache-of .ensures)
+    (c .before .before .before .before .before .before .before .distance-of .ensures) (c .before .before .before .before .tell-distance .ensures)
 
 returns-2 : tie.Need-returns-2
 returns-2 c =
     let a = c .before .before .before .before .before .before .before .before .args in
-    wrong-count (a .numbers .now) (a .cache .now) (a .out .now) (a .points-a .now) (a .points-b .now) (a .use-radii) (c .before .before .if1 .taken) (c .if2 .left)
+    wrong-count (a .numbers .now) (a .cache .now) (a .out .now) (a .points-a .now) (a .points-b .now) (a .use-radii) (c .before .before .if1 .taken)
+    (c .if2 .left)
 
 returns-3 : tie.Need-returns-3
 returns-3 c =

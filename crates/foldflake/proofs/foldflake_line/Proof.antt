@@ -26,7 +26,9 @@ same-length c = search needs
 returns-3 : tie.Need-returns-3
 returns-3 c =
     let a = c .before .before .before .before .before .before .before .before .before .args in
-    one-line (a .number) (a .block .now) (a .out .now) _ _ (c .before .before .before .before .before .before .if1 .left) (c .before .before .before .before .before .if2 .left) (rw (c .before .before .before .before .answer-block .ensures) at (c .before .before .write-line .ensures))
+    one-line (a .number) (a .block .now) (a .out .now) _ _ (c .before .before .before .before .before .before .if1 .left)
+    (c .before .before .before .before .before .if2 .left)
+    (rw (c .before .before .before .before .answer-block .ensures) at (c .before .before .write-line .ensures))
 
 pub foldflake-line-spec : {M : Type 1} → statement M
 foldflake-line-spec =

@@ -14,7 +14,8 @@ use Rattle.outline.proofs.support_index.Statement.{statement}
 use Rattle.outline.proofs.support_index.Tie as tie
 
 abbrev Inv-loop : tie.InvT-loop
-Inv-loop points direction origin count best-index₀ best-value₀ i₀ best-index best-value i = (1 ≤ i) × (supportFrom binary32 direction origin (drop (2 * i) points) i best-index best-value ≡ supportFrom binary32 direction origin (drop 2 points) 1 0 (Ground.zero binary32))
+Inv-loop points direction origin count best-index₀ best-value₀ i₀ best-index best-value i = (1 ≤ i)
+    × (supportFrom binary32 direction origin (drop (2 * i) points) i best-index best-value ≡ supportFrom binary32 direction origin (drop 2 points) 1 0 (Ground.zero binary32))
 
 abbrev μ-loop : tie.MeasureT-loop
 μ-loop points direction origin count best-index₀ best-value₀ i₀ best-index best-value i = count - i
@@ -57,7 +58,8 @@ loop-again c =
     let l = c .before .before .before .before .before .before .before .before .loop in
     let a = c .before .before .before .before .before .before .before .before .before .before .before .args in
     let o = c .before .before .before .before .before .before .before .before .before .point .result in
-    let e = support-step binary32 (a .direction) o (a .points .now) (l .i) (l .best-index) (l .best-value) (c .before .before .before .before .before .before .before .loop-test .taken) in (
+    let e = support-step binary32 (a .direction) o (a .points .now) (l .i) (l .best-index) (l .best-value)
+    (c .before .before .before .before .before .before .before .loop-test .taken) in (
       omega arith,
       ⊎-elim
           (λ w. rw (w .1, w .2) (sym (simp (w .0 .taken) at e) ∙ l .inv .1))
@@ -73,7 +75,8 @@ returns c =
     let l = c .before .loop in
     let a = c .before .before .before .before .args in
     let o = c .before .before .point in
-    let whole = sym (support-stop binary32 (a .direction) (o .result) (a .points .now) (l .i) (l .best-index) (l .best-value) (c .loop-test .left)) ∙ l .inv .1 in
+    let whole = sym (support-stop binary32 (a .direction) (o .result) (a .points .now) (l .i) (l .best-index) (l .best-value) (c .loop-test .left))
+    ∙ l .inv .1 in
     rw (← o .ensures, whole)
 
 pub support-index-spec : {M : Type 1} → statement M

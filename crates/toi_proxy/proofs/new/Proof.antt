@@ -44,7 +44,8 @@ use Rattle.toi_proxy.proofs.new.Code as code
 abbrev stayed : Stays (new.ended .signature .params) (new.ended .kept)
 stayed = (stay-none-slice (0 ∷ []) tt (plain (λ _. f32)) yes, (stay-none (λ _. f32) yes, tt))
 
-module _ {M : Type 1} (𝓤 : URA M) (H : Heap 𝓤) (A : Atoms 𝓤) (W : Given 𝓤 H A) (mem : Memory → SProp 𝓤) (run : Routine → Fun 𝓤) (κ : Lft) (q : Share) (s : RefT (List Float)) (r : Float) (fit : fits binary32 r ≡ true) where
+module _ {M : Type 1} (𝓤 : URA M) (H : Heap 𝓤) (A : Atoms 𝓤) (W : Given 𝓤 H A) (mem : Memory → SProp 𝓤) (run : Routine → Fun 𝓤) (κ : Lft) (q : Share)
+    (s : RefT (List Float)) (r : Float) (fit : fits binary32 r ≡ true) where
   abbrev α : NamedLft
   α = namedLft 1 0 tt (κ, tt)
 
@@ -66,27 +67,53 @@ module _ {M : Type 1} (𝓤 : URA M) (H : Heap 𝓤) (A : Atoms 𝓤) (W : Given
   exits : ent 𝓤 (onEntry 𝓤 H A new.signature (κ, tt) (q, tt) (s, (r, tt)) at) (Post (proxyVal made))
   exits =
       qed W ((‵ (flft κ q) ⊛ ‵ ftrue) ∷ ‵ (owns (ShrSlice (named 0) κ f32 ∷ f32 ∷ []) (s, (r, tt)) at) ∷ []) ∵
-      suffices ! _ (ends-at 𝓤 H A new.ended stayed (new.clauses 𝓤 H A mem run) W (((κ, tt), (q, tt), tt, (s, (r, tt)), at), tt) (proxyVal made) made (tt, (tt, tt)) (tt, (tt, tt))) $ says ! (refl, refl) $
-      frame ! $ fsplit ! $ use1 W (‵ Lent ⊛ ‵ Lent) (shr-slice-copy 𝓤 H A W (named 0) κ f32 .twice s (v ∷ [])) $ split ! $ move ! (0 ∷ 2 ∷ []) $ fjoin ! $ frame ! $
+      suffices ! _ (ends-at 𝓤 H A new.ended stayed (new.clauses 𝓤 H A mem run) W (
+        ((κ, tt), (q, tt), tt, (s, (r, tt)), at),
+        tt,
+      ) (proxyVal made) made (tt, (tt, tt)) (tt, (tt, tt))) $ says ! (
+        refl,
+        refl,
+      ) $
+      frame ! $ fsplit ! $ use1 W (‵ Lent ⊛ ‵ Lent) (shr-slice-copy 𝓤 H A W (named 0) κ f32 .twice s (v ∷ [])) $ split ! $ move !
+      (0 ∷ 2 ∷ []) $ fjoin ! $ frame ! $
       -- [what the list owns]: it and the radius's facts are what the proxy owns
-      nothing ! $ owned ! f32 (Is f32) (float-makes 𝓤 H A W binary32) r _ (refl, fit) $ fjoin ! $ move ! (1 ∷ 0 ∷ []) $ fjoin ! $ by ! (own-shut 𝓤 H A W (declared α) (laws α) (s, (r, tt)))
+      nothing ! $ owned ! f32 (Is f32) (float-makes 𝓤 H A W binary32) r _ (
+        refl,
+        fit,
+      ) $ fjoin ! $ move ! (1 ∷ 0 ∷ []) $ fjoin ! $ by ! (own-shut 𝓤 H A W (declared α) (laws α) (s, (r, tt)))
 
   module _ (C : Calls 𝓤 H) (Λ : Loops 𝓤 H) where
-    walk : Is (ShrSlice (named 0) κ f32) s (v ∷ []) → ent 𝓤 (onEntry 𝓤 H A new.signature (κ, tt) (q, tt) (s, (r, tt)) at) (WpFn 𝓤 H C Λ code.function (v ∷ vfloat binary32 r ∷ []) Post)
+    walk : Is (ShrSlice (named 0) κ f32) s (v ∷ [])
+        → ent 𝓤 (onEntry 𝓤 H A new.signature (κ, tt) (q, tt) (s, (r, tt)) at) (WpFn 𝓤 H C Λ code.function (v ∷ vfloat binary32 r ∷ []) Post)
     walk p =
         qed W (raw (onEntry 𝓤 H A new.signature (κ, tt) (q, tt) (s, (r, tt)) at) ∷ []) ∵ enter ! C Λ code.function (v ∷ vfloat binary32 r ∷ []) _ $
-        alloc1 ! (λ l₀. alloc1 ! (λ l₁. alloc1 ! (λ l₂. alloc0 ! $ params1 ! $ pass1 ! (init ! 2 refl (shr-slice-lawful 𝓤 H A W (named 0) κ f32 .typed s (v ∷ []) p .0)) $ pass1 ! (init ! 0 refl (tt, passes _ fit)) $ pass0 ! $
-        assigns ! (agg ! (and-then ! (load ! (from ! (stop !)) (look ! 2 refl)) (and-then ! (load ! (from ! (stop !)) (look ! 0 refl)) (no-more !)))) (from ! (stop !)) (init ! 4 refl (tt, (shr-slice-lawful 𝓤 H A W (named 0) κ f32 .typed s (v ∷ []) p .0 .1, (passes _ fit, tt)))) $
-        returns ! (look ! 4 refl) $ forget ! 0 refl $ forget ! 2 refl $ forget ! 4 refl $ move ! (4 ∷ 5 ∷ []) $ free1 ! $ move ! (2 ∷ 3 ∷ []) $ free1 ! $ free1 ! $ free0 ! $ by ! exits)))
+        alloc1 ! (λ l₀. alloc1 ! (λ l₁. alloc1 ! (λ l₂. alloc0 ! $ params1 ! $ pass1 ! (init ! 2 refl (shr-slice-lawful 𝓤 H A W (named 0) κ f32 .typed s (v ∷ []) p .0)) $ pass1 ! (init ! 0 refl (
+          tt,
+          passes _ fit,
+        )) $ pass0 ! $
+        assigns ! (agg ! (and-then ! (load ! (from ! (stop !)) (look ! 2 refl)) (and-then ! (load ! (from ! (stop !)) (look ! 0 refl)) (no-more !))))
+        (from ! (stop !)) (init ! 4 refl (
+          tt,
+          (shr-slice-lawful 𝓤 H A W (named 0) κ f32 .typed s (v ∷ []) p .0 .1, (passes _ fit, tt)),
+        )) $
+        returns ! (look ! 4 refl) $ forget ! 0 refl $ forget ! 2 refl $ forget ! 4 refl $ move ! (4 ∷ 5 ∷ []) $ free1 ! $ move !
+        (2 ∷ 3 ∷ []) $ free1 ! $ free1 ! $ free0 ! $ by ! exits)))
 
 module _ {M : Type 1} (𝓤 : URA M) (H : Heap 𝓤) (A : Atoms 𝓤) (W : Given 𝓤 H A) (mem : Memory → SProp 𝓤) (run : Routine → Fun 𝓤) where
   new-walks : (C : Calls 𝓤 H) (Λ : Loops 𝓤 H) → Walks 𝓤 H A new.ended stayed (WpFn 𝓤 H C Λ code.function) (new.clauses 𝓤 H A mem run)
-  new-walks C Λ = walked 𝓤 H A new.ended stayed (new.clauses 𝓤 H A mem run) (WpFn 𝓤 H C Λ code.function) (λ κs. (slice-vals, (float-vals binary32, tt))) (λ κs. (shr-slice-tells (named 0) (κs .0) f32, (float-tells binary32, tt)))
+  new-walks C Λ = walked 𝓤 H A new.ended stayed (new.clauses 𝓤 H A mem run) (WpFn 𝓤 H C Λ code.function) (λ κs. (
+    slice-vals,
+    (float-vals binary32, tt),
+  )) (λ κs. (shr-slice-tells (named 0) (κs .0) f32, (float-tells binary32, tt)))
       (λ κs qs bounds a g are. via 𝓤 _ (fst∗ 𝓤 _ (emp 𝓤)) (walk 𝓤 H A W mem run (κs .0) (qs .0) (a .0) (a .1 .0) (are .1 .0 .1) C Λ (are .0)))
 
 new-meets : {M : Type 1} (𝓤 : URA M) (H : Heap 𝓤) (A : Atoms 𝓤) → Given 𝓤 H A → (mem : Memory → SProp 𝓤) (run : Routine → Fun 𝓤) (𝓣 : Tables 𝓤 H)
     → Meets 𝓤 H A new.signature (WpFn 𝓤 H (𝓣 .C) (𝓣 .Λ) code.function) (new.spec 𝓤 H A mem run)
-new-meets 𝓤 H A W mem run 𝓣 = walk-meets 𝓤 H A new.ended stayed W (goes-none-slice 𝓤 H A W 1 (0 ∷ []) tt (plain (λ _. f32)) yes, (goes-none 𝓤 H A W 1 (λ _. f32) yes (λ κs x f. refl), tt)) (new.clauses 𝓤 H A mem run) (WpFn 𝓤 H (𝓣 .C) (𝓣 .Λ) code.function) (WpFn-mono 𝓤 H (W .laws) 𝓣 code.function) (new-walks 𝓤 H A W mem run (𝓣 .C) (𝓣 .Λ))
+new-meets 𝓤 H A W mem run 𝓣 =
+    walk-meets 𝓤 H A new.ended stayed W (
+      goes-none-slice 𝓤 H A W 1 (0 ∷ []) tt (plain (λ _. f32)) yes,
+      (goes-none 𝓤 H A W 1 (λ _. f32) yes (λ κs x f. refl), tt),
+    ) (new.clauses 𝓤 H A mem run) (WpFn 𝓤 H (𝓣 .C) (𝓣 .Λ) code.function) (WpFn-mono 𝓤 H (W .laws) 𝓣 code.function) (new-walks 𝓤 H A W mem run (𝓣 .C) (𝓣 .Λ))
 
 pub new-spec : {M : Type 1} → stated.statement M
 unfolding code.routine tablesOf

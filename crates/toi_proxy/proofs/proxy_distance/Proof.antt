@@ -59,7 +59,8 @@ use Rattle.toi_proxy.proofs.proxy_distance.Statement as stated
 use Rattle.toi_proxy.proofs.proxy_distance.Code as code
 
 abbrev stayed : Stays (f.ended .signature .params) (f.ended .kept)
-stayed = (stay-none (λ _. Pose.the-row) yes, (stay-none ProxyA yes, (stay-none ProxyB yes, (stay-none (λ _. bool) yes, (stay-none (λ _. Cache.the-row) yes, tt)))))
+stayed =
+    (stay-none (λ _. Pose.the-row) yes, (stay-none ProxyA yes, (stay-none ProxyB yes, (stay-none (λ _. bool) yes, (stay-none (λ _. Cache.the-row) yes, tt)))))
 
 abbrev poseVal : Pose → Val
 poseVal p = LL.val Pose.the-type Pose′.the-laws p
@@ -72,8 +73,18 @@ module _ {M : Type 1} (𝓤 : URA M) (H : Heap 𝓤) (A : Atoms 𝓤) (mem : Mem
   abbrev Core : Contract 𝓤
   Core = tripleOf 𝓤 H A core.signature (core.spec 𝓤 H A mem run)
 
-module _ {M : Type 1} (𝓤 : URA M) (H : Heap 𝓤) (A : Atoms 𝓤) (W : Given 𝓤 H A) (mem : Memory → SProp 𝓤) (run : Routine → Fun 𝓤) (κ κ′ : Lft) (q q′ : Share) (p : Pose) (a b : ToiProxy) (radii : Bool) (c : SimplexCache)
-    (ip : Is Pose.the-row p (poseVal p ∷ [])) (ia : Is (ProxyA (κ, (κ′, tt))) a (proxyVal a ∷ [])) (ib : Is (ProxyB (κ, (κ′, tt))) b (proxyVal b ∷ [])) (ir : Is bool radii (vbool radii ∷ [])) (ic : Is Cache.the-row c (cacheVal c ∷ [])) where
+module _ {M : Type 1} (𝓤 : URA M) (H : Heap 𝓤) (A : Atoms 𝓤) (W : Given 𝓤 H A) (mem : Memory → SProp 𝓤) (run : Routine → Fun 𝓤) (κ κ′ : Lft) (q q′ : Share)
+    (p : Pose) (a b : ToiProxy) (radii : Bool) (c : SimplexCache)
+    (ip : Is Pose.the-row p (poseVal p ∷ [])) (ia : Is (ProxyA (
+      κ,
+      (κ′, tt),
+    )) a (proxyVal a ∷ [])) (ib : Is (ProxyB (
+      κ,
+      (
+        κ′,
+        tt,
+      ),
+    )) b (proxyVal b ∷ [])) (ir : Is bool radii (vbool radii ∷ [])) (ic : Is Cache.the-row c (cacheVal c ∷ [])) where
   abbrev κs : Lfts 2
   κs = (κ, (κ′, tt))
 
@@ -106,7 +117,10 @@ module _ {M : Type 1} (𝓤 : URA M) (H : Heap 𝓤) (A : Atoms 𝓤) (W : Given
   given = (p, (a .points, (a .radius, (b .points, (b .radius, (radii, (c, tt)))))))
 
   abbrev passed : Vals core.signature κs
-  passed = (poseVal p ∷ [], (listVal a ∷ [], (vfloat binary32 (a .radius) ∷ [], (listVal b ∷ [], (vfloat binary32 (b .radius) ∷ [], (vbool radii ∷ [], (cacheVal c ∷ [], tt)))))))
+  passed = (
+    poseVal p ∷ [],
+    (listVal a ∷ [], (vfloat binary32 (a .radius) ∷ [], (listVal b ∷ [], (vfloat binary32 (b .radius) ∷ [], (vbool radii ∷ [], (cacheVal c ∷ [], tt)))))),
+  )
 
   abbrev to : Core 𝓤 H A mem run .Ghost
   to = ((κs, qs, tt, given, passed), tt)
@@ -125,7 +139,8 @@ module _ {M : Type 1} (𝓤 : URA M) (H : Heap 𝓤) (A : Atoms 𝓤) (W : Given
       -- [what B owns; what A owns; the tokens]
       use1 W (‵ (Lent β b) ⊛ ‵ (Own β b)) (lends β 𝓤 H A W b) $ split ! $ move ! (2 ∷ []) $ use1 W (‵ (Lent α a) ⊛ ‵ (Own α a)) (lends α 𝓤 H A W a) $ split ! $
       -- [A's list; A; B's list; B; the tokens]
-      nothing ! $ owned ! Cache.the-row (Is Cache.the-row) (LL.makes Cache.the-type Cache′.the-plain 𝓤 H A) c _ ic $ fjoin ! $ owned ! bool (Is bool) (bool-makes 𝓤 H A W) radii _ ir $ fjoin ! $
+      nothing ! $ owned ! Cache.the-row (Is Cache.the-row) (LL.makes Cache.the-type Cache′.the-plain 𝓤 H A) c _ ic $ fjoin ! $ owned ! bool (Is bool)
+      (bool-makes 𝓤 H A W) radii _ ir $ fjoin ! $
       owned ! f32 (Is f32) (float-makes 𝓤 H A W binary32) (b .radius) _ (refl, radius-fits β b ib) $ fjoin ! $ move ! (3 ∷ 0 ∷ []) $ fjoin ! $
       owned ! f32 (Is f32) (float-makes 𝓤 H A W binary32) (a .radius) _ (refl, radius-fits α a ia) $ fjoin ! $ move ! (1 ∷ 0 ∷ []) $ fjoin ! $
       owned ! Pose.the-row (Is Pose.the-row) (LL.makes Pose.the-type Pose′.the-plain 𝓤 H A) p _ ip $ fjoin ! $
@@ -139,23 +154,42 @@ module _ {M : Type 1} (𝓤 : URA M) (H : Heap 𝓤) (A : Atoms 𝓤) (W : Given
   exits : (r : Distance) (u : Val) → r ≡ measured → ent 𝓤 (⋆ 𝓤 H A (‵ (Dist.the-row .own r (u ∷ [])) ∷ tokens ∷ (‵ (Own α a) ⊛ ‵ (Own β b)) ∷ [])) (Post u)
   exits r u e =
       qed W (‵ (Dist.the-row .own r (u ∷ [])) ∷ tokens ∷ (‵ (Own α a) ⊛ ‵ (Own β b)) ∷ []) ∵
-      suffices ! _ (ends-at 𝓤 H A f.ended stayed (f.clauses 𝓤 H A mem run) W ((κs, qs, tt, args, at), tt) u r (tt, (tt, (tt, (tt, (tt, tt))))) (tt, (tt, (tt, (tt, (tt, tt)))))) $ says ! e $
+      suffices ! _ (ends-at 𝓤 H A f.ended stayed (f.clauses 𝓤 H A mem run) W (
+        (κs, qs, tt, args, at),
+        tt,
+      ) u r (tt, (tt, (tt, (tt, (tt, tt))))) (tt, (tt, (tt, (tt, (tt, tt)))))) $ says ! e $
       move ! (1 ∷ []) $ frame ! $ move ! (1 ∷ []) $ split ! $
       -- [A; B; the result]
-      nothing ! $ owned ! Cache.the-row (Is Cache.the-row) (LL.makes Cache.the-type Cache′.the-plain 𝓤 H A) c _ ic $ fjoin ! $ owned ! bool (Is bool) (bool-makes 𝓤 H A W) radii _ ir $ fjoin ! $
-      move ! (2 ∷ 0 ∷ []) $ fjoin ! $ move ! (1 ∷ 0 ∷ []) $ fjoin ! $ owned ! Pose.the-row (Is Pose.the-row) (LL.makes Pose.the-type Pose′.the-plain 𝓤 H A) p _ ip $ fjoin ! $ frame ! $ done !
+      nothing ! $ owned ! Cache.the-row (Is Cache.the-row) (LL.makes Cache.the-type Cache′.the-plain 𝓤 H A) c _ ic $ fjoin ! $ owned ! bool (Is bool)
+      (bool-makes 𝓤 H A W) radii _ ir $ fjoin ! $
+      move ! (2 ∷ 0 ∷ []) $ fjoin ! $ move ! (1 ∷ 0 ∷ []) $ fjoin ! $ owned ! Pose.the-row (Is Pose.the-row)
+      (LL.makes Pose.the-type Pose′.the-plain 𝓤 H A) p _ ip $ fjoin ! $ frame ! $ done !
 
   module _ (C : Calls 𝓤 H) (Λ : Loops 𝓤 H) (fm : FmC 𝓤 H (W .laws) C) (known : Triple 𝓤 (C #core) (Core 𝓤 H A mem run)) where
     walk : ent 𝓤 (onEntry 𝓤 H A f.signature κs qs args at) (WpFn 𝓤 H C Λ code.function machine Post)
     walk =
         qed W (raw (onEntry 𝓤 H A f.signature κs qs args at) ∷ []) ∵ enter ! C Λ code.function machine _ $
         alloc1 ! (λ l₀. alloc1 ! (λ l₁. alloc1 ! (λ l₂. alloc1 ! (λ l₃. alloc1 ! (λ l₄. alloc1 ! (λ l₅. alloc1 ! (λ l₆. alloc1 ! (λ l₇. alloc1 ! (λ l₈. alloc1 ! (λ l₉. alloc0 ! $ params1 ! $
-        pass1 ! (init ! 16 refl (LL.lawful Pose.the-type Pose′.the-laws 𝓤 H A W .typed p _ ip .0)) $ pass1 ! (init ! 14 refl (typed α 𝓤 H A W a ia)) $ pass1 ! (init ! 12 refl (typed β 𝓤 H A W b ib)) $
-        pass1 ! (init ! 10 refl (bool-lawful 𝓤 H A W .typed radii _ ir .0)) $ pass1 ! (init ! 8 refl (LL.lawful Cache.the-type Cache′.the-laws 𝓤 H A W .typed c _ ic .0)) $ pass0 ! $
-        assigns ! (of-opd ! (load ! (from ! (fld ! refl (stop !))) (look-in ! 14 (sub ! 0 refl (whole !))))) (from ! (stop !)) (init ! 6 refl (tt, typed α 𝓤 H A W a ia .1 .0)) $
-        assigns ! (of-opd ! (load ! (from ! (fld ! refl (stop !))) (look-in ! 14 (sub ! 1 refl (whole !))))) (from ! (stop !)) (init ! 4 refl (tt, typed α 𝓤 H A W a ia .1 .1 .0)) $
-        assigns ! (of-opd ! (load ! (from ! (fld ! refl (stop !))) (look-in ! 12 (sub ! 0 refl (whole !))))) (from ! (stop !)) (init ! 2 refl (tt, typed β 𝓤 H A W b ib .1 .0)) $
-        assigns ! (of-opd ! (load ! (from ! (fld ! refl (stop !))) (look-in ! 12 (sub ! 1 refl (whole !))))) (from ! (stop !)) (init ! 0 refl (tt, typed β 𝓤 H A W b ib .1 .1 .0)) $
+        pass1 ! (init ! 16 refl (LL.lawful Pose.the-type Pose′.the-laws 𝓤 H A W .typed p _ ip .0)) $ pass1 !
+        (init ! 14 refl (typed α 𝓤 H A W a ia)) $ pass1 ! (init ! 12 refl (typed β 𝓤 H A W b ib)) $
+        pass1 ! (init ! 10 refl (bool-lawful 𝓤 H A W .typed radii _ ir .0)) $ pass1 !
+        (init ! 8 refl (LL.lawful Cache.the-type Cache′.the-laws 𝓤 H A W .typed c _ ic .0)) $ pass0 ! $
+        assigns ! (of-opd ! (load ! (from ! (fld ! refl (stop !))) (look-in ! 14 (sub ! 0 refl (whole !))))) (from ! (stop !)) (init ! 6 refl (
+          tt,
+          typed α 𝓤 H A W a ia .1 .0,
+        )) $
+        assigns ! (of-opd ! (load ! (from ! (fld ! refl (stop !))) (look-in ! 14 (sub ! 1 refl (whole !))))) (from ! (stop !)) (init ! 4 refl (
+          tt,
+          typed α 𝓤 H A W a ia .1 .1 .0,
+        )) $
+        assigns ! (of-opd ! (load ! (from ! (fld ! refl (stop !))) (look-in ! 12 (sub ! 0 refl (whole !))))) (from ! (stop !)) (init ! 2 refl (
+          tt,
+          typed β 𝓤 H A W b ib .1 .0,
+        )) $
+        assigns ! (of-opd ! (load ! (from ! (fld ! refl (stop !))) (look-in ! 12 (sub ! 1 refl (whole !))))) (from ! (stop !)) (init ! 0 refl (
+          tt,
+          typed β 𝓤 H A W b ib .1 .1 .0,
+        )) $
         move ! (20 ∷ []) $ use1 W (raw (Core 𝓤 H A mem run .pre to) ⊛ (‵ (Own α a) ⊛ ‵ (Own β b))) goes $ split ! $
         -- [what the callee asks; what the proxies own; _9; …; _1; …; room for _0; …]
         calls-at ! fm (Core 𝓤 H A mem run) known to
@@ -167,20 +201,43 @@ module _ {M : Type 1} (𝓤 : URA M) (H : Heap 𝓤) (A : Atoms 𝓤) (W : Given
         peeks ! Dist.the-row (Is Dist.the-row) (shows 𝓤 H A Dist.the-row) r (u ∷ []) (λ is.
         land ! (from ! (stop !)) (init ! 21 refl (LL.lawful Dist.the-type Dist′.the-laws 𝓤 H A W .typed r _ is .0)) $
         returns ! (look ! 21 refl) $ forget ! 3 refl $ forget ! 5 refl $ forget ! 7 refl $ forget ! 9 refl $ forget ! 11 refl $ forget ! 13 refl $ forget ! 15 refl $ forget ! 17 refl $ forget ! 19 refl $ forget ! 21 refl $
-        move ! (21 ∷ 22 ∷ []) $ free1 ! $ move ! (19 ∷ 20 ∷ []) $ free1 ! $ move ! (17 ∷ 18 ∷ []) $ free1 ! $ move ! (15 ∷ 16 ∷ []) $ free1 ! $ move ! (13 ∷ 14 ∷ []) $ free1 ! $ move ! (11 ∷ 12 ∷ []) $ free1 ! $
-        move ! (9 ∷ 10 ∷ []) $ free1 ! $ move ! (7 ∷ 8 ∷ []) $ free1 ! $ move ! (5 ∷ 6 ∷ []) $ free1 ! $ move ! (3 ∷ 4 ∷ []) $ free1 ! $ free0 ! $ by ! (exits r u e)))))))))))))))
+        move ! (21 ∷ 22 ∷ []) $ free1 ! $ move ! (19 ∷ 20 ∷ []) $ free1 ! $ move ! (17 ∷ 18 ∷ []) $ free1 ! $ move ! (15 ∷ 16 ∷ []) $ free1 ! $ move !
+        (13 ∷ 14 ∷ []) $ free1 ! $ move ! (11 ∷ 12 ∷ []) $ free1 ! $
+        move ! (9 ∷ 10 ∷ []) $ free1 ! $ move ! (7 ∷ 8 ∷ []) $ free1 ! $ move ! (5 ∷ 6 ∷ []) $ free1 ! $ move ! (3 ∷ 4 ∷ []) $ free1 ! $ free0 ! $ by !
+        (exits r u e)))))))))))))))
 
-module _ {M : Type 1} (𝓤 : URA M) (H : Heap 𝓤) (A : Atoms 𝓤) (W : Given 𝓤 H A) (mem : Memory → SProp 𝓤) (run : Routine → Fun 𝓤) (𝓣 : Tables 𝓤 H) (known : Triple 𝓤 (𝓣 .C #core) (Core 𝓤 H A mem run)) where
+module _ {M : Type 1} (𝓤 : URA M) (H : Heap 𝓤) (A : Atoms 𝓤) (W : Given 𝓤 H A) (mem : Memory → SProp 𝓤) (run : Routine → Fun 𝓤) (𝓣 : Tables 𝓤 H)
+    (known : Triple 𝓤 (𝓣 .C #core) (Core 𝓤 H A mem run)) where
   distance-walks : Walks 𝓤 H A f.ended stayed (WpFn 𝓤 H (𝓣 .C) (𝓣 .Λ) code.function) (f.clauses 𝓤 H A mem run)
   distance-walks = walked 𝓤 H A f.ended stayed (f.clauses 𝓤 H A mem run) (WpFn 𝓤 H (𝓣 .C) (𝓣 .Λ) code.function)
-      (λ κs. (LL.vals Pose.the-type Pose′.the-laws, (LL.vals (declared (lftA κs)) (laws (lftA κs)), (LL.vals (declared (lftB κs)) (laws (lftB κs)), (bool-vals, (LL.vals Cache.the-type Cache′.the-laws, tt))))))
-      (λ κs. (LL.tells Pose.the-type Pose′.the-laws, (LL.tells (declared (lftA κs)) (laws (lftA κs)), (LL.tells (declared (lftB κs)) (laws (lftB κs)), (bool-tells, (LL.tells Cache.the-type Cache′.the-laws, tt))))))
+      (λ κs. (
+        LL.vals Pose.the-type Pose′.the-laws,
+        (
+          LL.vals (declared (lftA κs)) (laws (lftA κs)),
+          (LL.vals (declared (lftB κs)) (laws (lftB κs)), (bool-vals, (LL.vals Cache.the-type Cache′.the-laws, tt))),
+        ),
+      ))
+      (λ κs. (
+        LL.tells Pose.the-type Pose′.the-laws,
+        (
+          LL.tells (declared (lftA κs)) (laws (lftA κs)),
+          (LL.tells (declared (lftB κs)) (laws (lftB κs)), (bool-tells, (LL.tells Cache.the-type Cache′.the-laws, tt))),
+        ),
+      ))
       (λ κs qs bounds a g are. via 𝓤 _ (fst∗ 𝓤 _ (emp 𝓤))
       (walk 𝓤 H A W mem run (κs .0) (κs .1 .0) (qs .0) (qs .1 .0) (a .0) (a .1 .0) (a .1 .1 .0) (a .1 .1 .1 .0) (a .1 .1 .1 .1 .0) (are .0) (are .1 .0) (are .1 .1 .0) (are .1 .1 .1 .0) (are .1 .1 .1 .1 .0) (𝓣 .C) (𝓣 .Λ) (fmOf 𝓤 H (W .laws) 𝓣) known))
 
   distance-meets : Meets 𝓤 H A f.signature (WpFn 𝓤 H (𝓣 .C) (𝓣 .Λ) code.function) (f.spec 𝓤 H A mem run)
-  distance-meets = walk-meets 𝓤 H A f.ended stayed W
-      (goes-none 𝓤 H A W 2 (λ _. Pose.the-row) yes (λ κs x f. refl), (goes-none 𝓤 H A W 2 ProxyA yes (λ κs x f. refl), (goes-none 𝓤 H A W 2 ProxyB yes (λ κs x f. refl), (goes-none 𝓤 H A W 2 (λ _. bool) yes (λ κs x f. refl), (goes-none 𝓤 H A W 2 (λ _. Cache.the-row) yes (λ κs x f. refl), tt)))))
+  distance-meets = walk-meets 𝓤 H A f.ended stayed W (
+    goes-none 𝓤 H A W 2 (λ _. Pose.the-row) yes (λ κs x f. refl),
+    (
+      goes-none 𝓤 H A W 2 ProxyA yes (λ κs x f. refl),
+      (
+        goes-none 𝓤 H A W 2 ProxyB yes (λ κs x f. refl),
+        (goes-none 𝓤 H A W 2 (λ _. bool) yes (λ κs x f. refl), (goes-none 𝓤 H A W 2 (λ _. Cache.the-row) yes (λ κs x f. refl), tt)),
+      ),
+    ),
+  )
       (f.clauses 𝓤 H A mem run) (WpFn 𝓤 H (𝓣 .C) (𝓣 .Λ) code.function) (WpFn-mono 𝓤 H (W .laws) 𝓣 code.function) distance-walks
 
 pub proxy-distance-spec : {M : Type 1} → stated.statement M

@@ -48,35 +48,52 @@ B κs = Proxy (lft κs)
 abbrev stayed : Stays (radius.ended .signature .params) (radius.ended .kept)
 stayed = (stay-none B yes, tt)
 
-module _ {M : Type 1} (𝓤 : URA M) (H : Heap 𝓤) (A : Atoms 𝓤) (W : Given 𝓤 H A) (mem : Memory → SProp 𝓤) (run : Routine → Fun 𝓤) (κ : Lft) (q : Share) (d : ToiProxy) where
+module _ {M : Type 1} (𝓤 : URA M) (H : Heap 𝓤) (A : Atoms 𝓤) (W : Given 𝓤 H A) (mem : Memory → SProp 𝓤) (run : Routine → Fun 𝓤) (κ : Lft) (q : Share)
+    (d : ToiProxy) where
   abbrev α : NamedLft
   α = lft (κ, tt)
 
   abbrev Post : Val → SProp 𝓤
   Post = walkOf 𝓤 H A radius.ended stayed (radius.clauses 𝓤 H A mem run) .post (((κ, tt), (q, tt), tt, (d, tt), (proxyVal d ∷ [], tt)), tt)
 
-  exits : fits binary32 (d .radius) ≡ true → ent 𝓤 (onEntry 𝓤 H A radius.signature (κ, tt) (q, tt) (d, tt) (proxyVal d ∷ [], tt)) (Post (vfloat binary32 (d .radius)))
+  exits : fits binary32 (d .radius) ≡ true
+      → ent 𝓤 (onEntry 𝓤 H A radius.signature (κ, tt) (q, tt) (d, tt) (proxyVal d ∷ [], tt)) (Post (vfloat binary32 (d .radius)))
   exits fit =
       qed W ((‵ (flft κ q) ⊛ ‵ ftrue) ∷ ‵ (owns (B (κ, tt) ∷ []) (d, tt) (proxyVal d ∷ [], tt)) ∷ []) ∵
-      suffices ! _ (ends-at 𝓤 H A radius.ended stayed (radius.clauses 𝓤 H A mem run) W (((κ, tt), (q, tt), tt, (d, tt), (proxyVal d ∷ [], tt)), tt) (vfloat binary32 (d .radius)) (d .radius) (tt, tt) (tt, tt)) $ says ! refl $
+      suffices ! _ (ends-at 𝓤 H A radius.ended stayed (radius.clauses 𝓤 H A mem run) W (
+        ((κ, tt), (q, tt), tt, (d, tt), (proxyVal d ∷ [], tt)),
+        tt,
+      ) (vfloat binary32 (d .radius)) (d .radius) (tt, tt) (tt, tt)) $ says ! refl $
       frame ! $ frame ! $ owned ! f32 (Is f32) (float-makes 𝓤 H A W binary32) (d .radius) _ (refl, fit) $ done !
 
   module _ (C : Calls 𝓤 H) (Λ : Loops 𝓤 H) where
-    walk : Is (B (κ, tt)) d (proxyVal d ∷ []) → ent 𝓤 (onEntry 𝓤 H A radius.signature (κ, tt) (q, tt) (d, tt) (proxyVal d ∷ [], tt)) (WpFn 𝓤 H C Λ code.function (proxyVal d ∷ []) Post)
+    walk : Is (B (κ, tt)) d (proxyVal d ∷ [])
+        → ent 𝓤 (onEntry 𝓤 H A radius.signature (κ, tt) (q, tt) (d, tt) (proxyVal d ∷ [], tt)) (WpFn 𝓤 H C Λ code.function (proxyVal d ∷ []) Post)
     walk p =
         qed W ((‵ (flft κ q) ⊛ ‵ ftrue) ∷ ‵ (owns (B (κ, tt) ∷ []) (d, tt) (proxyVal d ∷ [], tt)) ∷ []) ∵ enter ! C Λ code.function (proxyVal d ∷ []) _ $
         alloc1 ! (λ l₀. alloc1 ! (λ l₁. alloc0 ! $ params1 ! $ pass1 ! (init ! 0 refl (typed α 𝓤 H A W d p)) $ pass0 ! $
-        assigns ! (of-opd ! (load ! (from ! (fld ! refl (stop !))) (look-in ! 0 (sub ! 1 refl (whole !))))) (from ! (stop !)) (init ! 2 refl (tt, typed α 𝓤 H A W d p .1 .1 .0)) $
+        assigns ! (of-opd ! (load ! (from ! (fld ! refl (stop !))) (look-in ! 0 (sub ! 1 refl (whole !))))) (from ! (stop !)) (init ! 2 refl (
+          tt,
+          typed α 𝓤 H A W d p .1 .1 .0,
+        )) $
         returns ! (look ! 2 refl) $ forget ! 0 refl $ forget ! 2 refl $ move ! (2 ∷ 3 ∷ []) $ free1 ! $ free1 ! $ free0 ! $ by ! (exits (radius-fits α d p))))
 
 module _ {M : Type 1} (𝓤 : URA M) (H : Heap 𝓤) (A : Atoms 𝓤) (W : Given 𝓤 H A) (mem : Memory → SProp 𝓤) (run : Routine → Fun 𝓤) where
   radius-walks : (C : Calls 𝓤 H) (Λ : Loops 𝓤 H) → Walks 𝓤 H A radius.ended stayed (WpFn 𝓤 H C Λ code.function) (radius.clauses 𝓤 H A mem run)
-  radius-walks C Λ = walked 𝓤 H A radius.ended stayed (radius.clauses 𝓤 H A mem run) (WpFn 𝓤 H C Λ code.function) (λ κs. (LL.vals (declared (lft κs)) (laws (lft κs)), tt)) (λ κs. (LL.tells (declared (lft κs)) (laws (lft κs)), tt))
+  radius-walks C Λ = walked 𝓤 H A radius.ended stayed (radius.clauses 𝓤 H A mem run) (WpFn 𝓤 H C Λ code.function) (λ κs. (
+    LL.vals (declared (lft κs)) (laws (lft κs)),
+    tt,
+  )) (λ κs. (LL.tells (declared (lft κs)) (laws (lft κs)), tt))
       (λ κs qs bounds a g are. via 𝓤 _ (fst∗ 𝓤 _ (emp 𝓤)) (walk 𝓤 H A W mem run (κs .0) (qs .0) (a .0) C Λ (are .0)))
 
 radius-meets : {M : Type 1} (𝓤 : URA M) (H : Heap 𝓤) (A : Atoms 𝓤) → Given 𝓤 H A → (mem : Memory → SProp 𝓤) (run : Routine → Fun 𝓤) (𝓣 : Tables 𝓤 H)
     → Meets 𝓤 H A radius.signature (WpFn 𝓤 H (𝓣 .C) (𝓣 .Λ) code.function) (radius.spec 𝓤 H A mem run)
-radius-meets 𝓤 H A W mem run 𝓣 = walk-meets 𝓤 H A radius.ended stayed W (goes-none 𝓤 H A W 1 B yes (λ κs x f. refl), tt) (radius.clauses 𝓤 H A mem run) (WpFn 𝓤 H (𝓣 .C) (𝓣 .Λ) code.function) (WpFn-mono 𝓤 H (W .laws) 𝓣 code.function) (radius-walks 𝓤 H A W mem run (𝓣 .C) (𝓣 .Λ))
+radius-meets 𝓤 H A W mem run 𝓣 =
+    walk-meets 𝓤 H A radius.ended stayed W (
+      goes-none 𝓤 H A W 1 B yes (λ κs x f. refl),
+      tt,
+    ) (radius.clauses 𝓤 H A mem run) (WpFn 𝓤 H (𝓣 .C) (𝓣 .Λ) code.function) (WpFn-mono 𝓤 H (W .laws) 𝓣 code.function) (radius-walks 𝓤 H A W mem run (𝓣 .C)
+    (𝓣 .Λ))
 
 pub radius-spec : {M : Type 1} → stated.statement M
 unfolding code.routine tablesOf

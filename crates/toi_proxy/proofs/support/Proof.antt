@@ -71,7 +71,8 @@ module _ {M : Type 1} (𝓤 : URA M) (H : Heap 𝓤) (A : Atoms 𝓤) (mem : Mem
   abbrev Core : Contract 𝓤
   Core = tripleOf 𝓤 H A core.signature (core.spec 𝓤 H A mem run)
 
-module _ {M : Type 1} (𝓤 : URA M) (H : Heap 𝓤) (A : Atoms 𝓤) (W : Given 𝓤 H A) (mem : Memory → SProp 𝓤) (run : Routine → Fun 𝓤) (κ : Lft) (q : Share) (d : ToiProxy) (w : Vector) where
+module _ {M : Type 1} (𝓤 : URA M) (H : Heap 𝓤) (A : Atoms 𝓤) (W : Given 𝓤 H A) (mem : Memory → SProp 𝓤) (run : Routine → Fun 𝓤) (κ : Lft) (q : Share)
+    (d : ToiProxy) (w : Vector) where
   abbrev α : NamedLft
   α = lft (κ, tt)
 
@@ -106,39 +107,60 @@ module _ {M : Type 1} (𝓤 : URA M) (H : Heap 𝓤) (A : Atoms 𝓤) (W : Given
   said : (r : SupportAnswer) → ent 𝓤 (ensured 𝓤 H A core.ended (core.clauses 𝓤 H A mem run) (κ, tt) (d .points, (w, tt)) tt r) (fact 𝓤 (r ≡ answer))
   said r = exE 𝓤 _ (λ ws. snd∗ 𝓤 (sem 𝓤 H A (lasts core.ended (κ, tt) (d .points, (w, tt)) ws)) (fact 𝓤 (r ≡ answer)))
 
-  exits : Is Vec.the-row w (vectorVal w ∷ []) → (r : SupportAnswer) (u : Val) → r ≡ answer → ent 𝓤 (⋆ 𝓤 H A (‵ (S.the-row .own r (u ∷ [])) ∷ (‵ (flft κ q) ⊛ ‵ ftrue) ∷ ‵ (Own α d) ∷ [])) (Post u)
+  exits : Is Vec.the-row w (vectorVal w ∷ []) → (r : SupportAnswer) (u : Val) → r ≡ answer
+      → ent 𝓤 (⋆ 𝓤 H A (‵ (S.the-row .own r (u ∷ [])) ∷ (‵ (flft κ q) ⊛ ‵ ftrue) ∷ ‵ (Own α d) ∷ [])) (Post u)
   exits iw r u e =
       qed W (‵ (S.the-row .own r (u ∷ [])) ∷ (‵ (flft κ q) ⊛ ‵ ftrue) ∷ ‵ (Own α d) ∷ []) ∵
-      suffices ! _ (ends-at 𝓤 H A support.ended stayed (support.clauses 𝓤 H A mem run) W (((κ, tt), (q, tt), tt, (d, (w, tt)), at), tt) u r (tt, (tt, tt)) (tt, (tt, tt))) $ says ! e $
-      move ! (1 ∷ []) $ frame ! $ nothing ! $ owned ! Vec.the-row (Is Vec.the-row) (LL.makes Vec.the-type Vec′.the-plain 𝓤 H A) w _ iw $ fjoin ! $ move ! (2 ∷ 0 ∷ []) $ fjoin ! $ frame ! $ done !
+      suffices ! _ (ends-at 𝓤 H A support.ended stayed (support.clauses 𝓤 H A mem run) W (
+        ((κ, tt), (q, tt), tt, (d, (w, tt)), at),
+        tt,
+      ) u r (tt, (tt, tt)) (tt, (tt, tt))) $ says ! e $
+      move ! (1 ∷ []) $ frame ! $ nothing ! $ owned ! Vec.the-row (Is Vec.the-row) (LL.makes Vec.the-type Vec′.the-plain 𝓤 H A) w _ iw $ fjoin ! $ move !
+      (2 ∷ 0 ∷ []) $ fjoin ! $ frame ! $ done !
 
   module _ (C : Calls 𝓤 H) (Λ : Loops 𝓤 H) (fm : FmC 𝓤 H (W .laws) C) (known : Triple 𝓤 (C #core) (Core 𝓤 H A mem run)) where
-    walk : Is (B (κ, tt)) d (proxyVal d ∷ []) → Is Vec.the-row w (vectorVal w ∷ []) → ent 𝓤 (onEntry 𝓤 H A support.signature (κ, tt) (q, tt) (d, (w, tt)) at) (WpFn 𝓤 H C Λ code.function (proxyVal d ∷ vectorVal w ∷ []) Post)
+    walk : Is (B (κ, tt)) d (proxyVal d ∷ []) → Is Vec.the-row w (vectorVal w ∷ [])
+        → ent 𝓤 (onEntry 𝓤 H A support.signature (κ, tt) (q, tt) (d, (w, tt)) at) (WpFn 𝓤 H C Λ code.function (proxyVal d ∷ vectorVal w ∷ []) Post)
     walk p iw =
         qed W (raw (onEntry 𝓤 H A support.signature (κ, tt) (q, tt) (d, (w, tt)) at) ∷ []) ∵ enter ! C Λ code.function (proxyVal d ∷ vectorVal w ∷ []) _ $
         alloc1 ! (λ l₀. alloc1 ! (λ l₁. alloc1 ! (λ l₂. alloc1 ! (λ l₃. alloc0 ! $ params1 ! $ pass1 ! (init ! 4 refl (typed α 𝓤 H A W d p)) $ pass1 ! (init ! 2 refl (LL.lawful Vec.the-type Vec′.the-laws 𝓤 H A W .typed w _ iw .0)) $ pass0 ! $
-        assigns ! (of-opd ! (load ! (from ! (fld ! refl (stop !))) (look-in ! 4 (sub ! 0 refl (whole !))))) (from ! (stop !)) (init ! 0 refl (tt, typed α 𝓤 H A W d p .1 .0)) $
+        assigns ! (of-opd ! (load ! (from ! (fld ! refl (stop !))) (look-in ! 4 (sub ! 0 refl (whole !))))) (from ! (stop !)) (init ! 0 refl (
+          tt,
+          typed α 𝓤 H A W d p .1 .0,
+        )) $
         move ! (8 ∷ []) $ use1 W (raw (Core 𝓤 H A mem run .pre to) ⊛ ‵ (Own α d)) goes $ split ! $
         -- [what the callee asks; what the proxy owns; _3; …; _2; …; _1; …; room for _0; …]
-        calls-at ! fm (Core 𝓤 H A mem run) known to (and-then ! (load ! (from ! (stop !)) (look ! 2 refl)) (and-then ! (load ! (from ! (stop !)) (look ! 4 refl)) (no-more !))) (λ u.
-        use1 W (later (some (λ (r : SupportAnswer). ((‵ (flft κ q) ⊛ ‵ ftrue) ⊛ ‵ (S.the-row .own r (u ∷ []))) ⊛ raw (ensured 𝓤 H A core.ended (core.clauses 𝓤 H A mem run) (κ, tt) (d .points, (w, tt)) tt r)))) (id⊢ 𝓤 _) $ await ! tt $ pick ! (λ r.
+        calls-at ! fm (Core 𝓤 H A mem run) known to
+        (and-then ! (load ! (from ! (stop !)) (look ! 2 refl)) (and-then ! (load ! (from ! (stop !)) (look ! 4 refl)) (no-more !))) (λ u.
+        use1 W (later (some (λ (r : SupportAnswer). ((‵ (flft κ q) ⊛ ‵ ftrue) ⊛ ‵ (S.the-row .own r (u ∷ []))) ⊛ raw (ensured 𝓤 H A core.ended (core.clauses 𝓤 H A mem run) (
+          κ,
+          tt,
+        ) (d .points, (w, tt)) tt r)))) (id⊢ 𝓤 _) $ await ! tt $ pick ! (λ r.
         split ! $ move ! (1 ∷ []) $ use1 W (raw (fact 𝓤 (r ≡ answer))) (said r) $ heard ! (r ≡ answer) (λ e. split ! $ move ! (1 ∷ []) $
         -- [the result; the token; what the proxy owns; _3; …; _2; …; _1; …; room for _0; …]
         peeks ! S.the-row (Is S.the-row) (shows 𝓤 H A S.the-row) r (u ∷ []) (λ is.
         land ! (from ! (stop !)) (init ! 9 refl (EL.lawful S.the-type S′.the-laws 𝓤 H A W tt .typed r _ is .0)) $
         returns ! (look ! 9 refl) $ forget ! 3 refl $ forget ! 5 refl $ forget ! 7 refl $ forget ! 9 refl $
-        move ! (9 ∷ 10 ∷ []) $ free1 ! $ move ! (7 ∷ 8 ∷ []) $ free1 ! $ move ! (5 ∷ 6 ∷ []) $ free1 ! $ move ! (3 ∷ 4 ∷ []) $ free1 ! $ free0 ! $ by ! (exits iw r u e)))))))))
+        move ! (9 ∷ 10 ∷ []) $ free1 ! $ move ! (7 ∷ 8 ∷ []) $ free1 ! $ move ! (5 ∷ 6 ∷ []) $ free1 ! $ move ! (3 ∷ 4 ∷ []) $ free1 ! $ free0 ! $ by !
+        (exits iw r u e)))))))))
 
 module _ {M : Type 1} (𝓤 : URA M) (H : Heap 𝓤) (A : Atoms 𝓤) (W : Given 𝓤 H A) (mem : Memory → SProp 𝓤) (run : Routine → Fun 𝓤) where
   support-walks : (C : Calls 𝓤 H) (Λ : Loops 𝓤 H) → FmC 𝓤 H (W .laws) C → Triple 𝓤 (C #core) (Core 𝓤 H A mem run)
       → Walks 𝓤 H A support.ended stayed (WpFn 𝓤 H C Λ code.function) (support.clauses 𝓤 H A mem run)
-  support-walks C Λ fm known = walked 𝓤 H A support.ended stayed (support.clauses 𝓤 H A mem run) (WpFn 𝓤 H C Λ code.function) (λ κs. (LL.vals (declared (lft κs)) (laws (lft κs)), (LL.vals Vec.the-type Vec′.the-laws, tt))) (λ κs. (LL.tells (declared (lft κs)) (laws (lft κs)), (LL.tells Vec.the-type Vec′.the-laws, tt)))
+  support-walks C Λ fm known = walked 𝓤 H A support.ended stayed (support.clauses 𝓤 H A mem run) (WpFn 𝓤 H C Λ code.function) (λ κs. (
+    LL.vals (declared (lft κs)) (laws (lft κs)),
+    (LL.vals Vec.the-type Vec′.the-laws, tt),
+  )) (λ κs. (LL.tells (declared (lft κs)) (laws (lft κs)), (LL.tells Vec.the-type Vec′.the-laws, tt)))
       (λ κs qs bounds a g are. via 𝓤 _ (fst∗ 𝓤 _ (emp 𝓤)) (walk 𝓤 H A W mem run (κs .0) (qs .0) (a .0) (a .1 .0) C Λ fm known (are .0) (are .1 .0)))
 
 support-meets : {M : Type 1} (𝓤 : URA M) (H : Heap 𝓤) (A : Atoms 𝓤) (W : Given 𝓤 H A) (mem : Memory → SProp 𝓤) (run : Routine → Fun 𝓤) (𝓣 : Tables 𝓤 H)
     → Triple 𝓤 (𝓣 .C #core) (Core 𝓤 H A mem run)
     → Meets 𝓤 H A support.signature (WpFn 𝓤 H (𝓣 .C) (𝓣 .Λ) code.function) (support.spec 𝓤 H A mem run)
-support-meets 𝓤 H A W mem run 𝓣 known = walk-meets 𝓤 H A support.ended stayed W (goes-none 𝓤 H A W 1 B yes (λ κs x f. refl), (goes-none 𝓤 H A W 1 (λ _. Vec.the-row) yes (λ κs x f. refl), tt)) (support.clauses 𝓤 H A mem run) (WpFn 𝓤 H (𝓣 .C) (𝓣 .Λ) code.function) (WpFn-mono 𝓤 H (W .laws) 𝓣 code.function)
+support-meets 𝓤 H A W mem run 𝓣 known =
+    walk-meets 𝓤 H A support.ended stayed W (
+      goes-none 𝓤 H A W 1 B yes (λ κs x f. refl),
+      (goes-none 𝓤 H A W 1 (λ _. Vec.the-row) yes (λ κs x f. refl), tt),
+    ) (support.clauses 𝓤 H A mem run) (WpFn 𝓤 H (𝓣 .C) (𝓣 .Λ) code.function) (WpFn-mono 𝓤 H (W .laws) 𝓣 code.function)
     (support-walks 𝓤 H A W mem run (𝓣 .C) (𝓣 .Λ) (fmOf 𝓤 H (W .laws) 𝓣) known)
 
 pub support-spec : {M : Type 1} → stated.statement M

@@ -56,7 +56,13 @@ use Rattle.toi_proxy.proofs.sweep_time_of_impact.Statement as stated
 use Rattle.toi_proxy.proofs.sweep_time_of_impact.Code as code
 
 abbrev stayed : Stays (f.ended .signature .params) (f.ended .kept)
-stayed = (stay-none ProxyA yes, (stay-none (λ _. Sweep.the-row) yes, (stay-none ProxyB yes, (stay-none (λ _. Sweep.the-row) yes, (stay-none (λ _. f32) yes, (stay-none (λ _. f32) yes, tt))))))
+stayed = (
+  stay-none ProxyA yes,
+  (
+    stay-none (λ _. Sweep.the-row) yes,
+    (stay-none ProxyB yes, (stay-none (λ _. Sweep.the-row) yes, (stay-none (λ _. f32) yes, (stay-none (λ _. f32) yes, tt)))),
+  ),
+)
 
 abbrev sweepVal : Sweep → Val
 sweepVal w = LL.val Sweep.the-type Sweep′.the-laws w
@@ -66,8 +72,18 @@ module _ {M : Type 1} (𝓤 : URA M) (H : Heap 𝓤) (A : Atoms 𝓤) (mem : Mem
   abbrev Core : Contract 𝓤
   Core = tripleOf 𝓤 H A core.signature (core.spec 𝓤 H A mem run)
 
-module _ {M : Type 1} (𝓤 : URA M) (H : Heap 𝓤) (A : Atoms 𝓤) (W : Given 𝓤 H A) (mem : Memory → SProp 𝓤) (run : Routine → Fun 𝓤) (κ κ′ : Lft) (q q′ : Share) (a : ToiProxy) (wa : Sweep) (b : ToiProxy) (wb : Sweep) (last slop : Float)
-    (ia : Is (ProxyA (κ, (κ′, tt))) a (proxyVal a ∷ [])) (iwa : Is Sweep.the-row wa (sweepVal wa ∷ [])) (ib : Is (ProxyB (κ, (κ′, tt))) b (proxyVal b ∷ [])) (iwb : Is Sweep.the-row wb (sweepVal wb ∷ [])) (il : fits binary32 last ≡ true) (is : fits binary32 slop ≡ true) where
+module _ {M : Type 1} (𝓤 : URA M) (H : Heap 𝓤) (A : Atoms 𝓤) (W : Given 𝓤 H A) (mem : Memory → SProp 𝓤) (run : Routine → Fun 𝓤) (κ κ′ : Lft) (q q′ : Share)
+    (a : ToiProxy) (wa : Sweep) (b : ToiProxy) (wb : Sweep) (last slop : Float)
+    (ia : Is (ProxyA (
+      κ,
+      (κ′, tt),
+    )) a (proxyVal a ∷ [])) (iwa : Is Sweep.the-row wa (sweepVal wa ∷ [])) (ib : Is (ProxyB (
+      κ,
+      (
+        κ′,
+        tt,
+      ),
+    )) b (proxyVal b ∷ [])) (iwb : Is Sweep.the-row wb (sweepVal wb ∷ [])) (il : fits binary32 last ≡ true) (is : fits binary32 slop ≡ true) where
   abbrev κs : Lfts 2
   κs = (κ, (κ′, tt))
 
@@ -100,7 +116,16 @@ module _ {M : Type 1} (𝓤 : URA M) (H : Heap 𝓤) (A : Atoms 𝓤) (W : Given
   given = (a .points, (a .radius, (wa, (b .points, (b .radius, (wb, (last, (slop, tt))))))))
 
   abbrev passed : Vals core.signature κs
-  passed = (listVal a ∷ [], (vfloat binary32 (a .radius) ∷ [], (sweepVal wa ∷ [], (listVal b ∷ [], (vfloat binary32 (b .radius) ∷ [], (sweepVal wb ∷ [], (vfloat binary32 last ∷ [], (vfloat binary32 slop ∷ [], tt))))))))
+  passed = (
+    listVal a ∷ [],
+    (
+      vfloat binary32 (a .radius) ∷ [],
+      (
+        sweepVal wa ∷ [],
+        (listVal b ∷ [], (vfloat binary32 (b .radius) ∷ [], (sweepVal wb ∷ [], (vfloat binary32 last ∷ [], (vfloat binary32 slop ∷ [], tt))))),
+      ),
+    ),
+  )
 
   abbrev to : Core 𝓤 H A mem run .Ghost
   to = ((κs, qs, tt, given, passed), tt)
@@ -119,9 +144,20 @@ module _ {M : Type 1} (𝓤 : URA M) (H : Heap 𝓤) (A : Atoms 𝓤) (W : Given
       -- [what B owns; what A owns; the tokens]
       use1 W (‵ (Lent β b) ⊛ ‵ (Own β b)) (lends β 𝓤 H A W b) $ split ! $ move ! (2 ∷ []) $ use1 W (‵ (Lent α a) ⊛ ‵ (Own α a)) (lends α 𝓤 H A W a) $ split ! $
       -- [A's list; A; B's list; B; the tokens]
-      nothing ! $ owned ! f32 (Is f32) (float-makes 𝓤 H A W binary32) slop _ (refl, is) $ fjoin ! $ owned ! f32 (Is f32) (float-makes 𝓤 H A W binary32) last _ (refl, il) $ fjoin ! $
-      owned ! Sweep.the-row (Is Sweep.the-row) (LL.makes Sweep.the-type Sweep′.the-plain 𝓤 H A) wb _ iwb $ fjoin ! $ owned ! f32 (Is f32) (float-makes 𝓤 H A W binary32) (b .radius) _ (refl, radius-fits β b ib) $ fjoin ! $ move ! (3 ∷ 0 ∷ []) $ fjoin ! $
-      owned ! Sweep.the-row (Is Sweep.the-row) (LL.makes Sweep.the-type Sweep′.the-plain 𝓤 H A) wa _ iwa $ fjoin ! $ owned ! f32 (Is f32) (float-makes 𝓤 H A W binary32) (a .radius) _ (refl, radius-fits α a ia) $ fjoin ! $ move ! (1 ∷ 0 ∷ []) $ fjoin ! $
+      nothing ! $ owned ! f32 (Is f32) (float-makes 𝓤 H A W binary32) slop _ (
+        refl,
+        is,
+      ) $ fjoin ! $ owned ! f32 (Is f32) (float-makes 𝓤 H A W binary32) last _ (refl, il) $ fjoin ! $
+      owned ! Sweep.the-row (Is Sweep.the-row) (LL.makes Sweep.the-type Sweep′.the-plain 𝓤 H A) wb _ iwb $ fjoin ! $ owned ! f32 (Is f32)
+      (float-makes 𝓤 H A W binary32) (b .radius) _ (
+        refl,
+        radius-fits β b ib,
+      ) $ fjoin ! $ move ! (3 ∷ 0 ∷ []) $ fjoin ! $
+      owned ! Sweep.the-row (Is Sweep.the-row) (LL.makes Sweep.the-type Sweep′.the-plain 𝓤 H A) wa _ iwa $ fjoin ! $ owned ! f32 (Is f32)
+      (float-makes 𝓤 H A W binary32) (a .radius) _ (
+        refl,
+        radius-fits α a ia,
+      ) $ fjoin ! $ move ! (1 ∷ 0 ∷ []) $ fjoin ! $
       -- [what the callee's arguments own; A; B; the tokens]
       move ! (3 ∷ 0 ∷ []) $ use2 W (raw (Core 𝓤 H A mem run .pre to)) asked $ move ! (1 ∷ 2 ∷ []) $ join ! $ move ! (1 ∷ []) $ frame ! $ done !
 
@@ -132,23 +168,44 @@ module _ {M : Type 1} (𝓤 : URA M) (H : Heap 𝓤) (A : Atoms 𝓤) (W : Given
   exits : (r : SweepAnswer) (u : Val) → r ≡ answer → ent 𝓤 (⋆ 𝓤 H A (‵ (Answer.the-row .own r (u ∷ [])) ∷ tokens ∷ (‵ (Own α a) ⊛ ‵ (Own β b)) ∷ [])) (Post u)
   exits r u e =
       qed W (‵ (Answer.the-row .own r (u ∷ [])) ∷ tokens ∷ (‵ (Own α a) ⊛ ‵ (Own β b)) ∷ []) ∵
-      suffices ! _ (ends-at 𝓤 H A f.ended stayed (f.clauses 𝓤 H A mem run) W ((κs, qs, tt, args, at), tt) u r (tt, (tt, (tt, (tt, (tt, (tt, tt)))))) (tt, (tt, (tt, (tt, (tt, (tt, tt))))))) $ says ! e $
+      suffices ! _ (ends-at 𝓤 H A f.ended stayed (f.clauses 𝓤 H A mem run) W (
+        (κs, qs, tt, args, at),
+        tt,
+      ) u r (tt, (tt, (tt, (tt, (tt, (tt, tt)))))) (tt, (tt, (tt, (tt, (tt, (tt, tt))))))) $ says ! e $
       move ! (1 ∷ []) $ frame ! $ move ! (1 ∷ []) $ split ! $
       -- [A; B; the result]
-      nothing ! $ owned ! f32 (Is f32) (float-makes 𝓤 H A W binary32) slop _ (refl, is) $ fjoin ! $ owned ! f32 (Is f32) (float-makes 𝓤 H A W binary32) last _ (refl, il) $ fjoin ! $ owned ! Sweep.the-row (Is Sweep.the-row) (LL.makes Sweep.the-type Sweep′.the-plain 𝓤 H A) wb _ iwb $ fjoin ! $
-      move ! (2 ∷ 0 ∷ []) $ fjoin ! $ owned ! Sweep.the-row (Is Sweep.the-row) (LL.makes Sweep.the-type Sweep′.the-plain 𝓤 H A) wa _ iwa $ fjoin ! $ move ! (1 ∷ 0 ∷ []) $ fjoin ! $ frame ! $ done !
+      nothing ! $ owned ! f32 (Is f32) (float-makes 𝓤 H A W binary32) slop _ (
+        refl,
+        is,
+      ) $ fjoin ! $ owned ! f32 (Is f32) (float-makes 𝓤 H A W binary32) last _ (refl, il) $ fjoin ! $ owned ! Sweep.the-row (Is Sweep.the-row) (LL.makes Sweep.the-type Sweep′.the-plain 𝓤 H A) wb _ iwb $ fjoin ! $
+      move ! (2 ∷ 0 ∷ []) $ fjoin ! $ owned ! Sweep.the-row (Is Sweep.the-row) (LL.makes Sweep.the-type Sweep′.the-plain 𝓤 H A) wa _ iwa $ fjoin ! $ move !
+      (1 ∷ 0 ∷ []) $ fjoin ! $ frame ! $ done !
 
   module _ (C : Calls 𝓤 H) (Λ : Loops 𝓤 H) (fm : FmC 𝓤 H (W .laws) C) (known : Triple 𝓤 (C #core) (Core 𝓤 H A mem run)) where
     walk : ent 𝓤 (onEntry 𝓤 H A f.signature κs qs args at) (WpFn 𝓤 H C Λ code.function machine Post)
     walk =
         qed W (raw (onEntry 𝓤 H A f.signature κs qs args at) ∷ []) ∵ enter ! C Λ code.function machine _ $
         alloc1 ! (λ l₀. alloc1 ! (λ l₁. alloc1 ! (λ l₂. alloc1 ! (λ l₃. alloc1 ! (λ l₄. alloc1 ! (λ l₅. alloc1 ! (λ l₆. alloc1 ! (λ l₇. alloc1 ! (λ l₈. alloc1 ! (λ l₉. alloc1 ! (λ l₁₀. alloc0 ! $ params1 ! $
-        pass1 ! (init ! 18 refl (typed α 𝓤 H A W a ia)) $ pass1 ! (init ! 16 refl (LL.lawful Sweep.the-type Sweep′.the-laws 𝓤 H A W .typed wa _ iwa .0)) $ pass1 ! (init ! 14 refl (typed β 𝓤 H A W b ib)) $ pass1 ! (init ! 12 refl (LL.lawful Sweep.the-type Sweep′.the-laws 𝓤 H A W .typed wb _ iwb .0)) $
+        pass1 ! (init ! 18 refl (typed α 𝓤 H A W a ia)) $ pass1 !
+        (init ! 16 refl (LL.lawful Sweep.the-type Sweep′.the-laws 𝓤 H A W .typed wa _ iwa .0)) $ pass1 ! (init ! 14 refl (typed β 𝓤 H A W b ib)) $ pass1 !
+        (init ! 12 refl (LL.lawful Sweep.the-type Sweep′.the-laws 𝓤 H A W .typed wb _ iwb .0)) $
         pass1 ! (init ! 10 refl (tt, passes _ il)) $ pass1 ! (init ! 8 refl (tt, passes _ is)) $ pass0 ! $
-        assigns ! (of-opd ! (load ! (from ! (fld ! refl (stop !))) (look-in ! 18 (sub ! 0 refl (whole !))))) (from ! (stop !)) (init ! 6 refl (tt, typed α 𝓤 H A W a ia .1 .0)) $
-        assigns ! (of-opd ! (load ! (from ! (fld ! refl (stop !))) (look-in ! 18 (sub ! 1 refl (whole !))))) (from ! (stop !)) (init ! 4 refl (tt, typed α 𝓤 H A W a ia .1 .1 .0)) $
-        assigns ! (of-opd ! (load ! (from ! (fld ! refl (stop !))) (look-in ! 14 (sub ! 0 refl (whole !))))) (from ! (stop !)) (init ! 2 refl (tt, typed β 𝓤 H A W b ib .1 .0)) $
-        assigns ! (of-opd ! (load ! (from ! (fld ! refl (stop !))) (look-in ! 14 (sub ! 1 refl (whole !))))) (from ! (stop !)) (init ! 0 refl (tt, typed β 𝓤 H A W b ib .1 .1 .0)) $
+        assigns ! (of-opd ! (load ! (from ! (fld ! refl (stop !))) (look-in ! 18 (sub ! 0 refl (whole !))))) (from ! (stop !)) (init ! 6 refl (
+          tt,
+          typed α 𝓤 H A W a ia .1 .0,
+        )) $
+        assigns ! (of-opd ! (load ! (from ! (fld ! refl (stop !))) (look-in ! 18 (sub ! 1 refl (whole !))))) (from ! (stop !)) (init ! 4 refl (
+          tt,
+          typed α 𝓤 H A W a ia .1 .1 .0,
+        )) $
+        assigns ! (of-opd ! (load ! (from ! (fld ! refl (stop !))) (look-in ! 14 (sub ! 0 refl (whole !))))) (from ! (stop !)) (init ! 2 refl (
+          tt,
+          typed β 𝓤 H A W b ib .1 .0,
+        )) $
+        assigns ! (of-opd ! (load ! (from ! (fld ! refl (stop !))) (look-in ! 14 (sub ! 1 refl (whole !))))) (from ! (stop !)) (init ! 0 refl (
+          tt,
+          typed β 𝓤 H A W b ib .1 .1 .0,
+        )) $
         move ! (22 ∷ []) $ use1 W (raw (Core 𝓤 H A mem run .pre to) ⊛ (‵ (Own α a) ⊛ ‵ (Own β b))) goes $ split ! $
         -- [what the callee asks; what the proxies own; _10; …; _1; …; room for _0; …]
         calls-at ! fm (Core 𝓤 H A mem run) known to
@@ -160,20 +217,46 @@ module _ {M : Type 1} (𝓤 : URA M) (H : Heap 𝓤) (A : Atoms 𝓤) (W : Given
         peeks ! Answer.the-row (Is Answer.the-row) (shows 𝓤 H A Answer.the-row) r (u ∷ []) (λ ir.
         land ! (from ! (stop !)) (init ! 23 refl (EL.lawful Answer.the-type Answer′.the-laws 𝓤 H A W tt .typed r _ ir .0)) $
         returns ! (look ! 23 refl) $ forget ! 3 refl $ forget ! 5 refl $ forget ! 7 refl $ forget ! 9 refl $ forget ! 11 refl $ forget ! 13 refl $ forget ! 15 refl $ forget ! 17 refl $ forget ! 19 refl $ forget ! 21 refl $ forget ! 23 refl $
-        move ! (23 ∷ 24 ∷ []) $ free1 ! $ move ! (21 ∷ 22 ∷ []) $ free1 ! $ move ! (19 ∷ 20 ∷ []) $ free1 ! $ move ! (17 ∷ 18 ∷ []) $ free1 ! $ move ! (15 ∷ 16 ∷ []) $ free1 ! $ move ! (13 ∷ 14 ∷ []) $ free1 ! $ move ! (11 ∷ 12 ∷ []) $ free1 ! $
-        move ! (9 ∷ 10 ∷ []) $ free1 ! $ move ! (7 ∷ 8 ∷ []) $ free1 ! $ move ! (5 ∷ 6 ∷ []) $ free1 ! $ move ! (3 ∷ 4 ∷ []) $ free1 ! $ free0 ! $ by ! (exits r u e))))))))))))))))
+        move ! (23 ∷ 24 ∷ []) $ free1 ! $ move ! (21 ∷ 22 ∷ []) $ free1 ! $ move ! (19 ∷ 20 ∷ []) $ free1 ! $ move ! (17 ∷ 18 ∷ []) $ free1 ! $ move !
+        (15 ∷ 16 ∷ []) $ free1 ! $ move ! (13 ∷ 14 ∷ []) $ free1 ! $ move ! (11 ∷ 12 ∷ []) $ free1 ! $
+        move ! (9 ∷ 10 ∷ []) $ free1 ! $ move ! (7 ∷ 8 ∷ []) $ free1 ! $ move ! (5 ∷ 6 ∷ []) $ free1 ! $ move ! (3 ∷ 4 ∷ []) $ free1 ! $ free0 ! $ by !
+        (exits r u e))))))))))))))))
 
-module _ {M : Type 1} (𝓤 : URA M) (H : Heap 𝓤) (A : Atoms 𝓤) (W : Given 𝓤 H A) (mem : Memory → SProp 𝓤) (run : Routine → Fun 𝓤) (𝓣 : Tables 𝓤 H) (known : Triple 𝓤 (𝓣 .C #core) (Core 𝓤 H A mem run)) where
+module _ {M : Type 1} (𝓤 : URA M) (H : Heap 𝓤) (A : Atoms 𝓤) (W : Given 𝓤 H A) (mem : Memory → SProp 𝓤) (run : Routine → Fun 𝓤) (𝓣 : Tables 𝓤 H)
+    (known : Triple 𝓤 (𝓣 .C #core) (Core 𝓤 H A mem run)) where
   sweep-walks : Walks 𝓤 H A f.ended stayed (WpFn 𝓤 H (𝓣 .C) (𝓣 .Λ) code.function) (f.clauses 𝓤 H A mem run)
   sweep-walks = walked 𝓤 H A f.ended stayed (f.clauses 𝓤 H A mem run) (WpFn 𝓤 H (𝓣 .C) (𝓣 .Λ) code.function)
-      (λ κs. (LL.vals (declared (lftA κs)) (laws (lftA κs)), (LL.vals Sweep.the-type Sweep′.the-laws, (LL.vals (declared (lftB κs)) (laws (lftB κs)), (LL.vals Sweep.the-type Sweep′.the-laws, (float-vals binary32, (float-vals binary32, tt)))))))
-      (λ κs. (LL.tells (declared (lftA κs)) (laws (lftA κs)), (LL.tells Sweep.the-type Sweep′.the-laws, (LL.tells (declared (lftB κs)) (laws (lftB κs)), (LL.tells Sweep.the-type Sweep′.the-laws, (float-tells binary32, (float-tells binary32, tt)))))))
+      (λ κs. (
+        LL.vals (declared (lftA κs)) (laws (lftA κs)),
+        (
+          LL.vals Sweep.the-type Sweep′.the-laws,
+          (LL.vals (declared (lftB κs)) (laws (lftB κs)), (LL.vals Sweep.the-type Sweep′.the-laws, (float-vals binary32, (float-vals binary32, tt)))),
+        ),
+      ))
+      (λ κs. (
+        LL.tells (declared (lftA κs)) (laws (lftA κs)),
+        (
+          LL.tells Sweep.the-type Sweep′.the-laws,
+          (LL.tells (declared (lftB κs)) (laws (lftB κs)), (LL.tells Sweep.the-type Sweep′.the-laws, (float-tells binary32, (float-tells binary32, tt)))),
+        ),
+      ))
       (λ κs qs bounds a g are. via 𝓤 _ (fst∗ 𝓤 _ (emp 𝓤))
       (walk 𝓤 H A W mem run (κs .0) (κs .1 .0) (qs .0) (qs .1 .0) (a .0) (a .1 .0) (a .1 .1 .0) (a .1 .1 .1 .0) (a .1 .1 .1 .1 .0) (a .1 .1 .1 .1 .1 .0) (are .0) (are .1 .0) (are .1 .1 .0) (are .1 .1 .1 .0) (are .1 .1 .1 .1 .0 .1) (are .1 .1 .1 .1 .1 .0 .1) (𝓣 .C) (𝓣 .Λ) (fmOf 𝓤 H (W .laws) 𝓣) known))
 
   sweep-meets : Meets 𝓤 H A f.signature (WpFn 𝓤 H (𝓣 .C) (𝓣 .Λ) code.function) (f.spec 𝓤 H A mem run)
-  sweep-meets = walk-meets 𝓤 H A f.ended stayed W
-      (goes-none 𝓤 H A W 2 ProxyA yes (λ κs x f. refl), (goes-none 𝓤 H A W 2 (λ _. Sweep.the-row) yes (λ κs x f. refl), (goes-none 𝓤 H A W 2 ProxyB yes (λ κs x f. refl), (goes-none 𝓤 H A W 2 (λ _. Sweep.the-row) yes (λ κs x f. refl), (goes-none 𝓤 H A W 2 (λ _. f32) yes (λ κs x f. refl), (goes-none 𝓤 H A W 2 (λ _. f32) yes (λ κs x f. refl), tt))))))
+  sweep-meets = walk-meets 𝓤 H A f.ended stayed W (
+    goes-none 𝓤 H A W 2 ProxyA yes (λ κs x f. refl),
+    (
+      goes-none 𝓤 H A W 2 (λ _. Sweep.the-row) yes (λ κs x f. refl),
+      (
+        goes-none 𝓤 H A W 2 ProxyB yes (λ κs x f. refl),
+        (
+          goes-none 𝓤 H A W 2 (λ _. Sweep.the-row) yes (λ κs x f. refl),
+          (goes-none 𝓤 H A W 2 (λ _. f32) yes (λ κs x f. refl), (goes-none 𝓤 H A W 2 (λ _. f32) yes (λ κs x f. refl), tt)),
+        ),
+      ),
+    ),
+  )
       (f.clauses 𝓤 H A mem run) (WpFn 𝓤 H (𝓣 .C) (𝓣 .Λ) code.function) (WpFn-mono 𝓤 H (W .laws) 𝓣 code.function) sweep-walks
 
 pub sweep-time-of-impact-spec : {M : Type 1} → stated.statement M

@@ -61,7 +61,16 @@ add-result-3 c = search needs
 returns-2 : tie.Need-returns-2
 returns-2 c =
     let d = c .before .before .before .before .before .before in
-    simp (c .wide4 .ensures .0, c .before .byte4 .ensures, c .before .before .wide3 .ensures .0, c .before .before .before .byte3 .ensures, c .before .before .before .before .wide2 .ensures .0, c .before .before .before .before .before .byte2 .ensures, d .wide .ensures .0, d .before .byte .ensures) (word-of-rest _ _)
+    simp (
+      c .wide4 .ensures .0,
+      c .before .byte4 .ensures,
+      c .before .before .wide3 .ensures .0,
+      c .before .before .before .byte3 .ensures,
+      c .before .before .before .before .wide2 .ensures .0,
+      c .before .before .before .before .before .byte2 .ensures,
+      d .wide .ensures .0,
+      d .before .byte .ensures,
+    ) (word-of-rest _ _)
 
 pub word-spec : {M : Type 1} → statement M
 word-spec =

@@ -30,7 +30,12 @@ told-requires c κs = search needs
 
 returns-2 : tie.Need-returns-2
 unfolding blockAnswer
-returns-2 c = simp (c .told .ensures, sym (c .before .before .before .before .before .check-block .ensures) ∙ c .before .before .before .checked .given .1, c .before .work-block .ensures)
+returns-2 c =
+    simp (
+      c .told .ensures,
+      sym (c .before .before .before .before .before .check-block .ensures) ∙ c .before .before .before .checked .given .1,
+      c .before .work-block .ensures,
+    )
 
 pub answer-block-spec : {M : Type 1} → statement M
 answer-block-spec =

@@ -45,7 +45,11 @@ loop-less : tie.Need-loop-less Inv-loop μ-loop
 loop-less c = search needs
 
 loop-again : tie.Need-loop-again Inv-loop μ-loop
-loop-again c = (search needs, search needs, floats-set _ _ _ _ _ (search needs) (c .before .before .before .loop .inv .2) (c .from-bits .ensures ∙ ap (ofBits binary32) (c .before .word .ensures)))
+loop-again c = (
+  search needs,
+  search needs,
+  floats-set _ _ _ _ _ (search needs) (c .before .before .before .loop .inv .2) (c .from-bits .ensures ∙ ap (ofBits binary32) (c .before .word .ensures)),
+)
 
 returns : tie.Need-returns Inv-loop μ-loop
 returns c = (c .before .loop .inv .1, rw (le-antisymm (c .loop-test .left) (c .before .loop .inv .0)) (c .before .loop .inv .2))

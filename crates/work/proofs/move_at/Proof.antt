@@ -39,7 +39,16 @@ turn-requires-2 c κs = search needs
 
 returns : tie.Need-returns
 unfolding moveAt
-returns c = simp (c .turn2 .ensures, c .before .point5 .ensures, c .before .before .turn .ensures, c .before .before .before .point4 .ensures, c .before .before .before .before .point3 .ensures, c .before .before .before .before .before .point2 .ensures, c .before .before .before .before .before .before .point .ensures)
+returns c =
+    simp (
+      c .turn2 .ensures,
+      c .before .point5 .ensures,
+      c .before .before .turn .ensures,
+      c .before .before .before .point4 .ensures,
+      c .before .before .before .before .point3 .ensures,
+      c .before .before .before .before .before .point2 .ensures,
+      c .before .before .before .before .before .before .point .ensures,
+    )
 
 pub move-at-spec : {M : Type 1} → statement M
 move-at-spec =

@@ -21,7 +21,14 @@ sweep-time-of-impact-requires c κs = search needs
 
 returns : tie.Need-returns
 unfolding sweepFor
-returns c = rw (c .sweep-time-of-impact .ensures, c .before .move-at2 .ensures, c .before .before .move-at .ensures, c .before .before .before .point2 .ensures, c .before .before .before .before .point .ensures)
+returns c =
+    rw (
+      c .sweep-time-of-impact .ensures,
+      c .before .move-at2 .ensures,
+      c .before .before .move-at .ensures,
+      c .before .before .before .point2 .ensures,
+      c .before .before .before .before .point .ensures,
+    )
 
 pub sweep-of-spec : {M : Type 1} → statement M
 sweep-of-spec =

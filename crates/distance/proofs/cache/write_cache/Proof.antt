@@ -9,7 +9,8 @@ use Rattle.distance.proofs.cache.write_cache.Statement.{statement}
 use Rattle.distance.proofs.cache.write_cache.Tie as tie
 
 abbrev Inv-loop : tie.InvT-loop
-Inv-loop count simplex index-a₀ index-b₀ i₀ index-a index-b i = (i ≤ count) × (index-a ≡ replaced index-a₀ i (λ j. slot simplex j .«index_a»)) × (index-b ≡ replaced index-b₀ i (λ j. slot simplex j .«index_b»))
+Inv-loop count simplex index-a₀ index-b₀ i₀ index-a index-b i = (i ≤ count) × (index-a ≡ replaced index-a₀ i (λ j. slot simplex j .«index_a»))
+    × (index-b ≡ replaced index-b₀ i (λ j. slot simplex j .«index_b»))
 
 abbrev μ-loop : tie.MeasureT-loop
 μ-loop count simplex index-a₀ index-b₀ i₀ index-a index-b i = count - i

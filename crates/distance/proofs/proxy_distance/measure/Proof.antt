@@ -31,13 +31,16 @@ write-cache-requires c κs =
     rw (c .before .before .before .before .rounds .ensures) (rounds-count-most binary32 (x .points-a .now) (x .points-b .now) (x .pos12) (x .cache))
 
 returns : tie.Need-returns
-returns c = touching-measured binary32 _ _ _ _ _ _ _ _ (c .before .before .before .before .before .before .before .rounds .ensures) _ (c .before .before .before .before .before .witness-points .ensures) (c .before .before .before .enum-told .given .1) _ (c .zero .ensures)
+returns c =
+    touching-measured binary32 _ _ _ _ _ _ _ _ (c .before .before .before .before .before .before .before .rounds .ensures) _
+    (c .before .before .before .before .before .witness-points .ensures) (c .before .before .before .enum-told .given .1) _ (c .zero .ensures)
 
 returns-2 : tie.Need-returns-2
 returns-2 c =
     let r = c .before .before .before .before .before .rounds in
     let other : r .result .ending ≡ Touching → ⊥ = λ e. ⊎-elim (λ w. omega (arith, w)) (λ w. omega (arith, w)) (rw e at (c .before .before .match .keys2)) in
-    apart-measured binary32 _ _ _ _ _ _ _ _ (r .ensures) _ (c .before .before .before .witness-points .ensures) other _ (c .before .apart .ensures) _ (c .write-cache .ensures)
+    apart-measured binary32 _ _ _ _ _ _ _ _ (r .ensures) _ (c .before .before .before .witness-points .ensures) other _ (c .before .apart .ensures) _
+    (c .write-cache .ensures)
 
 pub measure-spec : {M : Type 1} → statement M
 measure-spec =

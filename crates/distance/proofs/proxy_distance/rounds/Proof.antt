@@ -11,7 +11,8 @@ use Rattle.distance.proofs.proxy_distance.rounds.Statement.{statement}
 use Rattle.distance.proofs.proxy_distance.rounds.Tie as tie
 
 abbrev Inv-loop : tie.InvT-loop
-Inv-loop pos12 points-a points-b simplex₀ count₀ direction₀ iterations₀ simplex count direction iterations = (count ≤ 3) × (iterations ≤ 20) × (roundsFrom binary32 points-a points-b pos12 (20 - iterations) simplex count direction iterations ≡ roundsFrom binary32 points-a points-b pos12 20 simplex₀ count₀ direction₀ 0)
+Inv-loop pos12 points-a points-b simplex₀ count₀ direction₀ iterations₀ simplex count direction iterations = (count ≤ 3) × (iterations ≤ 20)
+    × (roundsFrom binary32 points-a points-b pos12 (20 - iterations) simplex count direction iterations ≡ roundsFrom binary32 points-a points-b pos12 20 simplex₀ count₀ direction₀ 0)
 
 abbrev μ-loop : tie.MeasureT-loop
 μ-loop pos12 points-a points-b simplex₀ count₀ direction₀ iterations₀ simplex count direction iterations = 20 - iterations
@@ -19,7 +20,8 @@ abbrev μ-loop : tie.MeasureT-loop
 -- 20 rounds from what the loop starts with
 all : (c : tie.After-zero Inv-loop μ-loop) →
     let x = c .before .before .before .before .before .args in
-    roundsFrom binary32 (x .points-a .now) (x .points-b .now) (x .pos12) 20 (c .before .before .start .result) (c .before .start-count .result) (c .zero .result) 0
+    roundsFrom binary32 (x .points-a .now) (x .points-b .now) (x .pos12) 20 (c .before .before .start .result) (c .before .start-count .result)
+    (c .zero .result) 0
     ≡ rounds binary32 (x .points-a .now) (x .points-b .now) (x .pos12) (x .cache)
 all c =
     let x = c .before .before .before .before .before .args in
@@ -34,14 +36,20 @@ made : (c : tie.After-vertex Inv-loop μ-loop) →
     let x = c .before .before .before .before .before .before .before .before .before .before .before .before .before .before .before .before .before .before .args in
     let l = c .before .before .before .before .before .before .before .before .before .before .before .before .loop in
     Made binary32 (x .points-a .now) (x .points-b .now) (x .pos12) (l .simplex) (l .count) (l .iterations)
-    (c .before .before .before .before .before .before .before .before .before .before .solve .result) (c .before .before .before .before .before .before .support-index .result) (c .before .before .before .support-index2 .result) (c .vertex .result) (c .before .before .held .result)
+    (c .before .before .before .before .before .before .before .before .before .before .solve .result)
+    (c .before .before .before .before .before .before .support-index .result) (c .before .before .before .support-index2 .result) (c .vertex .result)
+    (c .before .before .held .result)
 made c =
     record {
       left = c .before .before .before .before .before .before .before .before .before .before .before .loop-test .taken;
       solves = c .before .before .before .before .before .before .before .before .before .before .solve .ensures;
-      apart = rw (c .before .before .before .before .before .before .before .before .dot .ensures) at (c .before .before .before .before .before .before .before .if1 .left);
+      apart = rw (c .before .before .before .before .before .before .before .before .dot .ensures) at
+          (c .before .before .before .before .before .before .before .if1 .left);
       first = c .before .before .before .before .before .before .support-index .ensures;
-      second = rw (c .before .before .before .before .inv-rotate-vec .ensures, c .before .before .before .before .before .neg .ensures) at (c .before .before .before .support-index2 .ensures);
+      second = rw (
+        c .before .before .before .before .inv-rotate-vec .ensures,
+        c .before .before .before .before .before .neg .ensures,
+      ) at (c .before .before .before .support-index2 .ensures);
       new = c .vertex .ensures;
       known = c .before .before .held .ensures;
     }
@@ -72,7 +80,9 @@ zero-requires-2 c κs = search needs
 returns : tie.Need-returns Inv-loop μ-loop
 returns c =
     let l = c .before .before .before .before .before .before .before .loop in
-    touching binary32 _ _ _ _ _ _ _ _ (c .before .before .before .before .before .before .loop-test .taken) (c .before .before .before .before .before .solve .ensures) (rw (c .before .before .before .dot .ensures) at (c .before .before .if1 .taken)) _ (c .zero2 .ensures) ∙ l .inv .2 ∙ all (c .before .before .before .before .before .before .before .before)
+    touching binary32 _ _ _ _ _ _ _ _ (c .before .before .before .before .before .before .loop-test .taken)
+    (c .before .before .before .before .before .solve .ensures) (rw (c .before .before .before .dot .ensures) at (c .before .before .if1 .taken)) _
+    (c .zero2 .ensures) ∙ l .inv .2 ∙ all (c .before .before .before .before .before .before .before .before)
 
 support-index-requires : tie.Need-support-index-requires Inv-loop μ-loop
 support-index-requires c κs = search needs
@@ -116,7 +126,10 @@ add-iterations : tie.Need-add-iterations Inv-loop μ-loop
 add-iterations c = omega (arith, c .before .before .before .before .before .before .before .before .before .before .before .before .loop .inv .1)
 
 returns-2 : tie.Need-returns-2 Inv-loop μ-loop
-returns-2 c = settled binary32 _ _ _ _ _ _ _ (made (c .before)) (c .if2 .taken) ∙ c .before .before .before .before .before .before .before .before .before .before .before .before .before .loop .inv .2 ∙ all (c .before .before .before .before .before .before .before .before .before .before .before .before .before .before)
+returns-2 c =
+    settled binary32 _ _ _ _ _ _ _ (made (c .before)) (c .if2 .taken)
+    ∙ c .before .before .before .before .before .before .before .before .before .before .before .before .before .loop .inv .2
+    ∙ all (c .before .before .before .before .before .before .before .before .before .before .before .before .before .before)
 
 add-count : tie.Need-add-count Inv-loop μ-loop
 add-count c =
@@ -128,8 +141,12 @@ loop-less c = omega (arith, c .before .before .before .before .before .before .b
 
 loop-again : tie.Need-loop-again Inv-loop μ-loop
 loop-again c =
-    let h = free (c .before .before .before .before .before .before .before .before) in
-    (omega (arith, h), omega (arith, c .before .before .before .before .before .before .before .before .before .before .before .before .loop-test .taken), another binary32 _ _ _ _ _ _ _ (made (c .before)) (c .if2 .left) ∙ c .before .before .before .before .before .before .before .before .before .before .before .before .before .loop .inv .2)
+    let h = free (c .before .before .before .before .before .before .before .before) in (
+      omega (arith, h),
+      omega (arith, c .before .before .before .before .before .before .before .before .before .before .before .before .loop-test .taken),
+      another binary32 _ _ _ _ _ _ _ (made (c .before)) (c .if2 .left)
+          ∙ c .before .before .before .before .before .before .before .before .before .before .before .before .before .loop .inv .2,
+    )
 
 returns-3 : tie.Need-returns-3 Inv-loop μ-loop
 returns-3 c =

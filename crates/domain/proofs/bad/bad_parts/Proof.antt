@@ -43,8 +43,11 @@ loop-less c = omega arith
 loop-again : tie.Need-loop-again Inv-loop μ-loop
 loop-again c =
     let l = c .before .before .before .before .loop in
-    let s = c .before .before .before .before .before .before .args .points .now in
-    (omega arith, sym (simp (sym (c .before .bad-part .ensures) ∙ c .if1 .left) at (parts-step binary32 s (l .i) (c .before .before .before .loop-test .taken))) ∙ l .inv .1)
+    let s = c .before .before .before .before .before .before .args .points .now in (
+      omega arith,
+      sym (simp (sym (c .before .bad-part .ensures) ∙ c .if1 .left) at (parts-step binary32 s (l .i) (c .before .before .before .loop-test .taken)))
+          ∙ l .inv .1,
+    )
 
 returns-2 : tie.Need-returns-2 Inv-loop μ-loop
 returns-2 c =

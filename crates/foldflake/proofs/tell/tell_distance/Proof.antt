@@ -21,7 +21,8 @@ same-length-2 : tie.Need-same-length-2
 same-length-2 c = search needs
 
 returns : tie.Need-returns
-returns c = simp (c .before .before .before .before .before .before .before .before .answer .given .1) (c .before .before .before .before .put-measured .ensures)
+returns c =
+    simp (c .before .before .before .before .before .before .before .before .answer .given .1) (c .before .before .before .before .put-measured .ensures)
 
 returns-2 : tie.Need-returns-2
 returns-2 c = search needs

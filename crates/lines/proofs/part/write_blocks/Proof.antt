@@ -48,8 +48,10 @@ answer-block-requires c κs = search needs
 write-answer-requires : tie.Need-write-answer-requires Inv-loop μ-loop
 write-answer-requires c κs =
     let l = c .before .before .before .before .loop in
-    let a = c .before .before .before .before .before .before .before in
-    (omega (arith, a .pre .0, l .inv .2, l .inv .1, c .before .before .before .loop-test .taken), below-less (omega (arith, a .good, c .before .before .before .loop-test .taken)) (l .inv .3))
+    let a = c .before .before .before .before .before .before .before in (
+      omega (arith, a .pre .0, l .inv .2, l .inv .1, c .before .before .before .loop-test .taken),
+      below-less (omega (arith, a .good, c .before .before .before .loop-test .taken)) (l .inv .3),
+    )
 
 add-i : tie.Need-add-i Inv-loop μ-loop
 add-i c = search needs

@@ -30,7 +30,17 @@ capital-digit-requires-8 c κs = search needs
 
 returns : tie.Need-returns
 unfolding hexBy
-returns c = simp (c .capital-digit8 .ensures, c .before .capital-digit7 .ensures, c .before .before .capital-digit6 .ensures, c .before .before .before .capital-digit5 .ensures, c .before .before .before .before .capital-digit4 .ensures, c .before .before .before .before .before .capital-digit3 .ensures, c .before .before .before .before .before .before .capital-digit2 .ensures, c .before .before .before .before .before .before .before .capital-digit .ensures)
+returns c =
+    simp (
+      c .capital-digit8 .ensures,
+      c .before .capital-digit7 .ensures,
+      c .before .before .capital-digit6 .ensures,
+      c .before .before .before .capital-digit5 .ensures,
+      c .before .before .before .before .capital-digit4 .ensures,
+      c .before .before .before .before .before .capital-digit3 .ensures,
+      c .before .before .before .before .before .before .capital-digit2 .ensures,
+      c .before .before .before .before .before .before .before .capital-digit .ensures,
+    )
 
 pub hex-digits-spec : {M : Type 1} → statement M
 hex-digits-spec =

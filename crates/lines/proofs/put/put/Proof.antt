@@ -37,8 +37,12 @@ loop-less c = search needs
 loop-again : tie.Need-loop-again Inv-loop μ-loop
 loop-again c =
     let l = c .before .before .loop in
-    let a = c .before .before .before .args in
-    (search needs, search needs, search needs, rw (l .inv .3, l .inv .1) (paste-more (a .out .now) (a .at) (a .text .now) (l .i) (c .before .before .before .pre) (c .before .loop-test .taken)))
+    let a = c .before .before .before .args in (
+      search needs,
+      search needs,
+      search needs,
+      rw (l .inv .3, l .inv .1) (paste-more (a .out .now) (a .at) (a .text .now) (l .i) (c .before .before .before .pre) (c .before .loop-test .taken)),
+    )
 
 same-length : tie.Need-same-length Inv-loop μ-loop
 same-length c = search needs

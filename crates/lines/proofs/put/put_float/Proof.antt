@@ -19,7 +19,11 @@ same-length : tie.Need-same-length
 same-length c = search needs
 
 returns : tie.Need-returns
-returns c = rw (c .before .before .before .before .before .hex-digits .ensures, c .before .before .before .before .before .before .to-bits .ensures) at (c .before .before .put .ensures)
+returns c =
+    rw (
+      c .before .before .before .before .before .hex-digits .ensures,
+      c .before .before .before .before .before .before .to-bits .ensures,
+    ) at (c .before .before .put .ensures)
 
 pub put-float-spec : {M : Type 1} → statement M
 put-float-spec =

@@ -45,7 +45,10 @@ returns : tie.Need-returns
 returns c =
     let p = c .before .before in
     let d = p .before .before .before in
-    put-then (search needs) (rw (d .decimal .ensures .1 .1, fewest-digits _ _ (d .decimal .ensures .1 .0) (few (p .before))) at (p .put .ensures)) (put-byte _ _ _ (inside c))
+    put-then (search needs) (rw (
+      d .decimal .ensures .1 .1,
+      fewest-digits _ _ (d .decimal .ensures .1 .0) (few (p .before)),
+    ) at (p .put .ensures)) (put-byte _ _ _ (inside c))
 
 pub put-number-spec : {M : Type 1} → statement M
 put-number-spec =

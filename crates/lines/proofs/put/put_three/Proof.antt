@@ -16,13 +16,20 @@ put-number-requires-3 : tie.Need-put-number-requires-3
 put-number-requires-3 c κs =
     let q = c .before .before .before in
     let p = q .before .before .before .before in
-    omega (arith, ends (p .put-number .ensures) (length-number _ _), p .put-number .kept .0, ends (q .put-number2 .ensures) (length-number _ _), q .put-number2 .kept .0)
+    omega (
+      arith,
+      ends (p .put-number .ensures) (length-number _ _),
+      p .put-number .kept .0,
+      ends (q .put-number2 .ensures) (length-number _ _),
+      q .put-number2 .kept .0,
+    )
 
 same-length : tie.Need-same-length
 same-length c = search needs
 
 returns : tie.Need-returns
-returns c = rw three-is (put-then (search needs) (put-then (search needs) (c .before .before .before .before .before .before .before .before .before .before .put-number .ensures) (c .before .before .before .before .before .before .put-number2 .ensures)) (c .before .before .put-number3 .ensures))
+returns c =
+    rw three-is (put-then (search needs) (put-then (search needs) (c .before .before .before .before .before .before .before .before .before .before .put-number .ensures) (c .before .before .before .before .before .before .put-number2 .ensures)) (c .before .before .put-number3 .ensures))
 
 pub put-three-spec : {M : Type 1} → statement M
 put-three-spec =

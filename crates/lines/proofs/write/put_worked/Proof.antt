@@ -25,14 +25,28 @@ put-requires : tie.Need-put-requires
 put-requires c κs =
     let q = c .before .before .before .before in
     let p = q .before .before .before .before in
-    omega (arith, ends (p .put-number .ensures) (length-number _ _), p .put-number .kept .0, ends (q .put-number2 .ensures) (length-number _ _), q .put-number2 .kept .0)
+    omega (
+      arith,
+      ends (p .put-number .ensures) (length-number _ _),
+      p .put-number .kept .0,
+      ends (q .put-number2 .ensures) (length-number _ _),
+      q .put-number2 .kept .0,
+    )
 
 put-contact-requires : tie.Need-put-contact-requires
 put-contact-requires c κs =
     let r = c .before .before .before in
     let q = r .before .before .before .before .before in
     let p = q .before .before .before .before in
-    omega (arith, ends (p .put-number .ensures) (length-number _ _), p .put-number .kept .0, ends (q .put-number2 .ensures) (length-number _ _), q .put-number2 .kept .0, r .put .ensures .place, r .put .kept .0)
+    omega (
+      arith,
+      ends (p .put-number .ensures) (length-number _ _),
+      p .put-number .kept .0,
+      ends (q .put-number2 .ensures) (length-number _ _),
+      q .put-number2 .kept .0,
+      r .put .ensures .place,
+      r .put .kept .0,
+    )
 
 cast-put-three : tie.Need-cast-put-three
 cast-put-three c = search needs
@@ -49,7 +63,18 @@ put-three-requires c κs =
     let r = s .before .before .before .before in
     let q = r .before .before .before .before .before in
     let p = q .before .before .before .before in
-    omega (arith, ends (p .put-number .ensures) (length-number _ _), p .put-number .kept .0, ends (q .put-number2 .ensures) (length-number _ _), q .put-number2 .kept .0, r .put .ensures .place, r .put .kept .0, ends (s .put-contact .ensures) (length-floats _), s .put-contact .kept .0, p .before .before .before .before .before .pre)
+    omega (
+      arith,
+      ends (p .put-number .ensures) (length-number _ _),
+      p .put-number .kept .0,
+      ends (q .put-number2 .ensures) (length-number _ _),
+      q .put-number2 .kept .0,
+      r .put .ensures .place,
+      r .put .kept .0,
+      ends (s .put-contact .ensures) (length-floats _),
+      s .put-contact .kept .0,
+      p .before .before .before .before .before .pre,
+    )
 
 same-length : tie.Need-same-length
 same-length c =

@@ -39,7 +39,13 @@ returns-2 c = search needs
 returns-3 : tie.Need-returns-3
 returns-3 c =
     let n = c .before .before in
-    simp (n .before .before .enum-told3 .given .1, c .support-index2 .ensures, c .before .inv-rotate-vec2 .ensures, n .neg .ensures, n .before .rotate-vec .ensures)
+    simp (
+      n .before .before .enum-told3 .given .1,
+      c .support-index2 .ensures,
+      c .before .inv-rotate-vec2 .ensures,
+      n .neg .ensures,
+      n .before .rotate-vec .ensures,
+    )
 
 pub deepest-a-spec : {M : Type 1} → statement M
 deepest-a-spec =

@@ -41,7 +41,13 @@ returns c =
 returns-2 : tie.Need-returns-2
 returns-2 c =
     let n = c .before .before in
-    simp (n .before .before .enum-told2 .given .1, c .support-index2 .ensures, c .before .inv-rotate-vec2 .ensures, n .neg2 .ensures, n .before .rotate-vec .ensures)
+    simp (
+      n .before .before .enum-told2 .given .1,
+      c .support-index2 .ensures,
+      c .before .inv-rotate-vec2 .ensures,
+      n .neg2 .ensures,
+      n .before .rotate-vec .ensures,
+    )
 
 returns-3 : tie.Need-returns-3
 returns-3 c = search needs

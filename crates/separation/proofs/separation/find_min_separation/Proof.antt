@@ -23,7 +23,8 @@ returns : tie.Need-returns
 returns c =
     let i = c .before .before in
     let x = i .before in
-    rw (c .separation-of .ensures) (least-at _ _ _ _ _ _ _ (x .before .transform-at .ensures) (x .transform-at2 .ensures) _ _ (i .deepest-a .ensures) (c .before .deepest-b .ensures))
+    rw (c .separation-of .ensures)
+    (least-at _ _ _ _ _ _ _ (x .before .transform-at .ensures) (x .transform-at2 .ensures) _ _ (i .deepest-a .ensures) (c .before .deepest-b .ensures))
 
 pub find-min-separation-spec : {M : Type 1} → statement M
 find-min-separation-spec =

@@ -28,7 +28,15 @@ returns : tie.Need-returns
 returns c =
     let b = c .before .before in
     let l = b .before .before in
-    simp (c .toward .ensures, c .before .across .ensures, b .transform-point .ensures, b .before .point3 .ensures, l .middle .ensures, l .before .point2 .ensures, l .before .before .point .ensures)
+    simp (
+      c .toward .ensures,
+      c .before .across .ensures,
+      b .transform-point .ensures,
+      b .before .point3 .ensures,
+      l .middle .ensures,
+      l .before .point2 .ensures,
+      l .before .before .point .ensures,
+    )
 
 pub of-face-a-spec : {M : Type 1} → statement M
 of-face-a-spec =

@@ -24,7 +24,14 @@ normalize-or-zero-requires c κs = search needs
 returns : tie.Need-returns
 returns c =
     let b = c .before .before in
-    simp (c .normalize-or-zero .ensures, c .before .sub .ensures, b .transform-point2 .ensures, b .before .point2 .ensures, b .before .before .transform-point .ensures, b .before .before .before .point .ensures)
+    simp (
+      c .normalize-or-zero .ensures,
+      c .before .sub .ensures,
+      b .transform-point2 .ensures,
+      b .before .point2 .ensures,
+      b .before .before .transform-point .ensures,
+      b .before .before .before .point .ensures,
+    )
 
 pub of-points-spec : {M : Type 1} → statement M
 of-points-spec =

@@ -70,19 +70,43 @@ returns : tie.Need-returns
 returns c =
     let b = c .before .before in
     let a = b .before .before in
-    simp (a .before .before .enum-told .given .1, c .dot .ensures, c .before .sub .ensures, b .transform-point2 .ensures, b .before .point2 .ensures, a .transform-point .ensures, a .before .point .ensures)
+    simp (
+      a .before .before .enum-told .given .1,
+      c .dot .ensures,
+      c .before .sub .ensures,
+      b .transform-point2 .ensures,
+      b .before .point2 .ensures,
+      a .transform-point .ensures,
+      a .before .point .ensures,
+    )
 
 returns-2 : tie.Need-returns-2
 returns-2 c =
     let b = c .before .before in
     let a = b .before .before in
-    simp (a .before .before .enum-told2 .given .1, c .dot2 .ensures, c .before .sub2 .ensures, b .transform-point4 .ensures, b .before .point3 .ensures, a .transform-point3 .ensures, a .before .rotate-vec .ensures)
+    simp (
+      a .before .before .enum-told2 .given .1,
+      c .dot2 .ensures,
+      c .before .sub2 .ensures,
+      b .transform-point4 .ensures,
+      b .before .point3 .ensures,
+      a .transform-point3 .ensures,
+      a .before .rotate-vec .ensures,
+    )
 
 returns-3 : tie.Need-returns-3
 returns-3 c =
     let b = c .before .before in
     let a = b .before in
-    simp (a .before .before .before .enum-told3 .given .1, c .dot3 .ensures, c .before .sub3 .ensures, b .transform-point6 .ensures, a .transform-point5 .ensures, a .before .point4 .ensures, a .before .before .rotate-vec2 .ensures)
+    simp (
+      a .before .before .before .enum-told3 .given .1,
+      c .dot3 .ensures,
+      c .before .sub3 .ensures,
+      b .transform-point6 .ensures,
+      a .transform-point5 .ensures,
+      a .before .point4 .ensures,
+      a .before .before .rotate-vec2 .ensures,
+    )
 
 pub separation-of-spec : {M : Type 1} → statement M
 separation-of-spec =

@@ -21,12 +21,25 @@ neg-requires c κs = search needs
 returns : tie.Need-returns
 returns c =
     let d = c .before .before in
-    simp (c .neg .ensures, rw (d .dot .ensures, d .before .rotate-vec .ensures, d .before .before .sub .ensures, d .before .before .before .transform-point .ensures) at (c .before .if1 .taken))
+    simp (
+      c .neg .ensures,
+      rw (
+        d .dot .ensures,
+        d .before .rotate-vec .ensures,
+        d .before .before .sub .ensures,
+        d .before .before .before .transform-point .ensures,
+      ) at (c .before .if1 .taken),
+    )
 
 returns-2 : tie.Need-returns-2
 returns-2 c =
     let d = c .before in
-    simp (rw (d .dot .ensures, d .before .rotate-vec .ensures, d .before .before .sub .ensures, d .before .before .before .transform-point .ensures) at (c .if1 .left))
+    simp (rw (
+      d .dot .ensures,
+      d .before .rotate-vec .ensures,
+      d .before .before .sub .ensures,
+      d .before .before .before .transform-point .ensures,
+    ) at (c .if1 .left))
 
 pub toward-spec : {M : Type 1} → statement M
 toward-spec =

@@ -7,10 +7,14 @@ use borrow.Author.Needs.{needs}
 use Rattle.simplex.proofs.solvers.solve_simplex2.Statement.{statement}
 use Rattle.simplex.proofs.solvers.solve_simplex2.Tie as tie
 
-far-is : (c : tie.After-dot) → neg (c .dot .result) ≡ far binary32 (slot (c .before .before .before .before .before .before .args .simplex) 0 .w) (slot (c .before .before .before .before .before .before .args .simplex) 1 .w)
+far-is : (c : tie.After-dot) → neg (c .dot .result)
+    ≡ far binary32 (slot (c .before .before .before .before .before .before .args .simplex) 0 .w)
+    (slot (c .before .before .before .before .before .before .args .simplex) 1 .w)
 far-is c = simp (c .dot .ensures, c .before .sub .ensures)
 
-near-is : (c : tie.After-dot2) → c .dot2 .result ≡ near binary32 (slot (c .before .before .before .before .before .before .before .before .args .simplex) 0 .w) (slot (c .before .before .before .before .before .before .before .before .args .simplex) 1 .w)
+near-is : (c : tie.After-dot2) → c .dot2 .result
+    ≡ near binary32 (slot (c .before .before .before .before .before .before .before .before .args .simplex) 0 .w)
+    (slot (c .before .before .before .before .before .before .before .before .args .simplex) 1 .w)
 near-is c = simp (c .dot2 .ensures, c .before .before .before .sub .ensures)
 
 array-copy-out-v1 : tie.Need-array-copy-out-v1

@@ -7,25 +7,55 @@ use Rattle.simplex.proofs.solvers.solve_simplex3.Statement.{statement}
 use Rattle.simplex.proofs.solvers.solve_simplex3.Tie as tie
 
 -- the nine numbers
-told : (c : tie.After-perp-dot4) → let s = c .before .before .before .before .before .before .before .before .before .before .before .before .before .before .before .before .before .before .before .args .simplex in
+told : (c : tie.After-perp-dot4)
+    → let s = c .before .before .before .before .before .before .before .before .before .before .before .before .before .before .before .before .before .before .before .args .simplex in
     Told binary32 (slot s 0 .w) (slot s 1 .w) (slot s 2 .w)
-    (c .before .before .before .before .before .before .before .before .before .before .before .dot .result) (neg (c .before .before .before .before .before .before .before .before .before .before .dot2 .result))
-    (c .before .before .before .before .before .before .before .before .dot3 .result) (neg (c .before .before .before .before .before .before .before .dot4 .result))
+    (c .before .before .before .before .before .before .before .before .before .before .before .dot .result)
+    (neg (c .before .before .before .before .before .before .before .before .before .before .dot2 .result))
+    (c .before .before .before .before .before .before .before .before .dot3 .result)
+    (neg (c .before .before .before .before .before .before .before .dot4 .result))
     (c .before .before .before .before .before .dot5 .result) (neg (c .before .before .before .before .dot6 .result))
     (mul binary32 (c .before .before .before .perp-dot .result) (c .before .before .perp-dot2 .result))
     (mul binary32 (c .before .before .before .perp-dot .result) (c .before .perp-dot3 .result))
     (mul binary32 (c .before .before .before .perp-dot .result) (c .perp-dot4 .result))
 told c =
     record {
-      near12 = simp (c .before .before .before .before .before .before .before .before .before .before .before .dot .ensures, c .before .before .before .before .before .before .before .before .before .before .before .before .sub .ensures);
-      far12 = simp (c .before .before .before .before .before .before .before .before .before .before .dot2 .ensures, c .before .before .before .before .before .before .before .before .before .before .before .before .sub .ensures);
-      near13 = simp (c .before .before .before .before .before .before .before .before .dot3 .ensures, c .before .before .before .before .before .before .before .before .before .sub2 .ensures);
-      far13 = simp (c .before .before .before .before .before .before .before .dot4 .ensures, c .before .before .before .before .before .before .before .before .before .sub2 .ensures);
+      near12 = simp (
+        c .before .before .before .before .before .before .before .before .before .before .before .dot .ensures,
+        c .before .before .before .before .before .before .before .before .before .before .before .before .sub .ensures,
+      );
+      far12 = simp (
+        c .before .before .before .before .before .before .before .before .before .before .dot2 .ensures,
+        c .before .before .before .before .before .before .before .before .before .before .before .before .sub .ensures,
+      );
+      near13 = simp (
+        c .before .before .before .before .before .before .before .before .dot3 .ensures,
+        c .before .before .before .before .before .before .before .before .before .sub2 .ensures,
+      );
+      far13 = simp (
+        c .before .before .before .before .before .before .before .dot4 .ensures,
+        c .before .before .before .before .before .before .before .before .before .sub2 .ensures,
+      );
       near23 = simp (c .before .before .before .before .before .dot5 .ensures, c .before .before .before .before .before .before .sub3 .ensures);
       far23 = simp (c .before .before .before .before .dot6 .ensures, c .before .before .before .before .before .before .sub3 .ensures);
-      opposite1 = simp (c .before .before .before .perp-dot .ensures, c .before .before .perp-dot2 .ensures, c .before .before .before .before .before .before .before .before .before .before .before .before .sub .ensures, c .before .before .before .before .before .before .before .before .before .sub2 .ensures);
-      opposite2 = simp (c .before .before .before .perp-dot .ensures, c .before .perp-dot3 .ensures, c .before .before .before .before .before .before .before .before .before .before .before .before .sub .ensures, c .before .before .before .before .before .before .before .before .before .sub2 .ensures);
-      opposite3 = simp (c .before .before .before .perp-dot .ensures, c .perp-dot4 .ensures, c .before .before .before .before .before .before .before .before .before .before .before .before .sub .ensures, c .before .before .before .before .before .before .before .before .before .sub2 .ensures);
+      opposite1 = simp (
+        c .before .before .before .perp-dot .ensures,
+        c .before .before .perp-dot2 .ensures,
+        c .before .before .before .before .before .before .before .before .before .before .before .before .sub .ensures,
+        c .before .before .before .before .before .before .before .before .before .sub2 .ensures,
+      );
+      opposite2 = simp (
+        c .before .before .before .perp-dot .ensures,
+        c .before .perp-dot3 .ensures,
+        c .before .before .before .before .before .before .before .before .before .before .before .before .sub .ensures,
+        c .before .before .before .before .before .before .before .before .before .sub2 .ensures,
+      );
+      opposite3 = simp (
+        c .before .before .before .perp-dot .ensures,
+        c .perp-dot4 .ensures,
+        c .before .before .before .before .before .before .before .before .before .before .before .before .sub .ensures,
+        c .before .before .before .before .before .before .before .before .before .sub2 .ensures,
+      );
     }
 
 array-copy-out-v1 : tie.Need-array-copy-out-v1
@@ -103,7 +133,8 @@ unfolding solveSimplex3
 returns-2 c =
     let n = c .before .before .before .before .before in
     let t = told n in
-    keep-12 binary32 _ _ (on-12 binary32 t (c .before .before .before .before .if1 .left) (c .before .before .before .if2 .taken)) _ _ (t .near12) (t .far12) _ (c .off-edge .ensures)
+    keep-12 binary32 _ _ (on-12 binary32 t (c .before .before .before .before .if1 .left) (c .before .before .before .if2 .taken)) _ _ (t .near12)
+    (t .far12) _ (c .off-edge .ensures)
 
 way-write-given-simplex-4 : tie.Need-way-write-given-simplex-4
 way-write-given-simplex-4 c = search needs
@@ -201,7 +232,8 @@ unfolding solveSimplex3
 returns-7 c =
     let n = c .before .before .before .before .before .before .before .before .before in
     let t = told n in
-    keep-all binary32 _ _ (within binary32 t (c .before .before .before .before .before .before .before .before .if1 .left) (c .before .before .before .before .before .before .before .if2 .left) (c .before .before .before .before .before .before .if3 .left) (c .before .before .before .before .before .if4 .left) (c .before .before .before .before .if5 .left) (c .before .before .before .if6 .left)) _ _ _ (t .opposite1) (t .opposite2) (t .opposite3)
+    keep-all binary32 _ _
+    (within binary32 t (c .before .before .before .before .before .before .before .before .if1 .left) (c .before .before .before .before .before .before .before .if2 .left) (c .before .before .before .before .before .before .if3 .left) (c .before .before .before .before .before .if4 .left) (c .before .before .before .before .if5 .left) (c .before .before .before .if6 .left)) _ _ _ (t .opposite1) (t .opposite2) (t .opposite3)
 
 pub solve-simplex3-spec : {M : Type 1} → statement M
 solve-simplex3-spec =

@@ -120,7 +120,8 @@ module _ {M : Type 1} (𝓤 : URA M) (H : Heap 𝓤) (A : Atoms 𝓤) (mem : Mem
   abbrev Answers : Contract 𝓤
   Answers = tripleOf 𝓤 H A answer.signature (answer.spec 𝓤 H A mem run)
 
-module _ {M : Type 1} (𝓤 : URA M) (H : Heap 𝓤) (A : Atoms 𝓤) (W : Given 𝓤 H A) (mem : Memory → SProp 𝓤) (run : Routine → Fun 𝓤) (κ : Lft) (q : Share) (b o : ℕ) (γ : GName) (ys : List Vector) (w : Vector) (iw : Is P.the-row w (pointVal w ∷ [])) (room : Room P.the-row (length ys)) where
+module _ {M : Type 1} (𝓤 : URA M) (H : Heap 𝓤) (A : Atoms 𝓤) (W : Given 𝓤 H A) (mem : Memory → SProp 𝓤) (run : Routine → Fun 𝓤) (κ : Lft) (q : Share)
+    (b o : ℕ) (γ : GName) (ys : List Vector) (w : Vector) (iw : Is P.the-row w (pointVal w ∷ [])) (room : Room P.the-row (length ys)) where
   abbrev n : ℕ
   n = length ys
 
@@ -178,8 +179,12 @@ module _ {M : Type 1} (𝓤 : URA M) (H : Heap 𝓤) (A : Atoms 𝓤) (W : Given
     asks-take : Is S.the-row s (stateVal s ∷ []) → j < 2 ^ 64 → Is P.the-row p (pointVal p ∷ []) → ent 𝓤 (sem 𝓤 H A ftrue) (Takes 𝓤 H A mem run .pre to-take)
     asks-take is fits ip =
         qed W (‵ ftrue ∷ []) ∵ drop ! $
-        nothing ! $ owned ! P.the-row (Is P.the-row) (LL.makes P.the-type P′.the-plain 𝓤 H A) w _ iw $ fjoin ! $ owned ! P.the-row (Is P.the-row) (LL.makes P.the-type P′.the-plain 𝓤 H A) p _ ip $ fjoin ! $
-        owned ! usize (Is usize) (uint-makes 𝓤 H A W w64) j _ (refl, fits) $ fjoin ! $ owned ! S.the-row (Is S.the-row) (LL.makes S.the-type S′.the-plain 𝓤 H A) s _ is $ fjoin ! $ nothing ! $ join ! $ frame ! $ done !
+        nothing ! $ owned ! P.the-row (Is P.the-row) (LL.makes P.the-type P′.the-plain 𝓤 H A) w _ iw $ fjoin ! $ owned ! P.the-row (Is P.the-row)
+        (LL.makes P.the-type P′.the-plain 𝓤 H A) p _ ip $ fjoin ! $
+        owned ! usize (Is usize) (uint-makes 𝓤 H A W w64) j _ (
+          refl,
+          fits,
+        ) $ fjoin ! $ owned ! S.the-row (Is S.the-row) (LL.makes S.the-type S′.the-plain 𝓤 H A) s _ is $ fjoin ! $ nothing ! $ join ! $ frame ! $ done !
 
     says-take : (r : Farthest) → ent 𝓤 (ensured 𝓤 H A take.ended (take.clauses 𝓤 H A mem run) tt args-take tt r) (fact 𝓤 (r ≡ taken binary32 w s j p))
     says-take r = exE 𝓤 _ (λ ws. snd∗ 𝓤 (sem 𝓤 H A (lasts take.ended tt args-take ws)) (fact 𝓤 (r ≡ taken binary32 w s j p)))
@@ -199,21 +204,29 @@ module _ {M : Type 1} (𝓤 : URA M) (H : Heap 𝓤) (A : Atoms 𝓤) (W : Given
     asks-answer : Is S.the-row s (stateVal s ∷ []) → j < 2 ^ 64 → ent 𝓤 (sem 𝓤 H A ftrue) (Answers 𝓤 H A mem run .pre to-answer)
     asks-answer is fits =
         qed W (‵ ftrue ∷ []) ∵ drop ! $
-        nothing ! $ owned ! usize (Is usize) (uint-makes 𝓤 H A W w64) j _ (refl, fits) $ fjoin ! $ owned ! S.the-row (Is S.the-row) (LL.makes S.the-type S′.the-plain 𝓤 H A) s _ is $ fjoin ! $ nothing ! $ join ! $ frame ! $ done !
+        nothing ! $ owned ! usize (Is usize) (uint-makes 𝓤 H A W w64) j _ (
+          refl,
+          fits,
+        ) $ fjoin ! $ owned ! S.the-row (Is S.the-row) (LL.makes S.the-type S′.the-plain 𝓤 H A) s _ is $ fjoin ! $ nothing ! $ join ! $ frame ! $ done !
 
     says-answer : (r : SupportAnswer) → ent 𝓤 (ensured 𝓤 H A answer.ended (answer.clauses 𝓤 H A mem run) tt (s, (j, tt)) tt r) (fact 𝓤 (r ≡ answerOf s j))
     says-answer r = exE 𝓤 _ (λ ws. snd∗ 𝓤 (sem 𝓤 H A (lasts answer.ended tt (s, (j, tt)) ws)) (fact 𝓤 (r ≡ answerOf s j)))
 
-  exits : (r : SupportAnswer) (u : Val) → r ≡ supportAnswer binary32 (flat ys) w → ent 𝓤 (⋆ 𝓤 H A (‵ (R.the-row .own r (u ∷ [])) ∷ ‵ ftrue ∷ token ∷ ‵ Own ∷ [])) (Post u)
+  exits : (r : SupportAnswer) (u : Val) → r ≡ supportAnswer binary32 (flat ys) w
+      → ent 𝓤 (⋆ 𝓤 H A (‵ (R.the-row .own r (u ∷ [])) ∷ ‵ ftrue ∷ token ∷ ‵ Own ∷ [])) (Post u)
   exits r u e =
       qed W (‵ (R.the-row .own r (u ∷ [])) ∷ ‵ ftrue ∷ token ∷ ‵ Own ∷ []) ∵
-      suffices ! _ (ends-at 𝓤 H A f.ended stayed (f.clauses 𝓤 H A mem run) W (((κ, tt), (q, tt), tt, args, at), tt) u r (tt, (tt, tt)) (tt, (tt, tt))) $ says ! e $
+      suffices ! _ (ends-at 𝓤 H A f.ended stayed (f.clauses 𝓤 H A mem run) W (
+        ((κ, tt), (q, tt), tt, args, at),
+        tt,
+      ) u r (tt, (tt, tt)) (tt, (tt, tt))) $ says ! e $
       move ! (1 ∷ []) $ drop ! $ move ! (1 ∷ []) $ frame ! $
       nothing ! $ owned ! P.the-row (Is P.the-row) (LL.makes P.the-type P′.the-plain 𝓤 H A) w _ iw $ fjoin ! $ move ! (2 ∷ 0 ∷ []) $ fjoin ! $ frame ! $ done !
 
   -- ---- the loop
   abbrev Turn : Type 0
-  Turn = (i : ℕ) × (s : Farthest) × (i ≤ n) × Is S.the-row s (stateVal s ∷ []) × (takenFrom binary32 w s i (dropped i ys) ≡ takenFrom binary32 w (start binary32) 0 ys)
+  Turn = (i : ℕ) × (s : Farthest) × (i ≤ n) × Is S.the-row s (stateVal s ∷ [])
+      × (takenFrom binary32 w s i (dropped i ys) ≡ takenFrom binary32 w (start binary32) 0 ys)
 
   abbrev Nearer : Turn → Turn → Type 0
   Nearer t u = n - t .0 < n - u .0
@@ -226,7 +239,8 @@ module _ {M : Type 1} (𝓤 : URA M) (H : Heap 𝓤) (A : Atoms 𝓤) (W : Given
       let zero-fits = is-true _ (ofBits-fits binary32 0) in
       LL.owes S.the-type S′.the-laws (start binary32) ((refl, zero-fits), ((refl, zero-fits), (refl, ((refl, lit< tt), ((refl, zero-fits), tt)))))
 
-  module _ (𝓣 : Tables 𝓤 H) (fm : FmC 𝓤 H (W .laws) (𝓣 .C)) (known-reads : Triple 𝓤 (𝓣 .C #point-at) (Reads 𝓤 H A mem run)) (known-take : Triple 𝓤 (𝓣 .C #take) (Takes 𝓤 H A mem run)) (known-answer : Triple 𝓤 (𝓣 .C #answer) (Answers 𝓤 H A mem run)) where
+  module _ (𝓣 : Tables 𝓤 H) (fm : FmC 𝓤 H (W .laws) (𝓣 .C)) (known-reads : Triple 𝓤 (𝓣 .C #point-at) (Reads 𝓤 H A mem run))
+      (known-take : Triple 𝓤 (𝓣 .C #take) (Takes 𝓤 H A mem run)) (known-answer : Triple 𝓤 (𝓣 .C #answer) (Answers 𝓤 H A mem run)) where
     abbrev C : Calls 𝓤 H
     C = 𝓣 .C
 
@@ -251,38 +265,64 @@ module _ {M : Type 1} (𝓤 : URA M) (H : Heap 𝓤) (A : Atoms 𝓤) (W : Given
       turns t =
           let p = pointOf ys (t .0) in
           let next = taken binary32 w (t .1) (t .0) p in
-          assigns ! (of-opd ! (load ! (from ! (fld ! refl (stop !))) (look-in ! 12 (sub ! 1 refl (whole !))))) (from ! (stop !)) (init ! 2 refl (tt, record { fits = room .0 })) $
-          assigns ! (bin ! (load ! (from ! (stop !)) (look ! 6 refl)) (load ! (from ! (stop !)) (look ! 2 refl)) tt) (from ! (stop !)) (init ! 0 refl (tt, tt)) $
+          assigns ! (of-opd ! (load ! (from ! (fld ! refl (stop !))) (look-in ! 12 (sub ! 1 refl (whole !))))) (from ! (stop !)) (init ! 2 refl (
+            tt,
+            record { fits = room .0 },
+          )) $
+          assigns ! (bin ! (load ! (from ! (stop !)) (look ! 6 refl)) (load ! (from ! (stop !)) (look ! 2 refl)) tt) (from ! (stop !)) (init ! 0 refl (
+            tt,
+            tt,
+          )) $
           first ! $ branches ! (load ! (from ! (stop !)) (look ! 0 refl))
           (λ less. skips ! $ exec ! C Λ En more (anyQ (Turned t)) $ move ! (17 ∷ []) $
           use1 W (‵ Own ⊛ ‵ Own) (shr-slice-copy 𝓤 H A W (named 0) κ P.the-row .twice ref (listVal ∷ [])) $ split ! $
           move ! (18 ∷ 0 ∷ []) $ use2 W (raw (Reads 𝓤 H A mem run .pre (to-reads (t .0)))) (asks-reads (t .0) (ltb→lt (t .0) n less) (small (t .0) (t .2))) $
           -- [what `point_at` asks; what the list owns; _7; …; _0; …]
-          calls-at ! fm (Reads 𝓤 H A mem run) known-reads (to-reads (t .0)) (and-then ! (load ! (from ! (stop !)) (look ! 14 refl)) (and-then ! (load ! (from ! (stop !)) (look ! 8 refl)) (no-more !))) (λ u.
-          use1 W (later (some (λ (r : Vector). (token ⊛ ‵ (P.the-row .own r (u ∷ []))) ⊛ raw (ensured 𝓤 H A reads.ended (reads.clauses 𝓤 H A mem run) (κ, tt) (ref, ((t .0), tt)) tt r)))) (id⊢ 𝓤 _) $ await ! tt $ pick ! (λ r.
+          calls-at ! fm (Reads 𝓤 H A mem run) known-reads (to-reads (t .0))
+          (and-then ! (load ! (from ! (stop !)) (look ! 14 refl)) (and-then ! (load ! (from ! (stop !)) (look ! 8 refl)) (no-more !))) (λ u.
+          use1 W (later (some (λ (r : Vector). (token ⊛ ‵ (P.the-row .own r (u ∷ []))) ⊛ raw (ensured 𝓤 H A reads.ended (reads.clauses 𝓤 H A mem run) (
+            κ,
+            tt,
+          ) (ref, ((t .0), tt)) tt r)))) (id⊢ 𝓤 _) $ await ! tt $ pick ! (λ r.
           split ! $ move ! (1 ∷ []) $ use1 W (raw (fact 𝓤 (r ≡ p))) (says-reads (t .0) r) $ heard ! (r ≡ p) (λ e. split ! $ move ! (1 ∷ []) $
           -- [what the point owns; the token; what the list owns; _7; …; _0; …]
           peeks ! P.the-row (Is P.the-row) (shows 𝓤 H A P.the-row) r (u ∷ []) (λ ip.
           land ! (from ! (stop !)) (init ! 7 refl (LL.lawful P.the-type P′.the-laws 𝓤 H A W .typed r _ ip .0)) $
           rewrite ! 7 (λ (v : Val). ‵ (fat fullShare P′.mir l₅ 0 v)) (same-point u r p ip e) refl $ drop ! $
-          nothing ! $ use1 W (raw (Takes 𝓤 H A mem run .pre (to-take (t .1) (t .0) p))) (asks-take (t .1) (t .0) p (t .3) (small (t .0) (t .2)) (is-point u r p ip e)) $
+          nothing ! $ use1 W (raw (Takes 𝓤 H A mem run .pre (to-take (t .1) (t .0) p)))
+          (asks-take (t .1) (t .0) p (t .3) (small (t .0) (t .2)) (is-point u r p ip e)) $
           -- [what `take` asks; the token; what the list owns; _7; …; _0; …]
-          calls-at ! fm (Takes 𝓤 H A mem run) known-take (to-take (t .1) (t .0) p) (and-then ! (load ! (from ! (stop !)) (look ! 11 refl)) (and-then ! (load ! (from ! (stop !)) (look ! 9 refl)) (and-then ! (load ! (from ! (stop !)) (look ! 7 refl)) (and-then ! (load ! (from ! (stop !)) (look ! 13 refl)) (no-more !))))) (λ v.
+          calls-at ! fm (Takes 𝓤 H A mem run) known-take (to-take (t .1) (t .0) p)
+          (and-then ! (load ! (from ! (stop !)) (look ! 11 refl)) (and-then ! (load ! (from ! (stop !)) (look ! 9 refl)) (and-then ! (load ! (from ! (stop !)) (look ! 7 refl)) (and-then ! (load ! (from ! (stop !)) (look ! 13 refl)) (no-more !))))) (λ v.
           use1 W (later (some (λ (y : Farthest). (‵ ftrue ⊛ ‵ (S.the-row .own y (v ∷ []))) ⊛ raw (ensured 𝓤 H A take.ended (take.clauses 𝓤 H A mem run) tt (args-take (t .1) (t .0) p) tt y)))) (id⊢ 𝓤 _) $ await ! tt $ pick ! (λ y.
           split ! $ move ! (1 ∷ []) $ use1 W (raw (fact 𝓤 (y ≡ next))) (says-take (t .1) (t .0) p y) $ heard ! (y ≡ next) (λ e′. split ! $ move ! (1 ∷ []) $
           -- [what the state owns; true; the token; what the list owns; _7; …; _0; …]
           peeks ! S.the-row (Is S.the-row) (shows 𝓤 H A S.the-row) y (v ∷ []) (λ iy.
           land ! (from ! (stop !)) (store ! 12 refl (LL.lawful S.the-type S′.the-laws 𝓤 H A W .typed y _ iy .0)) $
           rewrite ! 12 (λ (z : Val). ‵ (fat fullShare S′.mir l₃ 0 z)) (same-state v y next iy e′) refl $ drop ! $ drop ! $
-          assigns-last ! (bin ! (load ! (from ! (stop !)) (look ! 8 refl)) (lit ! tt) (record { fits = small (t .0 + 1) (add-one-le (ltb→lt (t .0) n less)) })) (from ! (stop !)) (store ! 8 refl (tt, record { fits = small (t .0 + 1) (add-one-le (ltb→lt (t .0) n less)) })) $
+          assigns-last ! (bin ! (load ! (from ! (stop !)) (look ! 8 refl)) (lit ! tt) (record { fits = small (t .0 + 1) (add-one-le (ltb→lt (t .0) n less)) })) (from ! (stop !)) (store ! 8 refl (
+            tt,
+            record { fits = small (t .0 + 1) (add-one-le (ltb→lt (t .0) n less)) },
+          )) $
           forget ! 2 refl $ forget ! 4 refl $ forget ! 6 refl $ keep ! (2 ∷ 3 ∷ 4 ∷ 5 ∷ 6 ∷ 7 ∷ 8 ∷ 9 ∷ 10 ∷ 11 ∷ 12 ∷ 13 ∷ 14 ∷ 15 ∷ 16 ∷ 17 ∷ 0 ∷ 1 ∷ []) $
-          again ! Nearer At t (t .0 + 1, next, add-one-le (ltb→lt (t .0) n less), is-state v y next iy e′, sym (goes-on binary32 w ys (t .0) (t .1) (ltb→lt (t .0) n less)) ∙ t .4) (add-one-dec n (t .0) (ltb→lt (t .0) n less)))))))))))
+          again ! Nearer At t (
+            t .0 + 1,
+            next,
+            add-one-le (ltb→lt (t .0) n less),
+            is-state v y next iy e′,
+            sym (goes-on binary32 w ys (t .0) (t .1) (ltb→lt (t .0) n less)) ∙ t .4,
+          ) (add-one-dec n (t .0) (ltb→lt (t .0) n less)))))))))))
           (λ over. jumps ! $ exec ! C Λ En rest (atRet En Post) $
           nothing ! $ use1 W (raw (Answers 𝓤 H A mem run .pre (to-answer (t .1) (t .0)))) (asks-answer (t .1) (t .0) (t .3) (small (t .0) (t .2))) $
           -- [what `answer` asks; _7; …; _0; …; the token; what the list owns]
-          calls-at ! fm (Answers 𝓤 H A mem run) known-answer (to-answer (t .1) (t .0)) (and-then ! (load ! (from ! (stop !)) (look ! 9 refl)) (and-then ! (load ! (from ! (stop !)) (look ! 7 refl)) (no-more !))) (λ u.
-          use1 W (later (some (λ (r : SupportAnswer). (‵ ftrue ⊛ ‵ (R.the-row .own r (u ∷ []))) ⊛ raw (ensured 𝓤 H A answer.ended (answer.clauses 𝓤 H A mem run) tt (t .1, (t .0, tt)) tt r)))) (id⊢ 𝓤 _) $ await ! tt $ pick ! (λ r.
-          split ! $ move ! (1 ∷ []) $ use1 W (raw (fact 𝓤 (r ≡ answerOf (t .1) (t .0)))) (says-answer (t .1) (t .0) r) $ heard ! (r ≡ answerOf (t .1) (t .0)) (λ e. split ! $ move ! (1 ∷ []) $
+          calls-at ! fm (Answers 𝓤 H A mem run) known-answer (to-answer (t .1) (t .0))
+          (and-then ! (load ! (from ! (stop !)) (look ! 9 refl)) (and-then ! (load ! (from ! (stop !)) (look ! 7 refl)) (no-more !))) (λ u.
+          use1 W (later (some (λ (r : SupportAnswer). (‵ ftrue ⊛ ‵ (R.the-row .own r (u ∷ []))) ⊛ raw (ensured 𝓤 H A answer.ended (answer.clauses 𝓤 H A mem run) tt (
+            t .1,
+            (t .0, tt),
+          ) tt r)))) (id⊢ 𝓤 _) $ await ! tt $ pick ! (λ r.
+          split ! $ move ! (1 ∷ []) $ use1 W (raw (fact 𝓤 (r ≡ answerOf (t .1) (t .0)))) (says-answer (t .1) (t .0) r) $ heard !
+          (r ≡ answerOf (t .1) (t .0)) (λ e. split ! $ move ! (1 ∷ []) $
           -- [the result; true; _7; …; room for _0; …; the token; what the list owns]
           peeks ! R.the-row (Is R.the-row) (shows 𝓤 H A R.the-row) r (u ∷ []) (λ ir.
           land ! (from ! (stop !)) (init ! 16 refl (EL.lawful R.the-type R′.the-laws 𝓤 H A W tt .typed r _ ir .0)) $
@@ -308,19 +348,30 @@ module _ {M : Type 1} (𝓤 : URA M) (H : Heap 𝓤) (A : Atoms 𝓤) (W : Given
     walk =
         qed W (token ∷ ‵ (owns (ShrSlice (named 0) κ P.the-row ∷ P.the-row ∷ []) args at) ∷ []) ∵ enter ! C Λ code.function (listVal ∷ pointVal w ∷ []) _ $
         alloc1 ! (λ l₀. alloc1 ! (λ l₁. alloc1 ! (λ l₂. alloc1 ! (λ l₃. alloc1 ! (λ l₄. alloc1 ! (λ l₅. alloc1 ! (λ l₆. alloc1 ! (λ l₇. alloc0 ! $ params1 ! $
-        pass1 ! (init ! 12 refl (tt, (tt, (record { fits = room .0 }, tt)))) $ pass1 ! (init ! 10 refl (LL.lawful P.the-type P′.the-laws 𝓤 H A W .typed w _ iw .0)) $ pass0 ! $
+        pass1 ! (init ! 12 refl (
+          tt,
+          (tt, (record { fits = room .0 }, tt)),
+        )) $ pass1 ! (init ! 10 refl (LL.lawful P.the-type P′.the-laws 𝓤 H A W .typed w _ iw .0)) $ pass0 ! $
         move ! (17 ∷ []) $ fsplit ! $ move ! (1 ∷ []) $ drop ! $
         -- [what the list owns; _7; …; _0; …; the token]
         begin l₀ l₁ l₂ l₃ l₄ l₅ l₆ l₇))))))))
 
-module _ {M : Type 1} (𝓤 : URA M) (H : Heap 𝓤) (A : Atoms 𝓤) (W : Given 𝓤 H A) (mem : Memory → SProp 𝓤) (run : Routine → Fun 𝓤) (𝓣 : Tables 𝓤 H) (known-reads : Triple 𝓤 (𝓣 .C #point-at) (Reads 𝓤 H A mem run)) (known-take : Triple 𝓤 (𝓣 .C #take) (Takes 𝓤 H A mem run)) (known-answer : Triple 𝓤 (𝓣 .C #answer) (Answers 𝓤 H A mem run)) where
+module _ {M : Type 1} (𝓤 : URA M) (H : Heap 𝓤) (A : Atoms 𝓤) (W : Given 𝓤 H A) (mem : Memory → SProp 𝓤) (run : Routine → Fun 𝓤) (𝓣 : Tables 𝓤 H)
+    (known-reads : Triple 𝓤 (𝓣 .C #point-at) (Reads 𝓤 H A mem run)) (known-take : Triple 𝓤 (𝓣 .C #take) (Takes 𝓤 H A mem run))
+    (known-answer : Triple 𝓤 (𝓣 .C #answer) (Answers 𝓤 H A mem run)) where
   support-points-walks : Walks 𝓤 H A f.ended stayed (WpFn 𝓤 H (𝓣 .C) (𝓣 .Λ) code.function) (f.clauses 𝓤 H A mem run)
-  support-points-walks = walked 𝓤 H A f.ended stayed (f.clauses 𝓤 H A mem run) (WpFn 𝓤 H (𝓣 .C) (𝓣 .Λ) code.function) (λ κs. (slice-vals, (LL.vals P.the-type P′.the-laws, tt))) (λ κs. (shr-slice-tells (named 0) (κs .0) P.the-row, (LL.tells P.the-type P′.the-laws, tt)))
+  support-points-walks = walked 𝓤 H A f.ended stayed (f.clauses 𝓤 H A mem run) (WpFn 𝓤 H (𝓣 .C) (𝓣 .Λ) code.function) (λ κs. (
+    slice-vals,
+    (LL.vals P.the-type P′.the-laws, tt),
+  )) (λ κs. (shr-slice-tells (named 0) (κs .0) P.the-row, (LL.tells P.the-type P′.the-laws, tt)))
       (λ κs qs bounds a g are. via 𝓤 _ (fst∗ 𝓤 _ (emp 𝓤))
       (walk 𝓤 H A W mem run (κs .0) (qs .0) (a .0 .ptr .0) (a .0 .ptr .1) (a .0 .name) (a .0 .now) (a .1 .0) (are .1 .0) (are .0 .0 .1) 𝓣 (fmOf 𝓤 H (W .laws) 𝓣) known-reads known-take known-answer))
 
   support-points-meets : Meets 𝓤 H A f.signature (WpFn 𝓤 H (𝓣 .C) (𝓣 .Λ) code.function) (f.spec 𝓤 H A mem run)
-  support-points-meets = walk-meets 𝓤 H A f.ended stayed W (goes-none-slice 𝓤 H A W 1 (0 ∷ []) tt (plain (λ _. P.the-row)) yes, (goes-none 𝓤 H A W 1 (λ _. P.the-row) yes (λ κs x f. refl), tt)) (f.clauses 𝓤 H A mem run) (WpFn 𝓤 H (𝓣 .C) (𝓣 .Λ) code.function) (WpFn-mono 𝓤 H (W .laws) 𝓣 code.function) support-points-walks
+  support-points-meets = walk-meets 𝓤 H A f.ended stayed W (
+    goes-none-slice 𝓤 H A W 1 (0 ∷ []) tt (plain (λ _. P.the-row)) yes,
+    (goes-none 𝓤 H A W 1 (λ _. P.the-row) yes (λ κs x f. refl), tt),
+  ) (f.clauses 𝓤 H A mem run) (WpFn 𝓤 H (𝓣 .C) (𝓣 .Λ) code.function) (WpFn-mono 𝓤 H (W .laws) 𝓣 code.function) support-points-walks
 
 pub support-points-spec : {M : Type 1} → stated.statement M
 unfolding code.routine tablesOf
