@@ -15,12 +15,8 @@ use Rattle.model.specs.declared.Ending.the-variants.{Touching, Settled, RoundLi
 use Rattle.model.specs.declared.DistanceAnswer.{DistanceAnswer}
 use Rattle.model.specs.declared.DistanceAnswer.the-variants.{Measured, Refused}
 use Rattle.model.specs.declared.Distance.{Distance}
-use Rattle.model.proofs.DistanceCall.{rounds-at-most-20}
+use Rattle.model.proofs.DistanceCall.{both, rounds-at-most-20}
 use Rattle.foldflake.specs.Entry.{sweepCall, sweepNumber, contactAfter, countsAfter, sweepFits, SweepTold, endingNumber, roundsOf, cacheOf, distanceFor, distanceNumber, cacheAfter, outputAfter, distanceFits, DistanceTold}
-
-pub both : (a b : Bool) → (a && b) ≡ true → (a ≡ true) × (b ≡ true)
-both true b e = (refl, e)
-both false b e = absurd (let z : _≡_ {A = ℕ} 0 1 = cc in omega arith)
 
 -- ---- the sweep
 module _ (ns out : List Float) (counts : List ℕ) where

@@ -16,6 +16,7 @@ use Rattle.model.specs.declared.BlockAnswer.the-variants.{Worked, Refused}
 use Rattle.model.specs.declared.Totals.{Totals}
 use Rattle.model.specs.Work.{blockAnswer}
 use Rattle.model.specs.Sheet.{wholeAnswers, restAnswer, answers, answerLine, linesFrom, oneWorked, counted, totalsFrom}
+use Rattle.model.proofs.DistanceCall.{both}
 use Rattle.model.proofs.Sheet.{lines-append, totals-append, blocks-counted, answers-more, answers-counted}
 use Rattle.lines.specs.Put.{Put}
 use Rattle.lines.specs.Part.{Below, countLimit, countable, fits, longestLine}
@@ -94,10 +95,6 @@ below-more n t (Worked job v) h = go (v .status)
     }
 
 -- ---- what there is room for
-both : (x y : Bool) → (x && y) ≡ true → (x ≡ true) × (y ≡ true)
-both true y e = (refl, e)
-both false y e = (cc, cc)
-
 pub countable-below : (t : Totals) → countable t ≡ true → Below countLimit t
 countable-below t e =
     let four = both (ltb (t .blocks) countLimit && ltb (t .clear) countLimit && ltb (t .contact) countLimit && ltb (t .undecided) countLimit)
