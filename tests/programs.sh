@@ -12,7 +12,7 @@ fi
 work="$(mktemp -d)"; trap 'rm -r "$work"' EXIT
 bad=0
 
-# block STATUS: that many bytes of a block with this answer, from the batch that has every answer
+# block ANSWER [BYTES]: a block with that status or refusal, or its first bytes, from the batch that has every answer
 block() {
   case $1 in H) at=1;; S) at=2;; O) at=5;; F) at=12;; 8) at=6;; 10) at=14;; 11) at=10;; esac
   tail -c +$((512 * (at - 1) + 1)) examples/every-answer.batch | head -c "${2:-512}"
