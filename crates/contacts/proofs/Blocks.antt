@@ -29,7 +29,8 @@ unfolding firstFrom wholeAnswers
 none-left b k n i done = let e : k - i ≡ 0 = omega arith in rw e
 
 -- block i, of so many bytes, answered by x
-module _ (b : List ℕ) (k n i size : ℕ) (more : i < k) (whole : size ≡ 512) (x : BlockAnswer) (answer : x ≡ blockAnswer binary32 (take size (drop (512 * i) b))) where
+module _ (b : List ℕ) (k n i size : ℕ) (more : i < k) (whole : size ≡ 512) (x : BlockAnswer)
+    (answer : x ≡ blockAnswer binary32 (take size (drop (512 * i) b))) where
   one-block : leftFrom b k n i ≡ cond (isContact x) (n + 1) (leftFrom b k (n + 1) (i + 1))
   unfolding firstFrom wholeAnswers
   one-block =
@@ -50,8 +51,10 @@ pub part-searched : (before : ℕ) (part : List ℕ) (found : ℕ) → before < 
 part-searched before part found small e =
     rw (lt-ltb _ _ small) (ap (searchedTo before part) (e ∙ sym (rest-passed-over binary32 before part)))
 
-pub nothing-found : (before : ℕ) (part : List ℕ) (found : ℕ) → found ≡ 0 → searchedTo before part found ≡ state found (before + length part / blockSize) (isLast part)
+pub nothing-found : (before : ℕ) (part : List ℕ) (found : ℕ) → found ≡ 0 →
+    searchedTo before part found ≡ state found (before + length part / blockSize) (isLast part)
 nothing-found before part found e = rw e
 
-pub something-found : (before : ℕ) (part : List ℕ) (found : ℕ) → (found ≡ 0 → ⊥) → searchedTo before part found ≡ state found (before + length part / blockSize) true
+pub something-found : (before : ℕ) (part : List ℕ) (found : ℕ) → (found ≡ 0 → ⊥) →
+    searchedTo before part found ≡ state found (before + length part / blockSize) true
 something-found before part found h = rw (ne-eqb found 0 h)

@@ -38,7 +38,8 @@ whole-part n p ps small whole =
     let least : partSize ≤ length p = omega arith in
     rw (lt-ltb _ _ small, le-ltb _ _ least, whole) (go (eqb (firstFrom n (answers binary32 p)) 0))
   where
-    go : (c : Bool) → cond (cond c false true) (firstFrom n (answers binary32 p)) (search (n + 128) ps) ≡ cond c (search (n + 128) ps) (firstFrom n (answers binary32 p))
+    go : (c : Bool) → cond (cond c false true) (firstFrom n (answers binary32 p)) (search (n + 128) ps)
+        ≡ cond c (search (n + 128) ps) (firstFrom n (answers binary32 p))
     go true = refl
     go false = refl
 
@@ -53,7 +54,12 @@ search-from n (p ∷ q ∷ r) cut small =
     let multiple : length p % 512 ≡ 0 = rw whole in
     let left : n + 128 + length rest < countLimit = omega (arith, length-append p rest) in
     whole-part n p (q ∷ r) (omega arith) whole
-    ∙ rw (search-from (n + 128) (q ∷ r) (cut .1) left, answers-in-two-parts binary32 p rest multiple, first-append n (answers binary32 p) (answers binary32 rest), whole-counted p whole)
+    ∙ rw (
+      search-from (n + 128) (q ∷ r) (cut .1) left,
+      answers-in-two-parts binary32 p rest multiple,
+      first-append n (answers binary32 p) (answers binary32 rest),
+      whole-counted p whole,
+    )
 
 -- for every file that a machine can hold
 pub search-finds-first : (ps : List (List ℕ)) → Cut ps → length (together ps) < countLimit → search 0 ps ≡ firstContact binary32 (together ps)

@@ -48,7 +48,9 @@ returns c =
     let l = c .before .before .before .before .before .loop in
     let i = l .i in
     let whole : 512 * i + 512 - 512 * i ≡ 512 = omega arith in
-    sym (found-here _ _ _ _ _ (c .before .before .before .before .loop-test .taken) whole _ (c .before .before .answer-block .ensures) (sym (c .before .is-contact .ensures) ∙ c .if1 .taken)) ∙ l .inv .2
+    let more = c .before .before .before .before .loop-test .taken in
+    let so = sym (c .before .is-contact .ensures) ∙ c .if1 .taken in
+    sym (found-here _ _ _ _ _ more whole _ (c .before .before .answer-block .ensures) so) ∙ l .inv .2
 
 add-n : tie.Need-add-n Inv-loop μ-loop
 add-n c = search needs
@@ -63,10 +65,12 @@ loop-again : tie.Need-loop-again Inv-loop μ-loop
 loop-again c =
     let l = c .before .before .before .before .before .loop in
     let i = l .i in
-    let whole : 512 * i + 512 - 512 * i ≡ 512 = omega arith in (
+    let whole : 512 * i + 512 - 512 * i ≡ 512 = omega arith in
+    let more = c .before .before .before .before .loop-test .taken in
+    let not-so = sym (c .before .is-contact .ensures) ∙ c .if1 .left in (
       search needs,
       search needs,
-      passed-over _ _ _ _ _ (c .before .before .before .before .loop-test .taken) whole _ (c .before .before .answer-block .ensures) (sym (c .before .is-contact .ensures) ∙ c .if1 .left) ∙ l .inv .2,
+      passed-over _ _ _ _ _ more whole _ (c .before .before .answer-block .ensures) not-so ∙ l .inv .2,
     )
 
 returns-2 : tie.Need-returns-2 Inv-loop μ-loop

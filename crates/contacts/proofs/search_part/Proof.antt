@@ -18,12 +18,14 @@ add-blocks c = search needs
 returns-2 : tie.Need-returns-2
 returns-2 c =
     let a = c .before .before .before .before .args in
-    sym (nothing-found (a .before) (a .part .now) _ (c .if2 .taken)) ∙ part-searched (a .before) (a .part .now) _ (c .before .before .if1 .left) (c .before .search-blocks .ensures)
+    sym (nothing-found (a .before) (a .part .now) _ (c .if2 .taken))
+    ∙ part-searched (a .before) (a .part .now) _ (c .before .before .if1 .left) (c .before .search-blocks .ensures)
 
 returns-3 : tie.Need-returns-3
 returns-3 c =
     let a = c .before .before .before .before .args in
-    sym (something-found (a .before) (a .part .now) _ (c .if2 .left)) ∙ part-searched (a .before) (a .part .now) _ (c .before .before .if1 .left) (c .before .search-blocks .ensures)
+    sym (something-found (a .before) (a .part .now) _ (c .if2 .left))
+    ∙ part-searched (a .before) (a .part .now) _ (c .before .before .if1 .left) (c .before .search-blocks .ensures)
 
 pub search-part-spec : {M : Type 1} → statement M
 search-part-spec = tie.close (tie.spec returns search-blocks-requires add-blocks returns-2 returns-3)

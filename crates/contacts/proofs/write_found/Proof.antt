@@ -25,7 +25,8 @@ returns-2 c =
     let start = c .before .before .before .before .before .before in
     let room : 21 ≤ length (start .before .before .args .out .now) = start .if1 .left in
     let enough : 5 ≤ length (start .before .before .args .out .now) = omega arith in
-    simp (le-ltb _ _ room, eq-eqb _ _ (c .before .before .before .before .before .if2 .taken)) (rw (le-ltb _ _ enough) at (c .before .before .write-text .ensures))
+    simp (le-ltb _ _ room, eq-eqb _ _ (c .before .before .before .before .before .if2 .taken))
+    (rw (le-ltb _ _ enough) at (c .before .before .write-text .ensures))
 
 write-number-requires : tie.Need-write-number-requires
 write-number-requires c κs = search needs
