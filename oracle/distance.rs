@@ -1,40 +1,13 @@
-//! Stored distance calls: a pool of 16,384 words, then rows of 18 words, 910 to each 16,384 (see docs/REPLAYS.md).
+//! Stored distance calls: a pool, then rows of 18 words (see docs/REPLAYS.md).
 use crate::counts;
 use crate::domain;
 use crate::ground::bits;
 use crate::math::{Pose, Vector};
-use crate::pool::{self, points, Pool, GOOD};
+use crate::pool::{self, cache_words, points, Pool, GOOD};
 use crate::random::Random;
 use crate::sweep_toi::proxy_distance::{proxy_distance, SimplexCache};
 use crate::sweep_toi::toi_proxy::ToiProxy;
-use crate::words;
-
-fn pool_words(p: &Pool) -> Vec<u32> {
-    let mut w = vec![0; 1024];
-    for (i, s) in p.outlines.iter().enumerate() {
-        w[2 * i] = w.len() as u32;
-        w[2 * i + 1] = s.len() as u32;
-        w.extend(s.iter().map(|x| x.to_bits()));
-    }
-    for (i, x) in p.poses.iter().enumerate() {
-        let v = [x.rotation.c, x.rotation.s, x.translation.x, x.translation.y];
-        for k in 0..4 {
-            w[256 + 4 * i + k] = v[k].to_bits();
-        }
-    }
-    for (i, c) in p.caches.iter().enumerate() {
-        w[512 + 7 * i..519 + 7 * i].copy_from_slice(&cache_words(c));
-    }
-    for (i, x) in p.radii.iter().enumerate() {
-        w[960 + 2 * i] = x.0.to_bits();
-        w[961 + 2 * i] = x.1.to_bits();
-    }
-    w
-}
-
-fn cache_words(c: &SimplexCache) -> [u32; 7] {
-    [c.count as u32, c.index_a[0], c.index_a[1], c.index_a[2], c.index_b[0], c.index_b[1], c.index_b[2]]
-}
+use crate::words::{self, Parts};
 
 #[derive(Copy, Clone)]
 pub struct Call {
@@ -102,8 +75,9 @@ pub fn rows(seed: u64, count: usize) {
     let mut r = Random(seed);
     let mut p = pool::pool(&mut r);
     let found: Vec<usize> = (0..8).filter(|&k| slow_call(&mut r, &mut p, k)).collect();
-    let mut out = words::Chunks::new();
-    out.chunk(&pool_words(&p));
+    let mut out = Parts::new();
+    out.pool(&p);
+    out.table(words::DISTANCE);
     let mut seen = [0u32; 19];
     for i in 0..count {
         let mut below = |good: usize, all: usize| {

@@ -2,7 +2,7 @@
 //! Every NaN in an answer is written 7FC00000; inputs are written as they are.
 use crate::math::{MaxOf, Pose, Rotation, Vector};
 use crate::random::Random;
-use std::io::Write;
+use crate::words::{self, Parts};
 
 pub fn bits(x: f32) -> u32 {
     if x.is_nan() {
@@ -65,7 +65,8 @@ fn answer(op: usize, x: &[f32]) -> Vec<f32> {
 /// 1,400 rows of each operation: all inputs of one kind for half of them, so that results stay in reach, and mixed kinds for the rest.
 pub fn rows() {
     let mut random = Random(1);
-    let mut out = std::io::BufWriter::new(std::io::stdout().lock());
+    let mut out = Parts::new();
+    out.table(words::GROUND);
     for (i, &n) in INPUTS.iter().enumerate() {
         for k in 0..1400 {
             let scale = 2f32.powi(random.below(60) as i32 - 30);
@@ -81,9 +82,8 @@ pub fn rows() {
             words.resize(9, 0);
             words.extend(answer(i + 1, &x).iter().map(|&y| bits(y)));
             words.resize(16, 0);
-            for w in words {
-                out.write_all(&w.to_le_bytes()).unwrap();
-            }
+            out.row(&words);
         }
     }
+    out.end();
 }

@@ -3,7 +3,8 @@
 //!   oracle distance SEED COUNT           a pool and rows of distance calls with their answers (distance.rs)
 //!   oracle sweep SEED COUNT [EFFORT]     a pool and rows of sweeps with their answers (sweep.rs)
 //!   oracle batch SEED COUNT              a batch of COUNT blocks (sheet.rs)
-//!   oracle lines SEED COUNT              blocks with their lines
+//!   oracle lines SEED COUNT              rows of blocks with their lines
+//!   oracle known                         a pool, sweeps and blocks whose answers are well known (known.rs)
 //!   oracle sheet                         the sheet of the batch on standard input
 //!   oracle squared-paper MILLIONS SEED   demand 3 tested by running (squared_paper.rs)
 //!   oracle turns SEED COUNT              what S misses when something turns, COUNT moves of each of ten kinds (turns.rs)
@@ -43,6 +44,7 @@ fn main() {
         "sweep" => sweep::rows(number(2), number(3) as usize, word(4).parse().unwrap_or(100)),
         "batch" => sheet::batch(number(2), number(3)),
         "lines" => sheet::rows(number(2), number(3)),
+        "known" => known::rows(),
         "sheet" => sheet::sheet(),
         "turns" => turns::run(number(2), number(3)),
         "squared-paper" => squared_paper::run(number(2), number(3)),

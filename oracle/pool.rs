@@ -92,6 +92,42 @@ pub struct Pool {
     pub slops: Vec<f32>,
 }
 
+impl Pool {
+    /// Where each outline starts among these words and how many numbers it has, poses, caches, radii, moves, fractions, slops, and the outlines.
+    pub fn words(&self) -> Vec<u32> {
+        let mut w = vec![0; 2352];
+        for (i, s) in self.outlines.iter().enumerate() {
+            w[2 * i] = w.len() as u32;
+            w[2 * i + 1] = s.len() as u32;
+            w.extend(s.iter().map(|x| x.to_bits()));
+        }
+        for (i, c) in self.caches.iter().enumerate() {
+            w[512 + 7 * i..519 + 7 * i].copy_from_slice(&cache_words(c));
+        }
+        let mut put = |at: usize, numbers: &[f32]| numbers.iter().enumerate().for_each(|(k, x)| w[at + k] = x.to_bits());
+        for (i, p) in self.poses.iter().enumerate() {
+            put(256 + 4 * i, &[p.rotation.c, p.rotation.s, p.translation.x, p.translation.y]);
+        }
+        for (i, x) in self.radii.iter().enumerate() {
+            put(960 + 2 * i, &[x.0, x.1]);
+        }
+        for (i, m) in self.moves.iter().enumerate() {
+            put(1024 + 10 * i, &move_numbers(m));
+        }
+        put(2304, &self.fractions);
+        put(2320, &self.slops);
+        w
+    }
+}
+
+pub fn move_numbers(m: &Sweep) -> [f32; 10] {
+    [m.local_center.x, m.local_center.y, m.c1.x, m.c1.y, m.c2.x, m.c2.y, m.q1.c, m.q1.s, m.q2.c, m.q2.s]
+}
+
+pub fn cache_words(c: &SimplexCache) -> [u32; 7] {
+    [c.count as u32, c.index_a[0], c.index_a[1], c.index_a[2], c.index_b[0], c.index_b[1], c.index_b[2]]
+}
+
 /// How many of each kind are in the domain, of 128 outlines, 64 poses, 32 radii, 128 moves, 16 fractions and 32 slops.
 pub struct Good {
     pub outlines: usize,

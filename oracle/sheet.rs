@@ -1,10 +1,10 @@
 //! The sheet of a batch by the oracle, and seeded batches.
-use crate::known::{known, SLOP};
 use crate::math::{Rotation, Vector};
-use crate::pool::{angle, edge_rotations, movement, outline, ABOVE_LIMIT};
+use crate::pool::{angle, edge_rotations, move_numbers, movement, outline, ABOVE_LIMIT};
 use crate::random::{Random, SPECIAL};
 use crate::sweep;
 use crate::sweep_toi::sweep::Sweep;
+use crate::words::{self, Parts};
 use std::io::{Read, Write};
 
 const SIZE: usize = 512;
@@ -101,14 +101,15 @@ pub fn sheet() {
     writeln!(out, "TOTAL {} {} {} {} {}", totals[0], totals[1], totals[2], totals[3], totals[4]).unwrap();
 }
 
-struct Job {
-    a: Vec<f32>,
-    b: Vec<f32>,
-    head: [f32; 4],
-    moves: [Sweep; 2],
+/// What a block asks for; the head is both radii, the max fraction and the slop.
+pub struct Job {
+    pub a: Vec<f32>,
+    pub b: Vec<f32>,
+    pub head: [f32; 4],
+    pub moves: [Sweep; 2],
 }
 
-fn block(job: u32, j: &Job) -> [u8; SIZE] {
+pub fn block(job: u32, j: &Job) -> [u8; SIZE] {
     let mut b = [0u8; SIZE];
     let mut put = |at: usize, w: u32| b[at..at + 4].copy_from_slice(&w.to_le_bytes());
     put(0, job);
@@ -117,8 +118,7 @@ fn block(job: u32, j: &Job) -> [u8; SIZE] {
         put(8 + 4 * i, x.to_bits());
     }
     for (k, m) in j.moves.iter().enumerate() {
-        let w = [m.local_center.x, m.local_center.y, m.c1.x, m.c1.y, m.c2.x, m.c2.y, m.q1.c, m.q1.s, m.q2.c, m.q2.s];
-        for (i, x) in w.iter().enumerate() {
+        for (i, x) in move_numbers(m).iter().enumerate() {
             put(24 + 40 * k + 4 * i, x.to_bits());
         }
     }
@@ -245,27 +245,23 @@ pub fn batch(seed: u64, count: u64) {
     }
 }
 
-/// The known jobs as blocks, by their place.
-fn known_blocks() -> Vec<[u8; SIZE]> {
-    let k = known();
-    let of = |&[a, b, move_a, move_b]: &[usize; 4]| Job { a: k.outlines[a].clone(), b: k.outlines[b].clone(), head: [0.0, 0.0, 1.0, SLOP], moves: [k.moves[move_a], k.moves[move_b]] };
-    (1..).zip(&k.jobs).map(|(number, job)| block(number, &of(job))).collect()
+/// A block as block `number` of a file, in 160 words: the block, the bytes of its line, zeros, and the line's kind.
+pub fn row(number: u64, b: &[u8; SIZE]) -> Vec<u32> {
+    let (text, kind) = line(number, b);
+    let mut bytes = [&b[..], text.as_bytes()].concat();
+    assert!(bytes.len() <= 636);
+    bytes.resize(636, 0);
+    bytes.chunks_exact(4).map(|w| word(w, 0)).chain([kind]).collect()
 }
 
-/// Rows of 160 words: a block, the bytes of its line as block i of a file, zeros, and the line's kind. The known jobs come first.
 pub fn rows(seed: u64, count: u64) {
     let mut r = Random(seed);
-    let mut out = crate::words::Chunks::new();
+    let mut out = Parts::new();
+    out.table(words::BLOCK);
     let mut seen = [0u32; 20];
-    let known = known_blocks();
     for i in 1..=count {
-        let b = known.get(i as usize - 1).copied().unwrap_or_else(|| made(&mut r, i));
-        let (text, kind) = line(i, &b);
-        seen[kind as usize] += 1;
-        let mut bytes = [&b[..], text.as_bytes()].concat();
-        assert!(bytes.len() <= 636);
-        bytes.resize(636, 0);
-        let words: Vec<u32> = bytes.chunks_exact(4).map(|w| u32::from_le_bytes(w.try_into().unwrap())).chain([kind]).collect();
+        let words = row(i, &made(&mut r, i));
+        seen[words[159] as usize] += 1;
         out.row(&words);
     }
     out.end();

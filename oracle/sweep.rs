@@ -1,33 +1,13 @@
-//! Stored sweeps: a pool of 16,384 words, then rows of 11 words, 1,489 to each 16,384 (see docs/REPLAYS.md).
+//! Stored sweeps: a pool, then rows of 11 words (see docs/REPLAYS.md).
 use crate::counts;
 use crate::domain;
 use crate::ground::bits;
-use crate::known::known;
 use crate::pool::{self, points, Outline, Pool, GOOD};
 use crate::random::Random;
 use crate::sweep_toi::sweep::Sweep;
 use crate::sweep_toi::sweep_toi::{sweep_time_of_impact, SweepToiStatus};
 use crate::sweep_toi::toi_proxy::ToiProxy;
-use crate::words;
-
-fn pool_words(p: &Pool) -> Vec<u32> {
-    let mut w = vec![0; 1648];
-    for (i, s) in p.outlines.iter().enumerate() {
-        w[2 * i] = w.len() as u32;
-        w[2 * i + 1] = s.len() as u32;
-        w.extend(s.iter().map(|x| x.to_bits()));
-    }
-    let mut put = |at: usize, numbers: &[f32]| numbers.iter().enumerate().for_each(|(k, x)| w[at + k] = x.to_bits());
-    for (i, m) in p.moves.iter().enumerate() {
-        put(256 + 10 * i, &[m.local_center.x, m.local_center.y, m.c1.x, m.c1.y, m.c2.x, m.c2.y, m.q1.c, m.q1.s, m.q2.c, m.q2.s]);
-    }
-    put(1536, &p.fractions);
-    put(1552, &p.slops);
-    for (i, x) in p.radii.iter().enumerate() {
-        put(1584 + 2 * i, &[x.0, x.1]);
-    }
-    w
-}
+use crate::words::{self, Parts};
 
 pub struct Answer {
     /// The number of refusal; 0 for none.
@@ -60,22 +40,22 @@ pub fn answer(a: &Outline, ra: f32, wa: &Sweep, b: &Outline, rb: f32, wb: &Sweep
 }
 
 #[derive(Copy, Clone)]
-struct Call {
-    a: usize,
-    b: usize,
-    move_a: usize,
-    move_b: usize,
-    radii: usize,
-    fraction: usize,
-    slop: usize,
+pub struct Call {
+    pub a: usize,
+    pub b: usize,
+    pub move_a: usize,
+    pub move_b: usize,
+    pub radii: usize,
+    pub fraction: usize,
+    pub slop: usize,
 }
 
-fn ask(p: &Pool, k: Call) -> Answer {
+pub fn ask(p: &Pool, k: Call) -> Answer {
     let (ra, rb) = p.radii[k.radii];
     answer(&p.outlines[k.a], ra, &p.moves[k.move_a], &p.outlines[k.b], rb, &p.moves[k.move_b], p.fractions[k.fraction], p.slops[k.slop])
 }
 
-fn row(k: Call, x: &Answer) -> [u32; 11] {
+pub fn row(k: Call, x: &Answer) -> [u32; 11] {
     let mut w = [0; 11];
     w[0] = k.a as u32 | (k.b as u32) << 8 | (k.move_a as u32) << 16 | (k.move_b as u32) << 24;
     w[1] = k.radii as u32 | (k.fraction as u32) << 8 | (k.slop as u32) << 16;
@@ -125,16 +105,13 @@ fn rare(x: &Answer, max_fraction: f32) -> Option<usize> {
     found.iter().position(|&y| y)
 }
 
-/// The known jobs come first. Half of the rows come as they fall, a quarter has parts outside the domain, and a quarter was looked for among
-/// `effort` sweeps for each row.
+/// Half of the rows come as they fall, a quarter has parts outside the domain, and a quarter was looked for among `effort` sweeps for each row.
 pub fn rows(seed: u64, count: usize, effort: u64) {
     let mut r = Random(seed);
-    let mut p = pool::pool(&mut r);
-    let known = known();
-    p.outlines[..known.outlines.len()].clone_from_slice(&known.outlines);
-    p.moves[..known.moves.len()].copy_from_slice(&known.moves);
-    let mut out = words::Chunks::new();
-    out.chunk(&pool_words(&p));
+    let p = pool::pool(&mut r);
+    let mut out = Parts::new();
+    out.pool(&p);
+    out.table(words::SWEEP);
     let call = |r: &mut Random, bad: bool| {
         let mut below = |good: usize, all: usize| {
             let out = bad && r.below(5) == 0;
@@ -149,11 +126,7 @@ pub fn rows(seed: u64, count: usize, effort: u64) {
         out.row(&w);
     };
     for i in 0..count - count / 4 {
-        // the pool's first radii, fraction and slop are 0, 1 and 0.005
-        let k = match known.jobs.get(i) {
-            Some(&[a, b, move_a, move_b]) => Call { a, b, move_a, move_b, radii: 0, fraction: 0, slop: 0 },
-            None => call(&mut r, i % 3 == 2),
-        };
+        let k = call(&mut r, i % 3 == 2);
         write(k, &ask(&p, k));
     }
     let (mut kept, mut met) = ([0usize; 12], [0usize; 12]);

@@ -6,11 +6,11 @@ set -eu
 kind="$1"; src="$2"; seeds="${3:-50}"; count="${4:-20020}"
 cd "$(dirname "$0")/.."
 oracle/build.sh "$src" target/oracle
-rt check "replay_$kind" > /dev/null
+rt check replay > /dev/null
 total() { sed -n "s/.*$1 \([0-9]*\),.*/\1/p" <<< "$out" | awk '{n += $1} END {print n + 0}'; }
 rows=0; differ=0
 for seed in $(seq 1001 $((1000 + seeds))); do
-  out="$(target/oracle/oracle "$kind" "$seed" "$count" 1 2> /dev/null | ${RUN:-} "target/bin/replay_$kind")"
+  out="$(target/oracle/oracle "$kind" "$seed" "$count" 1 2> /dev/null | ${RUN:-} target/bin/replay)"
   rows=$((rows + $(total rows)))
   here=$(total differ)
   [ "$here" = 0 ] || echo "seed $seed: $here differ"

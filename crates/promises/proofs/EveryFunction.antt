@@ -9,7 +9,9 @@ use contract.Monad.{Fun}
 use mathlib.Core.Path.{_≡_, refl}
 use Rattle.promises.specs.OneResult.{OneResult}
 use Rattle.promises.proofs.Once.{told, told-in-two, each-list, same-value}
+use Rattle.root.proofs as root
 use Rattle.ground.proofs as ground
+use Rattle.domain.proofs as domain
 use Rattle.outline.proofs as outline
 use Rattle.simplex.proofs as simplex
 use Rattle.distance.proofs as distance
@@ -18,20 +20,29 @@ use Rattle.sweep_toi.proofs as sweep_toi
 use Rattle.toi_proxy.proofs as toi_proxy
 use Rattle.wire.proofs as wire
 use Rattle.block.proofs as block
-use Rattle.line.proofs as line
+use Rattle.work.proofs as work
+use Rattle.lines.proofs as lines
 use Rattle.foldflake.proofs as foldflake
 use Rattle.toi_proxy.specs.declared.ToiProxy.{ToiProxy}
-use Rattle.line.specs.declared.part.Written.{Written}
+use Rattle.lines.specs.declared.part.Written.{Written}
 
 -- `ToiProxy`, where a contract tells its parts
 toi-proxy-by-parts : {x y : ToiProxy} → x .points ≡ y .points → x .radius ≡ y .radius → x ≡ y
 toi-proxy-by-parts p0 p1 = λ i. record { points = p0 i; radius = p1 i }
 
 -- `Written`, where a contract tells its parts
-written-by-parts : {x y : Written} → x .at ≡ y .at → x .totals ≡ y .totals → x ≡ y
-written-by-parts p0 p1 = λ i. record { at = p0 i; totals = p1 i }
+written-by-parts : {x y : Written} → x .at ≡ y .at → x .totals ≡ y .totals → x .last ≡ y .last → x ≡ y
+written-by-parts p0 p1 p2 = λ i. record { at = p0 i; totals = p1 i; last = p2 i }
 
 module _ {M : Type 1} (𝓤 : URA M) (H : Heap 𝓤) (A : Atoms 𝓤) (mem : Memory → SProp 𝓤) (run : Routine → Fun 𝓤) where
+  -- ---- root
+  pub root-root : OneResult 𝓤 H A root.root.ended (root.root.spec 𝓤 H A mem run)
+  root-root = record {
+    clauses = root.root.clauses 𝓤 H A mem run;
+    of-contract = refl;
+    once = λ κs a g r r' v v'. told 𝓤 (λ p q. (search same-value, refl));
+  }
+
   -- ---- ground
   pub ground-abs : OneResult 𝓤 H A ground.abs.ended (ground.abs.spec 𝓤 H A mem run)
   ground-abs = record {
@@ -131,13 +142,6 @@ module _ {M : Type 1} (𝓤 : URA M) (H : Heap 𝓤) (A : Atoms 𝓤) (mem : Mem
     once = λ κs a g r r' v v'. told 𝓤 (λ p q. (search same-value, refl));
   }
 
-  pub ground-root : OneResult 𝓤 H A ground.root.ended (ground.root.spec 𝓤 H A mem run)
-  ground-root = record {
-    clauses = ground.root.clauses 𝓤 H A mem run;
-    of-contract = refl;
-    once = λ κs a g r r' v v'. told 𝓤 (λ p q. (search same-value, refl));
-  }
-
   pub ground-rotate-vec : OneResult 𝓤 H A ground.rotate_vec.ended (ground.rotate_vec.spec 𝓤 H A mem run)
   ground-rotate-vec = record {
     clauses = ground.rotate_vec.clauses 𝓤 H A mem run;
@@ -173,77 +177,71 @@ module _ {M : Type 1} (𝓤 : URA M) (H : Heap 𝓤) (A : Atoms 𝓤) (mem : Mem
     once = λ κs a g r r' v v'. told 𝓤 (λ p q. (search same-value, refl));
   }
 
+  -- ---- domain
+  pub domain-bad-vector : OneResult 𝓤 H A domain.bad_vector.ended (domain.bad_vector.spec 𝓤 H A mem run)
+  domain-bad-vector = record {
+    clauses = domain.bad_vector.clauses 𝓤 H A mem run;
+    of-contract = refl;
+    once = λ κs a g r r' v v'. told 𝓤 (λ p q. (search same-value, refl));
+  }
+
+  pub domain-check-fraction : OneResult 𝓤 H A domain.check_fraction.ended (domain.check_fraction.spec 𝓤 H A mem run)
+  domain-check-fraction = record {
+    clauses = domain.check_fraction.clauses 𝓤 H A mem run;
+    of-contract = refl;
+    once = λ κs a g r r' v v'. told 𝓤 (λ p q. (search same-value, refl));
+  }
+
+  pub domain-check-outline : OneResult 𝓤 H A domain.check_outline.ended (domain.check_outline.spec 𝓤 H A mem run)
+  domain-check-outline = record {
+    clauses = domain.check_outline.clauses 𝓤 H A mem run;
+    of-contract = refl;
+    once = λ κs a g r r' v v'. told 𝓤 (λ p q. (search same-value, refl));
+  }
+
+  pub domain-check-pair : OneResult 𝓤 H A domain.check_pair.ended (domain.check_pair.spec 𝓤 H A mem run)
+  domain-check-pair = record {
+    clauses = domain.check_pair.clauses 𝓤 H A mem run;
+    of-contract = refl;
+    once = λ κs a g r r' v v'. told 𝓤 (λ p q. (search same-value, refl));
+  }
+
+  pub domain-check-pose : OneResult 𝓤 H A domain.check_pose.ended (domain.check_pose.spec 𝓤 H A mem run)
+  domain-check-pose = record {
+    clauses = domain.check_pose.clauses 𝓤 H A mem run;
+    of-contract = refl;
+    once = λ κs a g r r' v v'. told 𝓤 (λ p q. (search same-value, refl));
+  }
+
+  pub domain-check-slop : OneResult 𝓤 H A domain.check_slop.ended (domain.check_slop.spec 𝓤 H A mem run)
+  domain-check-slop = record {
+    clauses = domain.check_slop.clauses 𝓤 H A mem run;
+    of-contract = refl;
+    once = λ κs a g r r' v v'. told 𝓤 (λ p q. (search same-value, refl));
+  }
+
+  pub domain-check-sweeps : OneResult 𝓤 H A domain.check_sweeps.ended (domain.check_sweeps.spec 𝓤 H A mem run)
+  domain-check-sweeps = record {
+    clauses = domain.check_sweeps.clauses 𝓤 H A mem run;
+    of-contract = refl;
+    once = λ κs a g r r' v v'. told 𝓤 (λ p q. (search same-value, refl));
+  }
+
+  pub domain-pose-refusal : OneResult 𝓤 H A domain.pose_refusal.ended (domain.pose_refusal.spec 𝓤 H A mem run)
+  domain-pose-refusal = record {
+    clauses = domain.pose_refusal.clauses 𝓤 H A mem run;
+    of-contract = refl;
+    once = λ κs a g r r' v v'. told 𝓤 (λ p q. (search same-value, refl));
+  }
+
+  pub domain-refusal : OneResult 𝓤 H A domain.refusal.ended (domain.refusal.spec 𝓤 H A mem run)
+  domain-refusal = record {
+    clauses = domain.refusal.clauses 𝓤 H A mem run;
+    of-contract = refl;
+    once = λ κs a g r r' v v'. told 𝓤 (λ p q. (search same-value, refl));
+  }
+
   -- ---- outline
-  pub outline-domain-bad-outline : OneResult 𝓤 H A outline.domain.bad_outline.ended (outline.domain.bad_outline.spec 𝓤 H A mem run)
-  outline-domain-bad-outline = record {
-    clauses = outline.domain.bad_outline.clauses 𝓤 H A mem run;
-    of-contract = refl;
-    once = λ κs a g r r' v v'. told 𝓤 (λ p q. (search same-value, refl));
-  }
-
-  pub outline-domain-bad-part : OneResult 𝓤 H A outline.domain.bad_part.ended (outline.domain.bad_part.spec 𝓤 H A mem run)
-  outline-domain-bad-part = record {
-    clauses = outline.domain.bad_part.clauses 𝓤 H A mem run;
-    of-contract = refl;
-    once = λ κs a g r r' v v'. told 𝓤 (λ p q. (search same-value, refl));
-  }
-
-  pub outline-domain-bad-parts : OneResult 𝓤 H A outline.domain.bad_parts.ended (outline.domain.bad_parts.spec 𝓤 H A mem run)
-  outline-domain-bad-parts = record {
-    clauses = outline.domain.bad_parts.clauses 𝓤 H A mem run;
-    of-contract = refl;
-    once = λ κs a g r r' v v'. told 𝓤 (λ p q. (search same-value, refl));
-  }
-
-  pub outline-domain-bad-radius : OneResult 𝓤 H A outline.domain.bad_radius.ended (outline.domain.bad_radius.spec 𝓤 H A mem run)
-  outline-domain-bad-radius = record {
-    clauses = outline.domain.bad_radius.clauses 𝓤 H A mem run;
-    of-contract = refl;
-    once = λ κs a g r r' v v'. told 𝓤 (λ p q. (search same-value, refl));
-  }
-
-  pub outline-domain-bad-rotation : OneResult 𝓤 H A outline.domain.bad_rotation.ended (outline.domain.bad_rotation.spec 𝓤 H A mem run)
-  outline-domain-bad-rotation = record {
-    clauses = outline.domain.bad_rotation.clauses 𝓤 H A mem run;
-    of-contract = refl;
-    once = λ κs a g r r' v v'. told 𝓤 (λ p q. (search same-value, refl));
-  }
-
-  pub outline-domain-bad-vector : OneResult 𝓤 H A outline.domain.bad_vector.ended (outline.domain.bad_vector.spec 𝓤 H A mem run)
-  outline-domain-bad-vector = record {
-    clauses = outline.domain.bad_vector.clauses 𝓤 H A mem run;
-    of-contract = refl;
-    once = λ κs a g r r' v v'. told 𝓤 (λ p q. (search same-value, refl));
-  }
-
-  pub outline-domain-check-pair : OneResult 𝓤 H A outline.domain.check_pair.ended (outline.domain.check_pair.spec 𝓤 H A mem run)
-  outline-domain-check-pair = record {
-    clauses = outline.domain.check_pair.clauses 𝓤 H A mem run;
-    of-contract = refl;
-    once = λ κs a g r r' v v'. told 𝓤 (λ p q. (search same-value, refl));
-  }
-
-  pub outline-domain-check-pose : OneResult 𝓤 H A outline.domain.check_pose.ended (outline.domain.check_pose.spec 𝓤 H A mem run)
-  outline-domain-check-pose = record {
-    clauses = outline.domain.check_pose.clauses 𝓤 H A mem run;
-    of-contract = refl;
-    once = λ κs a g r r' v v'. told 𝓤 (λ p q. (search same-value, refl));
-  }
-
-  pub outline-domain-pair-refusal : OneResult 𝓤 H A outline.domain.pair_refusal.ended (outline.domain.pair_refusal.spec 𝓤 H A mem run)
-  outline-domain-pair-refusal = record {
-    clauses = outline.domain.pair_refusal.clauses 𝓤 H A mem run;
-    of-contract = refl;
-    once = λ κs a g r r' v v'. told 𝓤 (λ p q. (search same-value, refl));
-  }
-
-  pub outline-domain-pose-refusal : OneResult 𝓤 H A outline.domain.pose_refusal.ended (outline.domain.pose_refusal.spec 𝓤 H A mem run)
-  outline-domain-pose-refusal = record {
-    clauses = outline.domain.pose_refusal.clauses 𝓤 H A mem run;
-    of-contract = refl;
-    once = λ κs a g r r' v v'. told 𝓤 (λ p q. (search same-value, refl));
-  }
-
   pub outline-point : OneResult 𝓤 H A outline.point.ended (outline.point.spec 𝓤 H A mem run)
   outline-point = record {
     clauses = outline.point.clauses 𝓤 H A mem run;
@@ -295,13 +293,6 @@ module _ {M : Type 1} (𝓤 : URA M) (H : Heap 𝓤) (A : Atoms 𝓤) (mem : Mem
   }
 
   -- ---- distance
-  pub distance-cache-is-valid : OneResult 𝓤 H A distance.cache_is_valid.ended (distance.cache_is_valid.spec 𝓤 H A mem run)
-  distance-cache-is-valid = record {
-    clauses = distance.cache_is_valid.clauses 𝓤 H A mem run;
-    of-contract = refl;
-    once = λ κs a g r r' v v'. told 𝓤 (λ p q. (search same-value, refl));
-  }
-
   pub distance-proxy-distance-measure : OneResult 𝓤 H A distance.proxy_distance.measure.ended (distance.proxy_distance.measure.spec 𝓤 H A mem run)
   distance-proxy-distance-measure = record {
     clauses = distance.proxy_distance.measure.clauses 𝓤 H A mem run;
@@ -356,27 +347,6 @@ module _ {M : Type 1} (𝓤 : URA M) (H : Heap 𝓤) (A : Atoms 𝓤) (mem : Mem
   pub sweep-toi-advance : OneResult 𝓤 H A sweep_toi.advance.ended (sweep_toi.advance.spec 𝓤 H A mem run)
   sweep-toi-advance = record {
     clauses = sweep_toi.advance.clauses 𝓤 H A mem run;
-    of-contract = refl;
-    once = λ κs a g r r' v v'. told 𝓤 (λ p q. (search same-value, refl));
-  }
-
-  pub sweep-toi-check-fraction : OneResult 𝓤 H A sweep_toi.check_fraction.ended (sweep_toi.check_fraction.spec 𝓤 H A mem run)
-  sweep-toi-check-fraction = record {
-    clauses = sweep_toi.check_fraction.clauses 𝓤 H A mem run;
-    of-contract = refl;
-    once = λ κs a g r r' v v'. told 𝓤 (λ p q. (search same-value, refl));
-  }
-
-  pub sweep-toi-check-slop : OneResult 𝓤 H A sweep_toi.check_slop.ended (sweep_toi.check_slop.spec 𝓤 H A mem run)
-  sweep-toi-check-slop = record {
-    clauses = sweep_toi.check_slop.clauses 𝓤 H A mem run;
-    of-contract = refl;
-    once = λ κs a g r r' v v'. told 𝓤 (λ p q. (search same-value, refl));
-  }
-
-  pub sweep-toi-check-sweeps : OneResult 𝓤 H A sweep_toi.check_sweeps.ended (sweep_toi.check_sweeps.spec 𝓤 H A mem run)
-  sweep-toi-check-sweeps = record {
-    clauses = sweep_toi.check_sweeps.clauses 𝓤 H A mem run;
     of-contract = refl;
     once = λ κs a g r r' v v'. told 𝓤 (λ p q. (search same-value, refl));
   }
@@ -446,13 +416,6 @@ module _ {M : Type 1} (𝓤 : URA M) (H : Heap 𝓤) (A : Atoms 𝓤) (mem : Mem
     once = λ κs a g r r' v v'. told 𝓤 (λ p q. (search same-value, refl));
   }
 
-  pub wire-float : OneResult 𝓤 H A wire.float.ended (wire.float.spec 𝓤 H A mem run)
-  wire-float = record {
-    clauses = wire.float.clauses 𝓤 H A mem run;
-    of-contract = refl;
-    once = λ κs a g r r' v v'. told 𝓤 (λ p q. (search same-value, refl));
-  }
-
   pub wire-word : OneResult 𝓤 H A wire.word.ended (wire.word.spec 𝓤 H A mem run)
   wire-word = record {
     clauses = wire.word.clauses 𝓤 H A mem run;
@@ -461,13 +424,6 @@ module _ {M : Type 1} (𝓤 : URA M) (H : Heap 𝓤) (A : Atoms 𝓤) (mem : Mem
   }
 
   -- ---- block
-  pub block-answer-block : OneResult 𝓤 H A block.answer_block.ended (block.answer_block.spec 𝓤 H A mem run)
-  block-answer-block = record {
-    clauses = block.answer_block.clauses 𝓤 H A mem run;
-    of-contract = refl;
-    once = λ κs a g r r' v v'. told 𝓤 (λ p q. (search same-value, refl));
-  }
-
   pub block-check-block : OneResult 𝓤 H A block.check_block.ended (block.check_block.spec 𝓤 H A mem run)
   block-check-block = record {
     clauses = block.check_block.clauses 𝓤 H A mem run;
@@ -475,19 +431,41 @@ module _ {M : Type 1} (𝓤 : URA M) (H : Heap 𝓤) (A : Atoms 𝓤) (mem : Mem
     once = λ κs a g r r' v v'. told 𝓤 (λ p q. (search same-value, refl));
   }
 
-  -- ---- line
-  pub line-write-blocks : OneResult 𝓤 H A line.write_blocks.ended (line.write_blocks.spec 𝓤 H A mem run)
-  line-write-blocks = record {
-    clauses = line.write_blocks.clauses 𝓤 H A mem run;
+  -- ---- work
+  pub work-answer-block : OneResult 𝓤 H A work.answer_block.ended (work.answer_block.spec 𝓤 H A mem run)
+  work-answer-block = record {
+    clauses = work.answer_block.clauses 𝓤 H A mem run;
     of-contract = refl;
-    once = λ κs a g r r' v v'. told-in-two 𝓤 (λ p q. (search (same-value, written-by-parts), each-list line.write_blocks.ended κs a v v' (search same-value depth 12)));
+    once = λ κs a g r r' v v'. told 𝓤 (λ p q. (search same-value, refl));
   }
 
-  pub line-write-ending : OneResult 𝓤 H A line.write_ending.ended (line.write_ending.spec 𝓤 H A mem run)
-  line-write-ending = record {
-    clauses = line.write_ending.clauses 𝓤 H A mem run;
+  pub work-sweep-of : OneResult 𝓤 H A work.sweep_of.ended (work.sweep_of.spec 𝓤 H A mem run)
+  work-sweep-of = record {
+    clauses = work.sweep_of.clauses 𝓤 H A mem run;
     of-contract = refl;
-    once = λ κs a g r r' v v'. told 𝓤 (λ p q. (search same-value, each-list line.write_ending.ended κs a v v' (search same-value depth 12)));
+    once = λ κs a g r r' v v'. told 𝓤 (λ p q. (search same-value, refl));
+  }
+
+  pub work-told : OneResult 𝓤 H A work.told.ended (work.told.spec 𝓤 H A mem run)
+  work-told = record {
+    clauses = work.told.clauses 𝓤 H A mem run;
+    of-contract = refl;
+    once = λ κs a g r r' v v'. told 𝓤 (λ p q. (search same-value, refl));
+  }
+
+  -- ---- lines
+  pub lines-write-line : OneResult 𝓤 H A lines.write_line.ended (lines.write_line.spec 𝓤 H A mem run)
+  lines-write-line = record {
+    clauses = lines.write_line.clauses 𝓤 H A mem run;
+    of-contract = refl;
+    once = λ κs a g r r' v v'. told 𝓤 (λ p q. (search same-value, each-list lines.write_line.ended κs a v v' (search same-value depth 12)));
+  }
+
+  pub lines-write-part : OneResult 𝓤 H A lines.write_part.ended (lines.write_part.spec 𝓤 H A mem run)
+  lines-write-part = record {
+    clauses = lines.write_part.clauses 𝓤 H A mem run;
+    of-contract = refl;
+    once = λ κs a g r r' v v'. told-in-two 𝓤 (λ p q. (search (same-value, written-by-parts), each-list lines.write_part.ended κs a v v' (search same-value depth 12)));
   }
 
   -- ---- foldflake

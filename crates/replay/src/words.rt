@@ -1,0 +1,38 @@
+// An answer as words, and its comparison with the row's.
+use model::Vector;
+ghost use Prim.Native.Nat.{_+_, _≤_, _<_};
+
+// Floats stand by their patterns; unused words are 0.
+pub type Words = [u32; 32];
+
+pub fn put(words: &mut Words, i: usize, word: u32)
+    requires { ⌜ i < 32 ⌝ }
+{
+    words[i] = word;
+}
+
+pub fn put_float(words: &mut Words, i: usize, x: f32)
+    requires { ⌜ i < 32 ⌝ }
+{
+    words[i] = ground::to_bits(x);
+}
+
+pub fn put_vector(words: &mut Words, i: usize, v: Vector)
+    requires { ⌜ i < 31 ⌝ }
+{
+    put_float(words, i, v.x);
+    put_float(words, i + 1, v.y);
+}
+
+// Whether the first n words are not those of the row from a place on, the row's first one changed by spoil.
+pub fn differ(words: &Words, n: usize, row: &[u8], from: usize, spoil: u32) -> bool
+    requires { ⌜ (n ≤ 32) × (from ≤ 512) ⌝ }
+{
+    let mut same = std::num::wrapping_add_u32(wire::word(row, from), spoil) == words[0];
+    let mut i: usize = 1;
+    while i < n {
+        same = same & (wire::word(row, from + 4 * i) == words[i]);
+        i += 1;
+    }
+    !same
+}
