@@ -1,4 +1,4 @@
-mod Pasted
+pub mod Pasted
 mod Digits
 mod Pieces
 mod Parts

@@ -1,7 +1,9 @@
 -- A text written into a list from some place on.
 use mathlib.Core.Path.{_≡_}
 use Prim.Native.Nat.{ℕ, _+_}
+use mathlib.Core.Bool.{cond}
 use mathlib.Core.List.{List, [], _∷_, _++_}
+use lib.Dec.{ltb}
 use lib.ListN.{length, take, drop}
 
 -- d with s from place k on
@@ -12,3 +14,7 @@ pasted d k s = take k d ++ s ++ drop (k + length s) d
 pub record Put (d : List ℕ) (k : ℕ) (s : List ℕ) (d' : List ℕ) (e : ℕ) : Type 0 where
   pub place : e ≡ k + length s
   pub bytes : d' ≡ pasted d k s
+
+-- nothing where there is no room for that many bytes
+abbrev pub whereRoom : ℕ → ℕ → List ℕ → List ℕ
+whereRoom least room s = cond (ltb room least) [] s

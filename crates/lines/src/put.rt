@@ -6,7 +6,7 @@ ghost use mathlib.Core.List.{[], _∷_, _++_};
 ghost use lib.ListN.{length};
 ghost use lib.Ieee.{binary32};
 ghost use Rattle.model.specs.Text.{capital, hexBy};
-ghost use Rattle.lines.specs.Put.{Put};
+ghost use Rattle.lines.specs.Put.{Put, whereRoom};
 ghost use Rattle.lines.specs.Pieces.{number, hex, three, floats};
 
 // A text as it stands.
@@ -34,6 +34,26 @@ pub fn put_number(out: &mut [u8], at: usize, n: u64, end: u8) -> usize
     let e = put(out, at, &digits[..k]);
     out[e] = end;
     e + 1
+}
+
+// A text at the start of out, and its length; nothing where out has fewer bytes.
+pub fn write_text(text: &[u8], out: &mut [u8]) -> usize
+    ensures { λ r. ⌜ Put (now (out .entry)) 0 (whereRoom (length (now (text .entry))) (length (now (out .entry))) (now (text .entry))) (now (out .exit)) r ⌝ }
+{
+    if out.len() < text.len() {
+        return 0;
+    }
+    put(out, 0, text)
+}
+
+// A number and a byte after it at the start of out, and their length; nothing where out has fewer bytes than the longest number takes.
+pub fn write_number(n: u64, end: u8, out: &mut [u8]) -> usize
+    ensures { λ r. ⌜ Put (now (out .entry)) 0 (whereRoom 21 (length (now (out .entry))) (number n end)) (now (out .exit)) r ⌝ }
+{
+    if out.len() < 21 {
+        return 0;
+    }
+    put_number(out, 0, n, end)
 }
 
 // 0 to 9, then A to F.

@@ -24,6 +24,7 @@ use Rattle.wire.proofs as wire
 use Rattle.block.proofs as block
 use Rattle.work.proofs as work
 use Rattle.lines.proofs as lines
+use Rattle.contacts.proofs as contacts
 use Rattle.foldflake.proofs as foldflake
 use Rattle.toi_proxy.specs.declared.ToiProxy.{ToiProxy}
 use Rattle.lines.specs.declared.part.Written.{Written}
@@ -479,11 +480,47 @@ module _ {M : Type 1} (𝓤 : URA M) (H : Heap 𝓤) (A : Atoms 𝓤) (mem : Mem
     once = λ κs a g r r' v v'. told 𝓤 (λ p q. (search same-value, each-list lines.write_line.ended κs a v v' (search same-value depth 12)));
   }
 
+  pub lines-write-number : OneResult 𝓤 H A lines.write_number.ended (lines.write_number.spec 𝓤 H A mem run)
+  lines-write-number = record {
+    clauses = lines.write_number.clauses 𝓤 H A mem run;
+    of-contract = refl;
+    once = λ κs a g r r' v v'. told 𝓤 (λ p q. (search same-value, each-list lines.write_number.ended κs a v v' (search same-value depth 12)));
+  }
+
   pub lines-write-part : OneResult 𝓤 H A lines.write_part.ended (lines.write_part.spec 𝓤 H A mem run)
   lines-write-part = record {
     clauses = lines.write_part.clauses 𝓤 H A mem run;
     of-contract = refl;
     once = λ κs a g r r' v v'. told-in-two 𝓤 (λ p q. (search (same-value, written-by-parts), each-list lines.write_part.ended κs a v v' (search same-value depth 12)));
+  }
+
+  pub lines-write-text : OneResult 𝓤 H A lines.write_text.ended (lines.write_text.spec 𝓤 H A mem run)
+  lines-write-text = record {
+    clauses = lines.write_text.clauses 𝓤 H A mem run;
+    of-contract = refl;
+    once = λ κs a g r r' v v'. told 𝓤 (λ p q. (search same-value, each-list lines.write_text.ended κs a v v' (search same-value depth 12)));
+  }
+
+  -- ---- contacts
+  pub contacts-search-part : OneResult 𝓤 H A contacts.search_part.ended (contacts.search_part.spec 𝓤 H A mem run)
+  contacts-search-part = record {
+    clauses = contacts.search_part.clauses 𝓤 H A mem run;
+    of-contract = refl;
+    once = λ κs a g r r' v v'. told 𝓤 (λ p q. (search same-value, refl));
+  }
+
+  pub contacts-write-first-contact : OneResult 𝓤 H A contacts.write_first_contact.ended (contacts.write_first_contact.spec 𝓤 H A mem run)
+  contacts-write-first-contact = record {
+    clauses = contacts.write_first_contact.clauses 𝓤 H A mem run;
+    of-contract = refl;
+    once = λ κs a g r r' v v'. told 𝓤 (λ p q. (search same-value, each-list contacts.write_first_contact.ended κs a v v' (search same-value depth 12)));
+  }
+
+  pub contacts-write-found : OneResult 𝓤 H A contacts.write_found.ended (contacts.write_found.spec 𝓤 H A mem run)
+  contacts-write-found = record {
+    clauses = contacts.write_found.clauses 𝓤 H A mem run;
+    of-contract = refl;
+    once = λ κs a g r r' v v'. told 𝓤 (λ p q. (search same-value, each-list contacts.write_found.ended κs a v v' (search same-value depth 12)));
   }
 
   -- ---- foldflake

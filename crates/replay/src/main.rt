@@ -3,6 +3,7 @@
 // many rows there were, how many differ, and how many were noticed to differ when the stored answer was spoiled on purpose.
 mod blocks;
 mod distances;
+mod first_contacts;
 mod operations;
 mod pool;
 mod sweeps;

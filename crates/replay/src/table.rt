@@ -1,6 +1,7 @@
 // The tables: what their rows are like, and the way through a part's rows.
 use crate::blocks;
 use crate::distances;
+use crate::first_contacts;
 use crate::operations;
 use crate::pool::Numbers;
 use crate::sweeps;
@@ -39,6 +40,7 @@ fn shape_of(table: u32) -> RowShape
         2 => shape(72, 8, 8, 16),
         3 => shape(44, 8, 8, 9),
         4 => shape(640, 636, 512, 32),
+        5 => shape(4644, 0, 12, 6),
         _ => shape(65536, 0, 0, 0),
     }
 }
@@ -49,6 +51,7 @@ fn answer(table: u32, row: &[u8], n: u64, pool: &[u8], numbers: &[f32], words: &
         2 => distances::answer(row, pool, numbers, words),
         3 => sweeps::answer(row, pool, numbers, words),
         4 => blocks::answer(row, n, words),
+        5 => first_contacts::answer(row, words),
         _ => {}
     }
 }

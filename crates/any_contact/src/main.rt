@@ -1,0 +1,54 @@
+// Prints the number of the first block of the batch on standard input whose status is H or O, or `none`. It reads in parts of 64 KiB, none behind
+// the one that decides. A read that fails is told on standard error, and then neither is printed.
+
+// Whether the search goes on, and how many blocks it has passed.
+struct Step {
+    more: bool,
+    blocks: u64,
+}
+
+fn tell(found: u64) {
+    let mut text = [0u8; 21];
+    let n = contacts::write_found(found, &mut text);
+    input::write_to_output(&text, n);
+}
+
+// Searches what was read, and tells the answer once it is known.
+fn search_part(part: &[u8], before: u64) -> Step {
+    let searched = contacts::search_part(part, before);
+    if searched.over {
+        tell(searched.found);
+    }
+    Step {
+        more: !searched.over,
+        blocks: searched.blocks,
+    }
+}
+
+fn next_part(before: u64) -> Step {
+    let mut buffer = io::large_buffer();
+    let filled = input::fill_from_input(&mut buffer);
+    if filled.failed {
+        return Step {
+            more: false,
+            blocks: before,
+        };
+    }
+    let n = filled.count;
+    search_part(&buffer[..n], before)
+}
+
+// A proved loop has to end, and nothing says that the input does: so the turns are counted, to a number that no run reaches.
+fn main() {
+    if !input::no_argument(b"any_contact") {
+        return;
+    }
+    let mut before = 0u64;
+    for turn in 0..u64::MAX {
+        let step = next_part(before);
+        before = step.blocks;
+        if !step.more {
+            return;
+        }
+    }
+}

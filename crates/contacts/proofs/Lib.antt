@@ -1,0 +1,3 @@
+pub mod First
+mod Blocks
+pub mod Run
