@@ -108,8 +108,8 @@ pub extern "C" fn foldflake_bar(ax: f32, ay: f32, bx: f32, by: f32, out: &mut [f
     built_number(shapes::bar(a, b, out))
 }
 
-// The plate, moved by a pose: its cosine, its sine and its translation. 255 where the pose has not four numbers; 5 and 6 for the pose, between 3 and
-// 15.
+// The plate, each corner moved by a pose: its cosine, its sine and its translation. First of all 255 where the pose has not four numbers; 5 and 6 for
+// the pose come between 3 and 15.
 #[no_mangle]
 pub extern "C" fn foldflake_placed_plate(
     half_x: f32,

@@ -2,18 +2,17 @@
 -- outlines. Assumes nothing.
 use Prim.Native.Nat.{ℕ, zero, suc, _+_, _*_, _≤_, _<_}
 use native.Mathlib.Omega.{arith}
-use mathlib.Core.Bool.{Bool, true, false, cond, not, _||_}
-use mathlib.Core.Path.{_≡_, refl, sym, ap, _∙_}
+use mathlib.Core.Bool.{Bool, true, false, _||_}
+use mathlib.Core.Path.{_≡_, refl, ap, _∙_}
 use mathlib.Core.List.{List, [], _∷_, _++_}
 use borrow.Author.Tests.{ltb-false}
 use lib.Dec.{ltb}
 use lib.ListN.{length, take, drop, getD, length-append, length-drop}
 use lib.Seq.{take-at, drop-at}
-use lib.Ieee.{Float, nan, inf, fin, Format, neg, lt}
+use lib.Ieee.{Float, nan, inf, fin, Format, binary32, ofBits, neg, lt, le}
 use Rattle.model.specs.declared.Vector.{Vector}
 use Rattle.model.specs.declared.Pose.{Pose}
 use Rattle.model.specs.Ground.{vector, onPoint, abs}
-use Rattle.model.specs.Ground as Ground
 use Rattle.model.specs.Domain.{badPart, badVector, badParts, outlineRefusal}
 use Rattle.model.specs.Support.{point}
 use Rattle.model.proofs.Domain.{test-passed}
@@ -158,3 +157,15 @@ module _ (f : Format) (out : List Float) (m : ℕ) where
 
     pub bar-accepted : barTold f a b out ≡ Corners m → outlineRefusal f (take 4 (barLeft f a b out)) ≡ 0
     bar-accepted built = rw (front-of _ m (barCorners a b) out built) (bar-passes f a b (stand (barCorners a b) out _ m built .none))
+
+-- ---- a half size of -0 is zero to the checks; where its bit is set the corner has +0
+abbrev minusZero : Float
+minusZero = ofBits binary32 0x8000_0000
+
+pub minus-zero-passes : plateRefusal binary32 minusZero minusZero ≡ 0
+unfolding abs ofBits lt le
+minus-zero-passes = refl
+
+pub minus-zero-turns : plateCorner minusZero minusZero 3 ≡ vector (ofBits binary32 0) (ofBits binary32 0)
+unfolding ofBits neg
+minus-zero-turns = refl

@@ -1,19 +1,16 @@
 -- The endings of a build: refused before, no room, or the corners stored one after the other. Assumes nothing.
-use Prim.Native.Nat.{ℕ, zero, suc, _+_, _*_, _≤_, _<_}
+use Prim.Native.Nat.{ℕ, zero, suc, _*_, _≤_, _<_}
 use native.Mathlib.Omega.{arith}
 use native.Mathlib.Nat.{zero-add}
-use mathlib.Core.Bool.{cond}
-use mathlib.Core.Path.{_≡_, refl, sym, ap, _∙_}
+use mathlib.Core.Path.{_≡_, refl}
 use mathlib.Core.List.{List, [], _∷_, _++_}
 use borrow.Author.Tests.{lt-ltb, le-ltb}
-use lib.Dec.{ltb}
 use lib.ListN.{length, drop}
 use lib.Seq.{sets, sets-eq}
 use lib.Ieee.{Float}
 use Rattle.model.specs.declared.Vector.{Vector}
 use Rattle.model.specs.declared.Pose.{Pose}
 use Rattle.model.specs.Domain.{orElse, checked, checkedPose, refusalOfPose}
-use Rattle.shapes.specs.declared.Built.{Built}
 use Rattle.shapes.specs.declared.Built.the-variants.{Corners, Refused}
 use Rattle.shapes.specs.Shapes.{flat, told, left}
 

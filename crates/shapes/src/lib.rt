@@ -9,7 +9,6 @@ use model::Vector;
 ghost use mathlib.Core.Path.{_≡_};
 ghost use mathlib.Core.List.{[], _∷_};
 ghost use lib.Ieee.{binary32};
-ghost use Rattle.model.specs.Domain.{orElse};
 ghost use Rattle.shapes.specs.Shapes as Shapes;
 
 // The number of corners written, or the number of the refusal.
