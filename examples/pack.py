@@ -14,8 +14,9 @@ degrees, counterclockwise. Names, and what a missing line means:
     a from, a to     0 0, and where it started (where the turning centre stands in the hall, first and last)
     a turned         0 (one angle: turned but not turning; two: from the first to the second, less than 180 degrees apart)
 
-and plate, bar and the last three for b. A file in which anything does not fit is refused whole, each fault told with its line and its job, and BATCH is not
-touched. That a number lies in the domain is not looked at: `sheet` refuses the block."""
+and plate, bar and the last three for b. A file in which anything does not fit is refused whole, each fault told with its line and its job, and
+BATCH is not touched. That a number lies in the domain is not looked at, since `sheet` refuses the block; only a half size below 0 is refused here,
+since its corners do not show it."""
 import math
 import struct
 import sys
