@@ -2,7 +2,8 @@
 //! move each, at what fraction of the move, and where; and how far apart two outlines are.
 //!
 //! Every call has an answer, whatever it is given: what lies outside the domain gets a [`Refusal`]. An outline is a flat list of numbers,
-//! `x y x y ..`, of 1 to 64 points, in any order. [`plate`] and [`bar`] build the commonest. A rotation is a cosine and a sine.
+//! `x y x y ..`, of 1 to 64 points, in any order, although another order can give slightly other numbers. [`plate`] and [`bar`] build the commonest
+//! outlines. A rotation is a cosine and a sine.
 //!
 //! Read [`Sweep::Separated`] before you rely on it: it does not clear a move that turns.
 //!

@@ -213,3 +213,27 @@ fn every_refusal_of_a_builder() {
         assert_eq!(bar(one, one, &mut list).is_ok(), room >= 4);
     }
 }
+
+/// The entry points behind the safe face, which always hands over a pose of four numbers.
+#[test]
+fn a_pose_of_another_length_is_told_first_of_all() {
+    extern "C" {
+        fn foldflake_placed_plate(half_x: f32, half_y: f32, pose: *const f32, pose_len: usize, out: *mut f32, out_len: usize) -> u32;
+        fn foldflake_placed_bar(ax: f32, ay: f32, bx: f32, by: f32, pose: *const f32, pose_len: usize, out: *mut f32, out_len: usize) -> u32;
+    }
+    for (size, pose) in [(1.0, [1.0, 0.0, 2.0, 3.0, 4.0]), (f32::NAN, [f32::NAN; 5])] {
+        for (pose_len, room) in [(0, 8), (3, 8), (5, 8), (5, 0), (4, 8)] {
+            let mut out = [7.5f32; 8];
+            let answer = match pose_len {
+                4 if size == 1.0 => 32,
+                4 => 3,
+                _ => 255,
+            };
+            // Safety: each list is at least as long as the length handed over, and the one that is written is ours alone.
+            let plate = unsafe { foldflake_placed_plate(size, size, pose.as_ptr(), pose_len, out.as_mut_ptr(), room) };
+            let bar = unsafe { foldflake_placed_bar(size, size, size, size, pose.as_ptr(), pose_len, out.as_mut_ptr(), room) };
+            assert_eq!((plate, bar), (answer, answer), "{size} {pose_len} {room}");
+            assert_eq!(plate == 32, out != [7.5; 8], "written only where built");
+        }
+    }
+}
