@@ -5,15 +5,18 @@ A job is a paragraph of lines `name: numbers`, the numbers parted by blanks; `#`
 degrees, counterclockwise. Names, and what a missing line means:
 
     job              a whole number, 1 to 4294967295: must be there
-    a, b             the corners, x y x y ..: 1 to 16 points: must be there
+    a, b             the corners, x y x y ..: 1 to 16 points: must be there, or one of
+    a plate          half sizes x y: a rectangle about 0 0, its corners in the library's order
+    a bar            the two ends, x y x y
     radius a         0                        radius b      0
     fraction         1                        slop          0.005
     a centre         0 0 (the turning centre, in the outline's own numbers)
     a from, a to     0 0, and where it started (where the turning centre stands in the hall, first and last)
     a turned         0 (one angle: turned but not turning; two: from the first to the second, less than 180 degrees apart)
 
-and the last three for b. A file in which anything does not fit is refused whole, each fault told with its line and its job, and BATCH is not
-touched. That a number lies in the domain is not looked at: `sheet` refuses the block."""
+and plate, bar and the last three for b. A file in which anything does not fit is refused whole, each fault told with its line and its job, and
+BATCH is not touched. That a number lies in the domain is not looked at, since `sheet` refuses the block; only a half size below 0 is refused here,
+since its corners do not show it."""
 import math
 import struct
 import sys
@@ -22,6 +25,9 @@ import sys
 TAKES = {"job": (1, 1), "a": (2, 32), "b": (2, 32), "radius a": (1, 1), "radius b": (1, 1), "fraction": (1, 1), "slop": (1, 1)}
 for side in "ab":
     TAKES.update({f"{side} centre": (2, 2), f"{side} from": (2, 2), f"{side} to": (2, 2), f"{side} turned": (1, 2)})
+    TAKES.update({f"{side} plate": (2, 2), f"{side} bar": (4, 4)})
+# the lines that can give an outline, of which a job has one for each side
+OUTLINE = {side: (side, f"{side} plate", f"{side} bar") for side in "ab"}
 
 
 class Fault(Exception):
@@ -69,11 +75,21 @@ def field(name, words):
         if not least <= len(numbers) <= most:
             raise Fault(f"{len(numbers) // 2} points: a batch takes 1 to 16")
     elif not least <= len(numbers) <= most:
-        takes = {(1, 1): "one number", (2, 2): "two numbers", (1, 2): "one number or two"}[TAKES[name]]
+        takes = {(1, 1): "one number", (2, 2): "two numbers", (1, 2): "one number or two", (4, 4): "four numbers"}[TAKES[name]]
         raise Fault(f"{name!r} takes {takes}, not {len(numbers)}")
     if name.endswith("turned") and abs(numbers[-1] - numbers[0]) >= 180:
         raise Fault("a turn of 180 degrees or more goes another way round: cut it into steps")
+    if name.endswith("plate") and min(numbers) < 0:
+        raise Fault("a half size is not below 0")
     return numbers
+
+
+def corners(job, side):
+    """The outline's numbers. Corner k of a plate is the half sizes, x negated where bit 0 of k is set, y where bit 1 is."""
+    if f"{side} plate" not in job:
+        return job.get(side) or job[f"{side} bar"]
+    x, y = job[f"{side} plate"]
+    return [x, y, -x, y, x, -y, -x, -y]
 
 
 def turn(degrees):
@@ -85,7 +101,7 @@ def turn(degrees):
 def block(job):
     """The 512 bytes of a job whose fields fit."""
     get = job.get
-    a, b = job["a"], job["b"]
+    a, b = corners(job, "a"), corners(job, "b")
     floats = [get("radius a", [0])[0], get("radius b", [0])[0], get("fraction", [1])[0], get("slop", [0.005])[0]]
     for side in "ab":
         first = get(f"{side} from", [0, 0])
@@ -109,11 +125,14 @@ def read_job(lines, tell):
                 raise Fault("a line is `name: numbers`")
             if name in job:
                 raise Fault(f"{name!r} stands twice")
+            given = [other for names in OUTLINE.values() if name in names for other in names if other in job]
+            if given:
+                raise Fault(f"the outline was given already, by {given[0]!r}")
             job[name] = []
             job[name] = field(name, rest.split())
         except Fault as fault:
             faults.append((at, str(fault)))
-    faults += [(lines[0][0], f"no line {name!r}") for name in ("job", "a", "b") if name not in job]
+    faults += [(lines[0][0], f"no line {' or '.join(map(repr, names))}") for names in (("job",), *OUTLINE.values()) if not job.keys() & names]
     which = f"job {job['job'][0]}" if job.get("job") else "a job without its number"
     for at, fault in sorted(faults):
         tell(at, which, fault)

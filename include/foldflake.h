@@ -12,8 +12,8 @@
 
    A list that is written may not overlap another. That apart, every call has an answer, whatever the lists hold.
 
-   Answers. A number below 16 is a refusal, as README.md lists them; each function has its own names for the others. Functions to come answer
-   from 32 on, so that refusals may go up to 31.
+   Answers. A number below 16 is a refusal, as README.md lists them; each function has its own names for the others. The builders answer from 32
+   on, as functions to come do, so that refusals may go up to 31.
 
    Floating point. The proofs are for the default environment: rounding to nearest, subnormal numbers kept (no flush-to-zero, no
    denormals-are-zero). A caller that changed it, as fesetround or a compiler's fast-math start-up code does, restores it around a call. */
@@ -27,7 +27,7 @@
 extern "C" {
 #endif
 
-/* A list has not the length that the function asks for; of both functions. */
+/* A list has not the length that the function asks for: of foldflake_sweep and foldflake_distance, and of a pose. */
 enum { FOLDFLAKE_WRONG_LENGTH = 255 };
 
 /* What foldflake_sweep answers. SEPARATED does not clear a move that turns, and FAILED is no verdict: see README.md, "What a setter must know". */
@@ -37,6 +37,9 @@ enum { FOLDFLAKE_SWEEP_OVERLAPPED = 16, FOLDFLAKE_SWEEP_HIT = 17, FOLDFLAKE_SWEE
 enum { FOLDFLAKE_DISTANCE_TOUCHING = 16, FOLDFLAKE_DISTANCE_SETTLED = 17, FOLDFLAKE_DISTANCE_ROUND_LIMIT = 18 };
 #define FOLDFLAKE_ENDING(answer) ((answer) % 256u)
 #define FOLDFLAKE_ROUNDS(answer) ((answer) / 256u)
+
+/* What the four builders of outlines answer where the corners were written. */
+enum { FOLDFLAKE_BUILT = 32 };
 
 /* The square root, rounded to nearest. */
 float foldflake_root(float x);
@@ -62,6 +65,26 @@ uint32_t foldflake_sweep(const float *points_a, size_t numbers_in_a, const float
    above 255. On a refusal or a wrong length cache and out are as they were. */
 uint32_t foldflake_distance(const float *points_a, size_t numbers_in_a, const float *points_b, size_t numbers_in_b, const float *numbers,
                             size_t numbers_len, uint32_t use_radii, uint32_t *cache, size_t cache_len, float *out, size_t out_len);
+
+/* Outlines without typing corners. The corners go to the front of out, x y each, and the rest of out stays as it was.
+
+     float cart[8];
+     if (foldflake_plate(6, 4, cart, 8) == FOLDFLAKE_BUILT) ..      12 by 8: (6, 4), (-6, 4), (6, -4), (-6, -4)
+
+   A plate has four corners, 8 numbers, numbered from 0: corner k is (half_x, half_y), x negated where bit 0 of k is set, y where bit 1 is. Half
+   sizes of 0 keep all four; a zero negated is the other zero, -0 for 0. A bar has its two ends, a and then b, 4 numbers.
+
+   The placed ones move each corner by a pose: turned by the rotation, then shifted by the translation, as B is in foldflake_distance.
+   pose, 4: the rotation c s and the translation x y.
+
+   The answer is FOLDFLAKE_BUILT or a refusal, the first that applies of: 3, a half size or an end as for points, or a half size below 0 (-0 is
+   not); 5, 6, the pose; 15, out has no room for all corners. Of a placed one it is first of all FOLDFLAKE_WRONG_LENGTH where pose_len is not 4. On
+   a refusal or a wrong length out is as it was. An outline that was built unplaced is not refused by 1 to 3 elsewhere; one that was placed can
+   be, by 3, if its corners come to lie too far out. */
+uint32_t foldflake_plate(float half_x, float half_y, float *out, size_t out_len);
+uint32_t foldflake_bar(float ax, float ay, float bx, float by, float *out, size_t out_len);
+uint32_t foldflake_placed_plate(float half_x, float half_y, const float *pose, size_t pose_len, float *out, size_t out_len);
+uint32_t foldflake_placed_bar(float ax, float ay, float bx, float by, const float *pose, size_t pose_len, float *out, size_t out_len);
 
 #ifdef __cplusplus
 }

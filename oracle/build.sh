@@ -1,6 +1,7 @@
 #!/usr/bin/env bash
 # build.sh SRC OUT [RUSTC] [CFG]: compiles the sweep_toi module of parry2d 0.31.1 over our prelude into OUT/oracle, in release mode.
-# SRC is the folder that holds query/sweep_toi/*.rs as published. Nothing of it is kept here: OUT gets a working copy.
+# SRC is the folder that holds query/sweep_toi/*.rs and shape/cuboid.rs as published. Nothing of it is kept here: OUT gets a working copy, of
+# shape/cuboid.rs only the function that numbers a corner.
 # Mechanical edits, and no others, each of which must fit as often as it says:
 #   1. `.max(` on a number becomes `.max_of(`, the prelude's rule, which the two files then import.
 #   2. in proxy_distance.rs the way a call ends is noted: round limit at its start, touching and settled where it leaves the loop.
@@ -37,5 +38,14 @@ edit proxy_distance 2 'if duplicate {' "if duplicate { $noted::SETTLED);"
 edit sweep_toi 1 'distance_iterations += 1;' 'distance_iterations += 1; crate::counts::distance_call();'
 edit sweep_toi 1 'fcn.find_min_separation(t2);' '{ crate::counts::search(); fcn.find_min_separation(t2) };'
 edit sweep_toi 1 'root_iteration_count += 1;' 'root_iteration_count += 1; crate::counts::root_step();'
+python3 - "$1/shape/cuboid.rs" "$out/cuboid.rs" <<'PY'
+import sys
+text = open(sys.argv[1], encoding="utf-8").read()
+head = '    #[cfg(feature = "dim2")]\n    pub fn vertex_feature_id(vertex: Vector) -> u32 {\n'
+if text.count(head) != 1:
+    sys.exit(f"{sys.argv[1]}: vertex_feature_id of two dimensions stands {text.count(head)} times, not 1")
+body, end, _ = text.partition(head)[2].partition("\n    }\n")
+open(sys.argv[2], "w", encoding="utf-8").write("use crate::{math::Vector, shape::Cuboid};\nimpl Cuboid {\n" + head + body + end + "}\n")
+PY
 cp "$here"/*.rs "$out/"
 "$rustc" --edition 2021 -C opt-level=3 --cfg 'feature="dim2"' --cfg 'feature="f32"' -A warnings ${4:+--cfg "$4"} -o "$out/oracle" "$out/main.rs"

@@ -8,7 +8,10 @@
 //!   oracle sheet                         the sheet of the batch on standard input
 //!   oracle squared-paper MILLIONS SEED   the claims on squared paper tested by running (squared_paper.rs)
 //!   oracle turns SEED COUNT              what S misses when something turns, COUNT moves of each of ten kinds (turns.rs)
+//!   oracle corners                       corners of plates, each with the number that the Rust gives it (corners.rs)
+mod corners;
 mod counts;
+mod cuboid;
 mod distance;
 mod domain;
 mod ground;
@@ -47,6 +50,7 @@ fn main() {
         "known" => known::rows(),
         "sheet" => sheet::sheet(),
         "turns" => turns::run(number(2), number(3)),
+        "corners" => corners::rows(),
         "squared-paper" => squared_paper::run(number(2), number(3)),
         other => {
             eprintln!("oracle: no such job: {other:?}");

@@ -196,7 +196,7 @@ pub mod bounding_volume {
     }
 }
 
-/// Shapes with the fields that the module's text names. None is ever made.
+/// Shapes with the fields that the module's text names. None is ever made; `Cuboid` has the Rust's function that numbers a corner.
 pub mod shape {
     use crate::math::Vector;
 

@@ -2,7 +2,8 @@
 //! move each, at what fraction of the move, and where; and how far apart two outlines are.
 //!
 //! Every call has an answer, whatever it is given: what lies outside the domain gets a [`Refusal`]. An outline is a flat list of numbers,
-//! `x y x y ..`, of 1 to 64 points; which way round the corners go does not matter. A rotation is a cosine and a sine.
+//! `x y x y ..`, of 1 to 64 points, in any order, although another order can give slightly other numbers. [`plate`] and [`bar`] build the commonest
+//! outlines. A rotation is a cosine and a sine.
 //!
 //! Read [`Sweep::Separated`] before you rely on it: it does not clear a move that turns.
 //!
@@ -52,6 +53,10 @@ mod entry {
             out: *mut f32,
             out_len: usize,
         ) -> u32;
+        pub fn foldflake_plate(half_x: f32, half_y: f32, out: *mut f32, out_len: usize) -> u32;
+        pub fn foldflake_bar(ax: f32, ay: f32, bx: f32, by: f32, out: *mut f32, out_len: usize) -> u32;
+        pub fn foldflake_placed_plate(half_x: f32, half_y: f32, pose: *const f32, pose_len: usize, out: *mut f32, out_len: usize) -> u32;
+        pub fn foldflake_placed_bar(ax: f32, ay: f32, bx: f32, by: f32, pose: *const f32, pose_len: usize, out: *mut f32, out_len: usize) -> u32;
     }
 }
 
@@ -60,12 +65,13 @@ mod entry {
 /// | number | given when |
 /// |---|---|
 /// | 1, 2 | outline A, B is empty, of odd length, or above 64 points |
-/// | 3 | a point's part is not finite or above 1,048,576 in size |
+/// | 3 | a point's part or a half size is not finite or above 1,048,576 in size, or a half size is below 0 |
 /// | 4 | a radius is not finite, below 0 or above 1,048,576 |
 /// | 5 | a rotation's part is above 1 in size or NaN, or `c * c + s * s` is below 0.984375 or above 1.015625 |
 /// | 6 | a translation or a centre is as in 3 |
 /// | 7 | the max fraction is not in 0 to 1 |
 /// | 8 | the slop is not above 0, above 1,048,576, or NaN |
+/// | 15 | the lent list has no room for all corners |
 ///
 /// ```
 /// use foldflake::{distance, Cache, Refusal};
@@ -84,12 +90,13 @@ impl fmt::Display for Refusal {
         let why = match self.0 {
             1 => "outline A is empty, of odd length, or above 64 points",
             2 => "outline B is empty, of odd length, or above 64 points",
-            3 => "a point's part is not finite or above 1048576 in size",
+            3 => "a point's part or a half size is not finite or above 1048576 in size, or a half size is below 0",
             4 => "a radius is not finite, below 0 or above 1048576",
             5 => "a rotation is not a cosine and a sine",
             6 => "a translation or a centre is not finite or above 1048576 in size",
             7 => "the max fraction is not in 0 to 1",
             8 => "the slop is not above 0, above 1048576, or not a number",
+            15 => "the lent list has no room for all corners",
             _ => "no reason is known",
         };
         write!(f, "refused by {}: {why}", self.0)
@@ -400,4 +407,88 @@ pub fn distance(
         rounds: answer / 256,
         ending,
     })
+}
+
+/// A rectangle about (0, 0) from its half sizes: four corners at the front of the lent list, which are handed back; the rest of the list stays.
+///
+/// Corner `k` is `(half_x, half_y)`, x negated where bit 0 of `k` is set, y where bit 1 is. Half sizes of 0 keep all four corners. Refused by 3, then
+/// by 15 where the list has fewer than 8 numbers; a refusal leaves the list as it came.
+///
+/// ```
+/// use foldflake::{plate, Refusal};
+/// let mut list = [9.0; 10];
+/// assert_eq!(plate([6.0, 4.0], &mut list)?, [6.0, 4.0, -6.0, 4.0, 6.0, -4.0, -6.0, -4.0]);
+/// assert_eq!(list[8..], [9.0, 9.0]);
+/// assert_eq!(plate([6.0, -4.0], &mut list), Err(Refusal(3)));
+/// # Ok::<(), Refusal>(())
+/// ```
+pub fn plate(half_sizes: [f32; 2], list: &mut [f32]) -> Result<&[f32], Refusal> {
+    let [x, y] = half_sizes;
+    // Safety: the list has the length handed over, and is lent to us alone.
+    let answer = unsafe { entry::foldflake_plate(x, y, list.as_mut_ptr(), list.len()) };
+    built(answer, list, 8)
+}
+
+/// A bar from its two ends, `a` and then `b`, at the front of the lent list, which are handed back; the rest of the list stays.
+///
+/// Refused by 3, then by 15 where the list has fewer than 4 numbers; a refusal leaves the list as it came.
+///
+/// ```
+/// use foldflake::{bar, distance, Cache};
+/// let mut list = [0.0; 4];
+/// let rail = bar([-3.0, 2.0], [3.0, 2.0], &mut list)?;
+/// assert_eq!(rail, [-3.0, 2.0, 3.0, 2.0]);
+/// let measured = distance([1.0, 0.0], [0.0, 0.0], &[0.0, 0.0], 0.0, rail, 0.0, false, &mut Cache::default())?;
+/// assert_eq!(measured.distance, 2.0);
+/// # Ok::<(), foldflake::Refusal>(())
+/// ```
+pub fn bar(a: [f32; 2], b: [f32; 2], list: &mut [f32]) -> Result<&[f32], Refusal> {
+    // Safety: the list has the length handed over, and is lent to us alone.
+    let answer = unsafe { entry::foldflake_bar(a[0], a[1], b[0], b[1], list.as_mut_ptr(), list.len()) };
+    built(answer, list, 4)
+}
+
+/// A [`plate`] whose corners are each turned by `rotation` (cosine, sine) and then moved by `translation`.
+///
+/// Refused by 3, 5 and 6 for the pose, then 15; a refusal leaves the list as it came. Corners that come to lie too far out are not refused here: the
+/// call that takes them refuses them by 3.
+///
+/// ```
+/// use foldflake::placed_plate;
+/// let mut list = [0.0; 8];
+/// // a quarter turn, then 10 to the right
+/// let turned = placed_plate([6.0, 4.0], [0.0, 1.0], [10.0, 0.0], &mut list)?;
+/// assert_eq!(turned, [6.0, 6.0, 6.0, -6.0, 14.0, 6.0, 14.0, -6.0]);
+/// # Ok::<(), foldflake::Refusal>(())
+/// ```
+pub fn placed_plate(half_sizes: [f32; 2], rotation: [f32; 2], translation: [f32; 2], list: &mut [f32]) -> Result<&[f32], Refusal> {
+    let [x, y] = half_sizes;
+    let pose = [rotation[0], rotation[1], translation[0], translation[1]];
+    // Safety: both lists have the lengths handed over, and the one that is written is lent to us alone.
+    let answer = unsafe { entry::foldflake_placed_plate(x, y, pose.as_ptr(), pose.len(), list.as_mut_ptr(), list.len()) };
+    built(answer, list, 8)
+}
+
+/// A [`bar`] whose ends are each turned by `rotation` (cosine, sine) and then moved by `translation`; refused as a [`placed_plate`] is.
+///
+/// ```
+/// use foldflake::{placed_bar, Refusal};
+/// let mut list = [0.0; 4];
+/// assert_eq!(placed_bar([0.0, 0.0], [9.0, 1.0], [0.0, 1.0], [5.0, 5.0], &mut list)?, [5.0, 5.0, 4.0, 14.0]);
+/// assert_eq!(placed_bar([0.0, 0.0], [9.0, 1.0], [1.0, 1.0], [5.0, 5.0], &mut list), Err(Refusal(5)));
+/// # Ok::<(), Refusal>(())
+/// ```
+pub fn placed_bar(a: [f32; 2], b: [f32; 2], rotation: [f32; 2], translation: [f32; 2], list: &mut [f32]) -> Result<&[f32], Refusal> {
+    let pose = [rotation[0], rotation[1], translation[0], translation[1]];
+    // Safety: both lists have the lengths handed over, and the one that is written is lent to us alone.
+    let answer = unsafe { entry::foldflake_placed_bar(a[0], a[1], b[0], b[1], pose.as_ptr(), pose.len(), list.as_mut_ptr(), list.len()) };
+    built(answer, list, 4)
+}
+
+/// What a builder answered, with the numbers at the list's front that it wrote.
+fn built(answer: u32, list: &[f32], numbers: usize) -> Result<&[f32], Refusal> {
+    match answer {
+        32 => Ok(&list[..numbers]),
+        number => Err(Refusal(number)),
+    }
 }

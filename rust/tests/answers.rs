@@ -1,5 +1,5 @@
 //! The safe face against answers worked out by hand or listed in README.md.
-use foldflake::{distance, line, root, sweep, Cache, Ending, Move, Refusal, Sweep};
+use foldflake::{bar, distance, line, placed_bar, placed_plate, plate, root, sweep, Cache, Ending, Move, Refusal, Sweep};
 
 const SQUARE: [f32; 8] = [-1.0, -1.0, 1.0, -1.0, 1.0, 1.0, -1.0, 1.0];
 const POINT: [f32; 2] = [0.0, 0.0];
@@ -68,8 +68,10 @@ fn every_refusal_of_a_sweep() {
 
 #[test]
 fn a_refusal_is_an_error_that_says_why() {
-    let told: Vec<String> = (1..=8).map(|n| Refusal(n).to_string()).collect();
-    assert!(told.iter().enumerate().all(|(i, text)| text.starts_with(&format!("refused by {}: ", i + 1))));
+    for n in (1..=8).chain([15]) {
+        let told = Refusal(n).to_string();
+        assert!(told.starts_with(&format!("refused by {n}: ")) && !told.contains("no reason"), "{told}");
+    }
     let error: Box<dyn std::error::Error> = Refusal(8).into();
     assert_eq!(error.to_string(), "refused by 8: the slop is not above 0, above 1048576, or not a number");
 }
@@ -120,4 +122,118 @@ fn a_distance_call_and_its_cache() {
     assert_eq!(cache, kept, "a refusal leaves the cache");
     let mut wild = Cache { count: 255, index_a: [u32::MAX; 3], index_b: [7, 8, 9] };
     assert_eq!(distance([1.0, 0.0], [3.0, 4.0], &POINT, 0.0, &POINT, 0.0, false, &mut wild).unwrap().distance, 5.0);
+}
+
+fn bits(numbers: &[f32]) -> Vec<u32> {
+    numbers.iter().map(|x| x.to_bits()).collect()
+}
+
+/// Corner k by the rule of bits, with the sign of every zero.
+#[test]
+fn every_corner_of_a_plate() {
+    for x in [0.0f32, -0.0, 1e-45, 6.0, 1_048_576.0] {
+        for y in [0.0f32, -0.0, 0.1, 4.0, 1_048_576.0] {
+            let mut list = [7.5; 11];
+            let corners = plate([x, y], &mut list).unwrap().to_vec();
+            let rule: Vec<f32> = (0..4).flat_map(|k| [if k & 1 == 0 { x } else { -x }, if k & 2 == 0 { y } else { -y }]).collect();
+            assert_eq!(bits(&corners), bits(&rule), "{x} {y}");
+            assert_eq!(bits(&list[..8]), bits(&rule));
+            assert_eq!(list[8..], [7.5; 3], "the rest stays");
+            let apart = distance([1.0, 0.0], [0.0, 0.0], &corners, 0.0, &POINT, 0.0, false, &mut Cache::default());
+            assert!(apart.is_ok(), "a built plate is accepted");
+        }
+    }
+}
+
+#[test]
+fn both_ends_of_a_bar() {
+    let mut list = [7.5; 6];
+    assert_eq!(bits(bar([-0.0, 2.0], [-3.0, 0.0], &mut list).unwrap()), bits(&[-0.0, 2.0, -3.0, 0.0]));
+    assert_eq!(list[4..], [7.5; 2], "the rest stays");
+    assert_eq!(bar([1.0, 1.0], [1.0, 1.0], &mut list).unwrap(), [1.0, 1.0, 1.0, 1.0], "both ends may be one");
+}
+
+#[test]
+fn placed_corners_are_turned_and_then_moved() {
+    let (c, s, x, y) = (0.8f32, 0.6f32, 0.1f32, -3.7f32);
+    let moved = |p: &[f32]| -> Vec<f32> { p.chunks(2).flat_map(|p| [(c * p[0] - s * p[1]) + x, (s * p[0] + c * p[1]) + y]).collect() };
+    let (mut still, mut placed) = ([7.5; 9], [7.5; 9]);
+    let expected = moved(plate([6.3, 0.7], &mut still).unwrap());
+    assert_eq!(bits(placed_plate([6.3, 0.7], [c, s], [x, y], &mut placed).unwrap()), bits(&expected));
+    assert_eq!(placed[8], 7.5, "the rest stays");
+    let expected = moved(bar([0.3, 1.0], [-9.1, 2.2], &mut still).unwrap());
+    assert_eq!(bits(placed_bar([0.3, 1.0], [-9.1, 2.2], [c, s], [x, y], &mut placed).unwrap()), bits(&expected));
+    // what lies too far out is refused by the call that takes it
+    let far = placed_bar([0.0; 2], [1_048_576.0, 0.0], [1.0, 0.0], [1_048_576.0, 0.0], &mut placed).unwrap().to_vec();
+    assert_eq!(far, [1_048_576.0, 0.0, 2_097_152.0, 0.0]);
+    assert_eq!(distance([1.0, 0.0], [0.0; 2], &far, 0.0, &POINT, 0.0, false, &mut Cache::default()), Err(Refusal(3)));
+}
+
+/// The first that applies of 3, 5, 6 and 15, and a list that stays.
+#[test]
+fn every_refusal_of_a_builder() {
+    let far = 1_048_576.125;
+    let one = [1.0, 1.0];
+    let (good, bad) = ([1.0, 0.0], [1.0, 1.0]);
+    for room in 0..10 {
+        let mut list = vec![7.5f32; room];
+        let mut refused = Vec::new();
+        for size in [-1.0, -1e-45, far, f32::NAN, f32::INFINITY, f32::NEG_INFINITY] {
+            for sizes in [[size, 1.0], [1.0, size]] {
+                refused.push((3, plate(sizes, &mut list).err()));
+                refused.push((3, placed_plate(sizes, bad, [far, 0.0], &mut list).err()));
+            }
+        }
+        for part in [-far, far, f32::NAN, f32::INFINITY, f32::NEG_INFINITY] {
+            for end in [[part, 1.0], [1.0, part]] {
+                refused.push((3, bar(end, one, &mut list).err()));
+                refused.push((3, bar(one, end, &mut list).err()));
+                refused.push((3, placed_bar(one, end, bad, [far, 0.0], &mut list).err()));
+                refused.push((6, placed_plate(one, good, end, &mut list).err()));
+                refused.push((6, placed_bar(one, one, good, end, &mut list).err()));
+            }
+        }
+        for rotation in [bad, [0.0, 0.0], [1.5, 0.0], [f32::NAN, 0.0], [0.9, 0.9]] {
+            refused.push((5, placed_plate(one, rotation, [far, 0.0], &mut list).err()));
+            refused.push((5, placed_bar(one, one, rotation, [far, 0.0], &mut list).err()));
+        }
+        if room < 8 {
+            refused.push((15, plate(one, &mut list).err()));
+            refused.push((15, placed_plate(one, good, one, &mut list).err()));
+        }
+        if room < 4 {
+            refused.push((15, bar(one, one, &mut list).err()));
+            refused.push((15, placed_bar(one, one, good, one, &mut list).err()));
+        }
+        assert!(list.iter().all(|&x| x == 7.5), "a refusal leaves the list");
+        for (i, (number, answer)) in refused.into_iter().enumerate() {
+            assert_eq!(answer, Some(Refusal(number)), "call {i}, room for {room}");
+        }
+        assert_eq!(plate(one, &mut list).is_ok(), room >= 8);
+        assert_eq!(bar(one, one, &mut list).is_ok(), room >= 4);
+    }
+}
+
+/// The entry points behind the safe face, which always hands over a pose of four numbers.
+#[test]
+fn a_pose_of_another_length_is_told_first_of_all() {
+    extern "C" {
+        fn foldflake_placed_plate(half_x: f32, half_y: f32, pose: *const f32, pose_len: usize, out: *mut f32, out_len: usize) -> u32;
+        fn foldflake_placed_bar(ax: f32, ay: f32, bx: f32, by: f32, pose: *const f32, pose_len: usize, out: *mut f32, out_len: usize) -> u32;
+    }
+    for (size, pose) in [(1.0, [1.0, 0.0, 2.0, 3.0, 4.0]), (f32::NAN, [f32::NAN; 5])] {
+        for (pose_len, room) in [(0, 8), (3, 8), (5, 8), (5, 0), (4, 8)] {
+            let mut out = [7.5f32; 8];
+            let answer = match pose_len {
+                4 if size == 1.0 => 32,
+                4 => 3,
+                _ => 255,
+            };
+            // Safety: each list is at least as long as the length handed over, and the one that is written is ours alone.
+            let plate = unsafe { foldflake_placed_plate(size, size, pose.as_ptr(), pose_len, out.as_mut_ptr(), room) };
+            let bar = unsafe { foldflake_placed_bar(size, size, size, size, pose.as_ptr(), pose_len, out.as_mut_ptr(), room) };
+            assert_eq!((plate, bar), (answer, answer), "{size} {pose_len} {room}");
+            assert_eq!(plate == 32, out != [7.5; 8], "written only where built");
+        }
+    }
 }

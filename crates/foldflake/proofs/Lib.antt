@@ -1,3 +1,4 @@
 mod Filled
 mod Line
 mod Told
+mod Placed

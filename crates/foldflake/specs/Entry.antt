@@ -6,6 +6,7 @@ use mathlib.Core.List.{List, [], _∷_, _++_}
 use lib.Dec.{eqb, ltb}
 use lib.ListN.{length, getD, drop}
 use lib.Ieee.{Float, binary32}
+use Rattle.model.specs.declared.Pose.{Pose}
 use Rattle.model.specs.declared.SimplexCache.{SimplexCache}
 use Rattle.model.specs.declared.Ending.{Ending}
 use Rattle.model.specs.declared.Ending.the-variants.{Touching, Settled, RoundLimit}
@@ -25,6 +26,8 @@ use Rattle.model.specs.Distance.{cache, proxyDistance}
 use Rattle.model.specs.Block.{blockSize}
 use Rattle.model.specs.Work.{turn, sweepFor, told, blockAnswer}
 use Rattle.lines.specs.Part.{countLimit, lineFor}
+use Rattle.shapes.specs.declared.Built.{Built}
+use Rattle.shapes.specs.declared.Built.the-variants.{Corners, Refused as Unbuilt}
 
 -- ---- one block to one line
 -- block n of a file; nothing where the block is not one, no file has the number, or there is no room
@@ -84,9 +87,13 @@ cacheWords c =
     c .count ∷ getD (c .«index_a») 0 0 ∷ getD (c .«index_a») 1 0 ∷ getD (c .«index_a») 2 0 ∷ getD (c .«index_b») 0 0 ∷ getD (c .«index_b») 1 0
     ∷ getD (c .«index_b») 2 0 ∷ []
 
--- three pairs: the turn and the shift of the pose of B in the frame of A, then the radii
+-- two pairs: the turn and the shift
+abbrev pub poseOf : List Float → Pose
+poseOf ns = pose (turn (point ns 0)) (point ns 1)
+
+-- three pairs: the pose of B in the frame of A, then the radii
 unfoldable pub distanceFor : List Float → List Float → List Float → Bool → SimplexCache → Distance
-distanceFor a b ns radii c = proxyDistance binary32 (pose (turn (point ns 0)) (point ns 1)) a (point ns 2 .x) b (point ns 2 .y) radii c
+distanceFor a b ns radii c = proxyDistance binary32 (poseOf ns) a (point ns 2 .x) b (point ns 2 .y) radii c
 
 abbrev pub endingNumber : Ending → ℕ
 endingNumber Touching = 16
@@ -127,3 +134,13 @@ pub record DistanceTold (a b ns : List Float) (radii : ℕ) (words : List ℕ) (
   pub number : r ≡ cond (distanceFits ns words out) (distanceNumber (distanceCall a b ns radii words .answer)) 255
   pub cached : words' ≡ cond (distanceFits ns words out) (cacheAfter (distanceCall a b ns radii words .answer) (distanceCall a b ns radii words .cache) words) words
   pub measured : out' ≡ cond (distanceFits ns words out) (outputAfter (distanceCall a b ns radii words .answer) out) out
+
+-- ---- plates and bars
+abbrev pub builtNumber : Built → ℕ
+builtNumber (Corners n) = 32
+builtNumber (Unbuilt k) = k
+
+-- a placed shape, by what it answers and leaves for a pose: 255, and nothing written, for a pose that has not four numbers
+pub record PlacedTold (told : Pose → List Float → Built) (left : Pose → List Float → List Float) (ns out out' : List Float) (r : ℕ) : Type 0 where
+  pub number : r ≡ cond (eqb (length ns) 4) (builtNumber (told (poseOf ns) out)) 255
+  pub corners : out' ≡ cond (eqb (length ns) 4) (left (poseOf ns) out) out

@@ -2,13 +2,19 @@
 mod numbers;
 mod tell;
 
+use model::Vector;
 use numbers::cache_of;
 use numbers::distance_of;
+use numbers::pose_of;
+use tell::built_number;
 use tell::tell_distance;
 use tell::tell_sweep;
+ghost use mathlib.Core.Path.{_≡_};
 ghost use lib.Ieee.{binary32};
 ghost use Rattle.model.specs.Nearest.{Rooted};
-ghost use Rattle.foldflake.specs.Entry.{LineTold, SweepTold, DistanceTold};
+ghost use Rattle.model.specs.Ground.{vector};
+ghost use Rattle.shapes.specs.Shapes.{plateTold, plateLeft, placedPlateTold, placedPlateLeft, barTold, barLeft, placedBarTold, placedBarLeft};
+ghost use Rattle.foldflake.specs.Entry.{LineTold, SweepTold, DistanceTold, builtNumber, PlacedTold};
 
 // The square root of every f32.
 #[no_mangle]
@@ -81,4 +87,62 @@ pub extern "C" fn foldflake_distance(
     } else {
         255
     }
+}
+
+// The corners of a plate, by its half sizes, at the front of out: x y each, x negated at corners 1 and 3, y at 2 and 3. The answer: 32 built; 3 for
+// a half size, 15 where out has fewer than 8 numbers. Refused, nothing is written.
+#[no_mangle]
+pub extern "C" fn foldflake_plate(half_x: f32, half_y: f32, out: &mut [f32]) -> u32
+    ensures { λ r. ⌜ (r ≡ builtNumber (plateTold binary32 «half_x» «half_y» (now (out .entry)))) × (now (out .exit) ≡ plateLeft binary32 «half_x» «half_y» (now (out .entry))) ⌝ }
+{
+    built_number(shapes::plate(half_x, half_y, out))
+}
+
+// The corners of a bar, its ends a and b, in the same way: 3 for an end, 15 where out has fewer than 4 numbers.
+#[no_mangle]
+pub extern "C" fn foldflake_bar(ax: f32, ay: f32, bx: f32, by: f32, out: &mut [f32]) -> u32
+    ensures { λ r. ⌜ (r ≡ builtNumber (barTold binary32 (vector ax ay) (vector bx by) (now (out .entry)))) × (now (out .exit) ≡ barLeft binary32 (vector ax ay) (vector bx by) (now (out .entry))) ⌝ }
+{
+    let a = Vector { x: ax, y: ay };
+    let b = Vector { x: bx, y: by };
+    built_number(shapes::bar(a, b, out))
+}
+
+// The plate, each corner moved by a pose: its cosine, its sine and its translation. First of all 255 where the pose has not four numbers; 5 and 6 for
+// the pose come between 3 and 15.
+#[no_mangle]
+pub extern "C" fn foldflake_placed_plate(
+    half_x: f32,
+    half_y: f32,
+    pose: &[f32],
+    out: &mut [f32],
+) -> u32
+    ensures { λ r. ⌜ PlacedTold (placedPlateTold binary32 «half_x» «half_y») (placedPlateLeft binary32 «half_x» «half_y») (now (pose .entry)) (now (out .entry)) (now (out .exit)) r ⌝ }
+{
+    if pose.len() != 4 {
+        return 255;
+    }
+    let placement = pose_of(pose);
+    built_number(shapes::placed_plate(half_x, half_y, placement, out))
+}
+
+// The bar, moved by a pose in the same way.
+#[no_mangle]
+pub extern "C" fn foldflake_placed_bar(
+    ax: f32,
+    ay: f32,
+    bx: f32,
+    by: f32,
+    pose: &[f32],
+    out: &mut [f32],
+) -> u32
+    ensures { λ r. ⌜ PlacedTold (placedBarTold binary32 (vector ax ay) (vector bx by)) (placedBarLeft binary32 (vector ax ay) (vector bx by)) (now (pose .entry)) (now (out .entry)) (now (out .exit)) r ⌝ }
+{
+    if pose.len() != 4 {
+        return 255;
+    }
+    let a = Vector { x: ax, y: ay };
+    let b = Vector { x: bx, y: by };
+    let placement = pose_of(pose);
+    built_number(shapes::placed_bar(a, b, placement, out))
 }

@@ -7,7 +7,7 @@ use outline::point;
 ghost use mathlib.Core.Path.{_≡_};
 ghost use Prim.Native.Nat.{_<_};
 ghost use lib.ListN.{length, getD};
-ghost use Rattle.foldflake.specs.Entry.{cacheOf, distanceFor};
+ghost use Rattle.foldflake.specs.Entry.{cacheOf, poseOf, distanceFor};
 
 // The cache that seven words stand for.
 pub fn cache_of(words: &[u32]) -> SimplexCache
@@ -24,7 +24,23 @@ pub fn cache_of(words: &[u32]) -> SimplexCache
     }
 }
 
-// The distance that six numbers ask for: the turn and the shift of the pose, then both radii.
+// The pose that four numbers stand for, the first of a list: the turn and the shift.
+pub fn pose_of(numbers: &[f32]) -> Pose
+    ensures { λ r. ⌜ r ≡ poseOf (now (numbers .entry)) ⌝ }
+{
+    let turned = point(numbers, 0);
+    let translation = point(numbers, 1);
+    let rotation = Rotation {
+        c: turned.x,
+        s: turned.y,
+    };
+    Pose {
+        rotation,
+        translation,
+    }
+}
+
+// The distance that six numbers ask for: those of the pose, then both radii.
 pub fn distance_of(
     points_a: &[f32],
     points_b: &[f32],
@@ -34,17 +50,8 @@ pub fn distance_of(
 ) -> Distance
     ensures { λ r. ⌜ r ≡ distanceFor (now («points_a» .entry)) (now («points_b» .entry)) (now (numbers .entry)) «use_radii» cache ⌝ }
 {
-    let turned = point(numbers, 0);
-    let translation = point(numbers, 1);
+    let pose = pose_of(numbers);
     let radii = point(numbers, 2);
-    let rotation = Rotation {
-        c: turned.x,
-        s: turned.y,
-    };
-    let pose = Pose {
-        rotation,
-        translation,
-    };
     distance::proxy_distance::proxy_distance(
         pose,
         points_a,

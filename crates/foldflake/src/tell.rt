@@ -9,10 +9,11 @@ use model::ProxyDistanceOutput;
 use model::SimplexCache;
 use model::Status;
 use model::Verdict;
+use shapes::Built;
 ghost use mathlib.Core.Path.{_≡_};
 ghost use Prim.Native.Nat.{_+_, _*_, _≤_};
 ghost use lib.ListN.{length};
-ghost use Rattle.foldflake.specs.Entry.{contactFloats, countsWords, statusNumber, sweepNumber, contactAfter, countsAfter, endingNumber, outputNumber, outputFloats, cacheWords, roundsOf, distanceNumber, outputAfter, cacheAfter};
+ghost use Rattle.foldflake.specs.Entry.{contactFloats, countsWords, statusNumber, sweepNumber, contactAfter, countsAfter, endingNumber, outputNumber, outputFloats, cacheWords, roundsOf, distanceNumber, outputAfter, cacheAfter, builtNumber};
 
 fn put_contact(out: &mut [f32], c: Contact)
     requires { ⌜ length (now out) ≡ 5 ⌝ }
@@ -141,5 +142,15 @@ pub fn tell_distance(d: Distance, words: &mut [u32], out: &mut [f32]) -> u32
     match answer {
         DistanceAnswer::Measured(o) => put_measured(words, out, o, cache),
         DistanceAnswer::Refused(number) => number,
+    }
+}
+
+// A build, told by 32, or its refusal.
+pub fn built_number(x: Built) -> u32
+    ensures { λ r. ⌜ r ≡ builtNumber x ⌝ }
+{
+    match x {
+        Built::Corners(_) => 32,
+        Built::Refused(number) => number,
     }
 }

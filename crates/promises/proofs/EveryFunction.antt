@@ -20,6 +20,7 @@ use Rattle.distance.proofs as distance
 use Rattle.separation.proofs as separation
 use Rattle.sweep_toi.proofs as sweep_toi
 use Rattle.toi_proxy.proofs as toi_proxy
+use Rattle.shapes.proofs as shapes
 use Rattle.wire.proofs as wire
 use Rattle.block.proofs as block
 use Rattle.work.proofs as work
@@ -427,6 +428,35 @@ module _ {M : Type 1} (𝓤 : URA M) (H : Heap 𝓤) (A : Atoms 𝓤) (mem : Mem
     once = λ κs a g r r' v v'. told 𝓤 (λ p q. (search same-value, refl));
   }
 
+  -- ---- shapes
+  pub shapes-bar : OneResult 𝓤 H A shapes.bar.ended (shapes.bar.spec 𝓤 H A mem run)
+  shapes-bar = record {
+    clauses = shapes.bar.clauses 𝓤 H A mem run;
+    of-contract = refl;
+    once = λ κs a g r r' v v'. told 𝓤 (λ p q. (search same-value, each-list shapes.bar.ended κs a v v' (search same-value depth 12)));
+  }
+
+  pub shapes-placed-bar : OneResult 𝓤 H A shapes.placed_bar.ended (shapes.placed_bar.spec 𝓤 H A mem run)
+  shapes-placed-bar = record {
+    clauses = shapes.placed_bar.clauses 𝓤 H A mem run;
+    of-contract = refl;
+    once = λ κs a g r r' v v'. told 𝓤 (λ p q. (search same-value, each-list shapes.placed_bar.ended κs a v v' (search same-value depth 12)));
+  }
+
+  pub shapes-placed-plate : OneResult 𝓤 H A shapes.placed_plate.ended (shapes.placed_plate.spec 𝓤 H A mem run)
+  shapes-placed-plate = record {
+    clauses = shapes.placed_plate.clauses 𝓤 H A mem run;
+    of-contract = refl;
+    once = λ κs a g r r' v v'. told 𝓤 (λ p q. (search same-value, each-list shapes.placed_plate.ended κs a v v' (search same-value depth 12)));
+  }
+
+  pub shapes-plate : OneResult 𝓤 H A shapes.plate.ended (shapes.plate.spec 𝓤 H A mem run)
+  shapes-plate = record {
+    clauses = shapes.plate.clauses 𝓤 H A mem run;
+    of-contract = refl;
+    once = λ κs a g r r' v v'. told 𝓤 (λ p q. (search same-value, each-list shapes.plate.ended κs a v v' (search same-value depth 12)));
+  }
+
   -- ---- wire
   pub wire-byte : OneResult 𝓤 H A wire.byte.ended (wire.byte.spec 𝓤 H A mem run)
   wire-byte = record {
@@ -524,6 +554,13 @@ module _ {M : Type 1} (𝓤 : URA M) (H : Heap 𝓤) (A : Atoms 𝓤) (mem : Mem
   }
 
   -- ---- foldflake
+  pub foldflake-foldflake-bar : OneResult 𝓤 H A foldflake.foldflake_bar.ended (foldflake.foldflake_bar.spec 𝓤 H A mem run)
+  foldflake-foldflake-bar = record {
+    clauses = foldflake.foldflake_bar.clauses 𝓤 H A mem run;
+    of-contract = refl;
+    once = λ κs a g r r' v v'. told 𝓤 (λ p q. (search same-value, each-list foldflake.foldflake_bar.ended κs a v v' (search same-value depth 12)));
+  }
+
   pub foldflake-foldflake-distance : OneResult 𝓤 H A foldflake.foldflake_distance.ended (foldflake.foldflake_distance.spec 𝓤 H A mem run)
   foldflake-foldflake-distance = record {
     clauses = foldflake.foldflake_distance.clauses 𝓤 H A mem run;
@@ -536,6 +573,27 @@ module _ {M : Type 1} (𝓤 : URA M) (H : Heap 𝓤) (A : Atoms 𝓤) (mem : Mem
     clauses = foldflake.foldflake_line.clauses 𝓤 H A mem run;
     of-contract = refl;
     once = λ κs a g r r' v v'. told 𝓤 (λ p q. (search same-value, each-list foldflake.foldflake_line.ended κs a v v' (search same-value depth 12)));
+  }
+
+  pub foldflake-foldflake-placed-bar : OneResult 𝓤 H A foldflake.foldflake_placed_bar.ended (foldflake.foldflake_placed_bar.spec 𝓤 H A mem run)
+  foldflake-foldflake-placed-bar = record {
+    clauses = foldflake.foldflake_placed_bar.clauses 𝓤 H A mem run;
+    of-contract = refl;
+    once = λ κs a g r r' v v'. told 𝓤 (λ p q. (search same-value, each-list foldflake.foldflake_placed_bar.ended κs a v v' (search same-value depth 12)));
+  }
+
+  pub foldflake-foldflake-placed-plate : OneResult 𝓤 H A foldflake.foldflake_placed_plate.ended (foldflake.foldflake_placed_plate.spec 𝓤 H A mem run)
+  foldflake-foldflake-placed-plate = record {
+    clauses = foldflake.foldflake_placed_plate.clauses 𝓤 H A mem run;
+    of-contract = refl;
+    once = λ κs a g r r' v v'. told 𝓤 (λ p q. (search same-value, each-list foldflake.foldflake_placed_plate.ended κs a v v' (search same-value depth 12)));
+  }
+
+  pub foldflake-foldflake-plate : OneResult 𝓤 H A foldflake.foldflake_plate.ended (foldflake.foldflake_plate.spec 𝓤 H A mem run)
+  foldflake-foldflake-plate = record {
+    clauses = foldflake.foldflake_plate.clauses 𝓤 H A mem run;
+    of-contract = refl;
+    once = λ κs a g r r' v v'. told 𝓤 (λ p q. (search same-value, each-list foldflake.foldflake_plate.ended κs a v v' (search same-value depth 12)));
   }
 
   pub foldflake-foldflake-root : OneResult 𝓤 H A foldflake.foldflake_root.ended (foldflake.foldflake_root.spec 𝓤 H A mem run)

@@ -5,6 +5,7 @@ mod blocks;
 mod distances;
 mod first_contacts;
 mod operations;
+mod plates;
 mod pool;
 mod sweeps;
 mod table;

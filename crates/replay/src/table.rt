@@ -3,6 +3,7 @@ use crate::blocks;
 use crate::distances;
 use crate::first_contacts;
 use crate::operations;
+use crate::plates;
 use crate::pool::Numbers;
 use crate::sweeps;
 use crate::tally;
@@ -41,6 +42,7 @@ fn shape_of(table: u32) -> RowShape
         3 => shape(44, 8, 8, 9),
         4 => shape(640, 636, 512, 32),
         5 => shape(4644, 0, 12, 6),
+        6 => shape(44, 0, 12, 8),
         _ => shape(65536, 0, 0, 0),
     }
 }
@@ -52,6 +54,7 @@ fn answer(table: u32, row: &[u8], n: u64, pool: &[u8], numbers: &[f32], words: &
         3 => sweeps::answer(row, pool, numbers, words),
         4 => blocks::answer(row, n, words),
         5 => first_contacts::answer(row, words),
+        6 => plates::answer(row, words),
         _ => {}
     }
 }
