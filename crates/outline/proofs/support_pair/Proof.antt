@@ -1,4 +1,4 @@
--- `support_index` meets its contract. The invariant: what is left of the list, from the best so far, gives what the whole gives.
+-- `support_pair` meets its contract. The invariant: what is left of the list, from the best so far, gives what the whole gives.
 -- Assumes nothing.
 use Prim.Native.Nat.{_≤_, _*_, _-_, _%_}
 use native.Mathlib.Omega.{arith}
@@ -9,16 +9,19 @@ use lib.Ieee.{binary32}
 use lib.ListN.{drop}
 use Rattle.model.specs.Ground as Ground
 use Rattle.model.specs.Support.{supportFrom}
-use Rattle.outline.proofs.Laws.{support-step, support-stop}
-use Rattle.outline.proofs.support_index.Statement.{statement}
-use Rattle.outline.proofs.support_index.Tie as tie
+use Rattle.model.specs.Second.{secondFrom}
+use Rattle.model.proofs.Support.{support-step, support-stop}
+use Rattle.model.proofs.Second.{second-step, second-stop}
+use Rattle.outline.proofs.support_pair.Statement.{statement}
+use Rattle.outline.proofs.support_pair.Tie as tie
 
 abbrev Inv-loop : tie.InvT-loop
-Inv-loop points direction origin count best-index₀ best-value₀ i₀ best-index best-value i = (1 ≤ i)
-    × (supportFrom binary32 direction origin (drop (2 * i) points) i best-index best-value ≡ supportFrom binary32 direction origin (drop 2 points) 1 0 (Ground.zero binary32))
+Inv-loop points direction origin count _ _ _ _ first second value i = (1 ≤ i)
+    × (supportFrom binary32 direction origin (drop (2 * i) points) i first value ≡ supportFrom binary32 direction origin (drop 2 points) 1 0 (Ground.zero binary32))
+    × (secondFrom binary32 direction origin (drop (2 * i) points) i second value ≡ secondFrom binary32 direction origin (drop 2 points) 1 0 (Ground.zero binary32))
 
 abbrev μ-loop : tie.MeasureT-loop
-μ-loop points direction origin count best-index₀ best-value₀ i₀ best-index best-value i = count - i
+μ-loop _ _ _ count _ _ _ _ _ _ _ i = count - i
 
 point-requires : tie.Need-point-requires Inv-loop μ-loop
 point-requires c κs = search needs
@@ -79,8 +82,8 @@ returns c =
     ∙ l .inv .1 in
     rw (← o .ensures, whole)
 
-pub support-index-spec : {M : Type 1} → statement M
-support-index-spec =
+pub support-pair-spec : {M : Type 1} → statement M
+support-pair-spec =
     tie.close
     (tie.spec
     Inv-loop
