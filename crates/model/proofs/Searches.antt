@@ -56,12 +56,12 @@ last-of-repeat c (x ∷ xs) = refl
 
 -- ---- one search: the first corners are those of the least separation
 module _ (f : Format) (a b : List Float) (s : SeparationFunction) where
-  first-a : (pa pb : Pose) (ty : SeparationType) → cornersA f a s pa pb ty .first ≡ deepestA f a s pa pb ty
+  pub first-a : (pa pb : Pose) (ty : SeparationType) → cornersA f a s pa pb ty .first ≡ deepestA f a s pa pb ty
   first-a pa pb Points = refl
   first-a pa pb FaceA = refl
   first-a pa pb FaceB = refl
 
-  first-b : (pa pb : Pose) (ty : SeparationType) → cornersB f b s pa pb ty .first ≡ deepestB f b s pa pb ty
+  pub first-b : (pa pb : Pose) (ty : SeparationType) → cornersB f b s pa pb ty .first ≡ deepestB f b s pa pb ty
   first-b pa pb Points = refl
   first-b pa pb FaceA = refl
   first-b pa pb FaceB = refl

@@ -35,6 +35,9 @@ noCorner = pair noIndex noIndex
 abbrev pub corners : SupportPair → SupportPair → Corners
 corners a b = record { a = a; b = b }
 
+abbrev pub found : MinSeparation → Corners → Search
+found m k = record { least = m; corners = k }
+
 -- where no search ran
 abbrev pub noSearch : Corners
 noSearch = corners noCorner noCorner
@@ -64,7 +67,7 @@ module _ (f : Format) where
         corners (cornersA outlineA s pa pb (s .ty)) (cornersB outlineB s pa pb (s .ty))
 
     abbrev pub search : SeparationFunction → Float → Search
-    search s t = record { least = findMinSeparation f outlineA outlineB s t; corners = cornersAt s t }
+    search s t = found (findMinSeparation f outlineA outlineB s t) (cornersAt s t)
 
   -- ---- the searches of a sweep, turn by turn as `pushFrom` and `advanceFrom` go
   abbrev pub afterwards : PushEnd → (Float → Counts → List Corners) → List Corners

@@ -24,7 +24,7 @@ use outline::support_pair;
 ghost use mathlib.Core.Path.{_≡_};
 ghost use lib.Ieee.{binary32};
 ghost use Rattle.model.specs.Separation as Separation;
-ghost use Rattle.model.specs.Corners as Corners;
+ghost use Rattle.model.specs.Corners.{noCorner, cornersA, cornersB, search};
 
 // The index that a face has no corner for.
 const INVALID_INDEX: u32 = 4294967295;
@@ -253,7 +253,7 @@ pub fn evaluate(
 
 // What a face side has.
 fn no_corner() -> SupportPair
-    ensures { λ r. ⌜ r ≡ Corners.noCorner ⌝ }
+    ensures { λ r. ⌜ r ≡ noCorner ⌝ }
 {
     SupportPair {
         first: INVALID_INDEX,
@@ -263,7 +263,7 @@ fn no_corner() -> SupportPair
 
 // The corners of A that lie deepest along the axis.
 fn deepest_a(fcn: SeparationFunction, points_a: &[f32], xf_a: Pose, xf_b: Pose) -> SupportPair
-    ensures { λ r. ⌜ r ≡ Corners.cornersA binary32 (now («points_a» .entry)) fcn «xf_a» «xf_b» (fcn .ty) ⌝ }
+    ensures { λ r. ⌜ r ≡ cornersA binary32 (now («points_a» .entry)) fcn «xf_a» «xf_b» (fcn .ty) ⌝ }
 {
     let ty = fcn.ty;
     match ty {
@@ -278,7 +278,7 @@ fn deepest_a(fcn: SeparationFunction, points_a: &[f32], xf_a: Pose, xf_b: Pose) 
 
 // The corners of B that lie deepest along the axis.
 fn deepest_b(fcn: SeparationFunction, points_b: &[f32], xf_a: Pose, xf_b: Pose) -> SupportPair
-    ensures { λ r. ⌜ r ≡ Corners.cornersB binary32 (now («points_b» .entry)) fcn «xf_a» «xf_b» (fcn .ty) ⌝ }
+    ensures { λ r. ⌜ r ≡ cornersB binary32 (now («points_b» .entry)) fcn «xf_a» «xf_b» (fcn .ty) ⌝ }
 {
     let ty = fcn.ty;
     match ty {
@@ -301,7 +301,7 @@ pub fn find_min_separation(
     points_b: &[f32],
     t: f32,
 ) -> Search
-    ensures { λ r. ⌜ r ≡ Corners.search binary32 (now («points_a» .entry)) (now («points_b» .entry)) fcn t ⌝ }
+    ensures { λ r. ⌜ r ≡ search binary32 (now («points_a» .entry)) (now («points_b» .entry)) fcn t ⌝ }
 {
     let xf_a = transform_at(fcn.sweep_a, t);
     let xf_b = transform_at(fcn.sweep_b, t);

@@ -27,7 +27,7 @@ point-requires : tie.Need-point-requires Inv-loop μ-loop
 point-requires c κs = search needs
 
 loop-holds : tie.Need-loop-holds Inv-loop μ-loop
-loop-holds c = (omega arith, refl)
+loop-holds c = (omega arith, refl, refl)
 
 mul-value : tie.Need-mul-value Inv-loop μ-loop
 mul-value c = omega arith
@@ -61,26 +61,39 @@ loop-again c =
     let l = c .before .before .before .before .before .before .before .before .loop in
     let a = c .before .before .before .before .before .before .before .before .before .before .before .args in
     let o = c .before .before .before .before .before .before .before .before .before .point .result in
-    let e = support-step binary32 (a .direction) o (a .points .now) (l .i) (l .best-index) (l .best-value)
-    (c .before .before .before .before .before .before .before .loop-test .taken) in (
+    let more = c .before .before .before .before .before .before .before .loop-test .taken in
+    let e = support-step binary32 (a .direction) o (a .points .now) (l .i) (l .best-index) (l .best-value) more in
+    let g = second-step binary32 (a .direction) o (a .points .now) (l .i) (l .second-index) (l .best-value) more in (
       omega arith,
       ⊎-elim
-          (λ w. rw (w .1, w .2) (sym (simp (w .0 .taken) at e) ∙ l .inv .1))
-          (λ w. rw (w .1, w .2) (sym (simp (w .0 .left) at e) ∙ l .inv .1))
+          (λ w. rw (w .1, w .3) (sym (simp (w .0 .taken) at e) ∙ l .inv .1))
+          (⊎-elim
+          (λ w. rw (w .2, w .4) (sym (simp (w .0 .left) at e) ∙ l .inv .1))
+          (λ w. rw (w .2, w .4) (sym (simp (w .0 .left) at e) ∙ l .inv .1)))
+          (c .if1 .came),
+      ⊎-elim
+          (λ w. rw (w .2, w .3) (sym (simp (w .0 .taken) at g) ∙ l .inv .2))
+          (⊎-elim
+          (λ w. rw (w .3, w .4) (sym (simp (w .0 .left, w .1 .taken) at g) ∙ l .inv .2))
+          (λ w. rw (w .3, w .4) (sym (simp (w .0 .left, w .1 .left) at g) ∙ l .inv .2)))
           (c .if1 .came),
     )
 
-cast-result : tie.Need-cast-result Inv-loop μ-loop
-cast-result c = omega arith
+cast-t26 : tie.Need-cast-t26 Inv-loop μ-loop
+cast-t26 c = omega arith
+
+cast-t28 : tie.Need-cast-t28 Inv-loop μ-loop
+cast-t28 c = omega arith
 
 returns : tie.Need-returns Inv-loop μ-loop
 returns c =
     let l = c .before .loop in
     let a = c .before .before .before .before .args in
     let o = c .before .before .point in
-    let whole = sym (support-stop binary32 (a .direction) (o .result) (a .points .now) (l .i) (l .best-index) (l .best-value) (c .loop-test .left))
-    ∙ l .inv .1 in
-    rw (← o .ensures, whole)
+    let all = c .loop-test .left in
+    let first = sym (support-stop binary32 (a .direction) (o .result) (a .points .now) (l .i) (l .best-index) (l .best-value) all) ∙ l .inv .1 in
+    let last = sym (second-stop binary32 (a .direction) (o .result) (a .points .now) (l .i) (l .second-index) (l .best-value) all) ∙ l .inv .2 in
+    rw (← o .ensures, first, last)
 
 pub support-pair-spec : {M : Type 1} → statement M
 support-pair-spec =
@@ -100,5 +113,6 @@ support-pair-spec =
     add-i
     loop-less
     loop-again
-    cast-result
+    cast-t26
+    cast-t28
     returns)

@@ -5,7 +5,8 @@ use native.Mathlib.Omega.{arith}
 use mathlib.Core.Path.{_≡_, refl, _∙_}
 use mathlib.Core.Logic.{⊎-elim}
 use lib.Ieee.{binary32}
-use Rattle.model.specs.SweepToi.{stepped, advance}
+use Rattle.model.specs.SweepToi.{stepped}
+use Rattle.model.specs.Corners.{advanced}
 use Rattle.model.proofs.SweepToi.{Ready, Room, nothing-counted, room-after-call, room-is-bounded, searched-is-bounded, room-after-steps}
 use Rattle.sweep_toi.proofs.Laws.{calling, pushing, searching, at-the-start, Tried, root-lands, root-above, root-below, root-runs-out}
 use Rattle.sweep_toi.proofs.Laws.{Searched, push-separates, push-moves, push-fails, push-hits, push-searches}
@@ -15,10 +16,10 @@ use Rattle.sweep_toi.proofs.sweep_toi.advance.Statement.{statement}
 use Rattle.sweep_toi.proofs.sweep_toi.advance.Tie as tie
 
 abbrev Inv-loop : tie.InvT-loop
-Inv-loop task points-a points-b _ _ t1 _ counts closest fcn t2 push-backs deepest _ _ _ _ _ s2 s1 a1 a2 steps =
+Inv-loop task points-a points-b _ _ t1 _ counts corners closest fcn t2 push-backs found deepest _ _ _ _ _ s2 s1 a1 a2 steps =
     (steps < 50)
-    × (searching binary32 task points-a points-b fcn closest t1 t2 push-backs counts deepest a1 a2 s1 s2 steps
-    ≡ advance binary32 task points-a points-b)
+    × (searching binary32 task points-a points-b fcn closest t1 t2 push-backs counts corners deepest a1 a2 s1 s2 steps
+    ≡ advanced binary32 task points-a points-b)
 
 abbrev μ-loop : tie.MeasureT-loop
 μ-loop _ _ _ _ _ _ _ _ _ _ _ _ _ _ _ _ _ _ _ _ _ _ steps = 50 - steps
@@ -28,14 +29,14 @@ Inv-push-back task points-a points-b _ _ _ _ counts₀ closest fcn _ _ t1 counts
     (push-backs < 8)
     × Room (8 - push-backs) counts
     × (counts .«distance_calls» ≡ counts₀ .«distance_calls»)
-    × (pushing binary32 task points-a points-b fcn closest t1 t2 push-backs counts ≡ advance binary32 task points-a points-b)
+    × (pushing binary32 task points-a points-b fcn closest t1 t2 push-backs counts ≡ advanced binary32 task points-a points-b)
 
 abbrev μ-push-back : tie.MeasureT-push-back
 μ-push-back _ _ _ _ _ _ _ _ _ _ _ _ _ _ _ push-backs = 8 - push-backs
 
 abbrev Inv-advance : tie.InvT-advance
 Inv-advance task points-a points-b _ _ _ _ _ t1 cache counts =
-    Ready (19 - counts .«distance_calls») counts × (calling binary32 task points-a points-b t1 cache counts ≡ advance binary32 task points-a points-b)
+    Ready (19 - counts .«distance_calls») counts × (calling binary32 task points-a points-b t1 cache counts ≡ advanced binary32 task points-a points-b)
 
 abbrev μ-advance : tie.MeasureT-advance
 μ-advance _ _ _ _ _ _ _ _ _ _ counts = 20 - counts .«distance_calls»
@@ -93,7 +94,7 @@ landed : (c : tie.Joined7 Inv-loop μ-loop Inv-push-back μ-push-back Inv-advanc
     let o = stepped (s .searched .result) (i .loop .root-iteration-count + 1) in
     pushing binary32 (a .task) (a .points-a .now) (a .points-b .now) (q .before .new-separation .result) (h .closest-at .result)
     (p .t1) (c .if7 .t2) (p .push-back-iterations + 1) o
-    ≡ advance binary32 (a .task) (a .points-a .now) (a .points-b .now)
+    ≡ advanced binary32 (a .task) (a .points-a .now) (a .points-b .now)
 landed c =
     ⊎-elim
     (λ w. rw (w .5) (root-lands (tried (c .before)) (w .0 .taken)))
