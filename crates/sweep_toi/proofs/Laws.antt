@@ -245,6 +245,12 @@ pub one-call-made : (n u : Counts) {o v : Counts} → v ≡ searched u → u .«
     v .«distance_calls» ≡ n .«distance_calls» + 1
 one-call-made n u p q r = rw p (q ∙ rw r)
 
+-- a push-back that is made has corners of its own
+pub whatever-before : (f : Format) (w : SweepTask) (a b : List Float) (g : SeparationFunction) (x : Closest) (t1 t2 : Float) (p : ℕ) (n : Counts)
+    (e d : Corners) → p < 8 → pushing f w a b g x t1 t2 p n e ≡ pushing f w a b g x t1 t2 p n d
+unfolding pushing pushSearches lastOf
+whatever-before f w a b g x t1 t2 p n e d h = let y : 8 - p ≡ suc (7 - p) = omega arith in rw y
+
 pub all-pushed : (f : Format) (w : SweepTask) (a b : List Float) (g : SeparationFunction) (x : Closest) (t1 t2 : Float) (p : ℕ) (n : Counts) (e : Corners) →
     p ≡ 8 → pushing f w a b g x t1 t2 p n e ≡ advanced f w a b → resuming f w a b x t1 n e ≡ advanced f w a b
 unfolding pushing pushFrom pushSearches

@@ -27,7 +27,8 @@ fn point_at(points: &[Vector], i: usize) -> Vector
     points[i]
 }
 
-// Takes point i: the first is the origin of all values, and a later one is better where its value is above the best.
+// Takes point i: the first is the origin of all values, and a later one is better where its value is above the best, and the second where
+// it is equal.
 fn take(s: Farthest, i: usize, p: Vector, direction: Vector) -> Farthest
     ensures { λ r. ⌜ r ≡ taken binary32 direction s i p ⌝ }
 {
@@ -52,13 +53,22 @@ fn take(s: Farthest, i: usize, p: Vector, direction: Vector) -> Farthest
             second: i,
             value,
         }
+    } else if value == s.value {
+        Farthest {
+            x: s.x,
+            y: s.y,
+            bad,
+            best: s.best,
+            second: i,
+            value: s.value,
+        }
     } else {
         Farthest {
             x: s.x,
             y: s.y,
             bad,
             best: s.best,
-            second: if value == s.value { i } else { s.second },
+            second: s.second,
             value: s.value,
         }
     }
