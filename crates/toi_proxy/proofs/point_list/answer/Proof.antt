@@ -9,14 +9,14 @@ returns c = simp (c .if1 .taken)
 returns-2 : tie.Need-returns-2
 returns-2 c = simp (c .before .if1 .left, c .if2 .taken)
 
-cast-t8 : tie.Need-cast-t8
-cast-t8 c = search needs
+cast-t7 : tie.Need-cast-t7
+cast-t7 c = search needs
 
-cast-t10 : tie.Need-cast-t10
-cast-t10 c = search needs
+cast-t9 : tie.Need-cast-t9
+cast-t9 c = search needs
 
 returns-3 : tie.Need-returns-3
-returns-3 c = simp (c .before .before .if1 .left, c .before .if2 .left)
+returns-3 c = simp (c .before .before .before .if1 .left, c .before .before .if2 .left)
 
 pub answer-spec : {M : Type 1} → statement M
-answer-spec = tie.close (tie.spec returns returns-2 cast-t8 cast-t10 returns-3)
+answer-spec = tie.close (tie.spec returns returns-2 cast-t7 cast-t9 returns-3)
