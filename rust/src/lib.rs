@@ -175,12 +175,13 @@ pub struct Counts {
 ///
 /// ```
 /// use foldflake::{sweep, Corners, Move, Sweep};
-/// // a plate comes down on a point: of its lower side both corners arrive
-/// let plate = [2.0, 1.0, -2.0, 1.0, 2.0, -1.0, -2.0, -1.0];
+/// // a cart goes straight at a table: its front edge meets the table's corners 0 and 3
+/// let cart = [-6.0, -4.0, 6.0, -4.0, 6.0, 4.0, -6.0, 4.0];
+/// let table = [-10.0, -5.0, 10.0, -5.0, 10.0, 5.0, -10.0, 5.0];
 /// let stands = Move { local_center: [0.0; 2], first: [0.0; 2], last: [0.0; 2], first_rotation: [1.0, 0.0], last_rotation: [1.0, 0.0] };
-/// let comes = Move { first: [0.0, 9.0], ..stands };
-/// match sweep(&plate, 0.0, &comes, &[-9.0, 0.0, 9.0, 0.0], 0.0, &stands, 1.0, 0.01) {
-///     Ok(Sweep::Hit(_, _, corners)) => assert_eq!(corners, Corners { a: Some([2, 3]), b: None }),
+/// let goes = Move { first: [-40.0, 0.0], ..stands };
+/// match sweep(&cart, 0.0, &goes, &table, 0.0, &stands, 1.0, 0.005) {
+///     Ok(Sweep::Hit(_, _, corners)) => assert_eq!(corners, Corners { a: None, b: Some([0, 3]) }),
 ///     other => panic!("{other:?}"),
 /// }
 /// ```

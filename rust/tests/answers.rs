@@ -40,7 +40,7 @@ fn example_block() -> [u8; 512] {
 fn a_block_has_its_line() {
     let block = example_block();
     let text = line(1, &block).unwrap();
-    assert!(text.starts_with("1 7 0 H 3F600000 3E800000 00000000 3F800000 00000000 2 2 2"), "{text}");
+    assert!(text.starts_with("1 7 0 H 3F600000 3E800000 00000000 3F800000 00000000 2 2 2 0 0 0 0"), "{text}");
     assert!(line(u64::MAX, &block).is_none() && line(0, &block).is_none());
     assert!(line(1 << 63, &block).unwrap().starts_with("9223372036854775808 7 0 H "));
     let mut damaged = block;

@@ -4,6 +4,7 @@ use mathlib.Core.Bool.{Bool, true, false, cond}
 use mathlib.Core.List.{List, [], _∷_, _++_, append-assoc}
 use Prim.Native.Nat.{ℕ, zero, suc, _+_, _*_, _/_, _%_, _≤_}
 use native.Mathlib.Omega.{arith}
+use borrow.Author.Tests.{eq-eqb, ne-eqb}
 use lib.Dec.{eqb, ltb}
 use lib.Ieee.{Float, binary32, toBits}
 use lib.ListN.{length, length-append}
@@ -54,6 +55,22 @@ length-told false i end = length-number i end
 pub length-corner : (i end : ℕ) → length (corner i end) ≤ 21
 unfolding corner
 length-corner i end = length-told (eqb i noIndex) i end
+
+pub no-corner-is : (i end : ℕ) → i ≡ noIndex → corner i end ≡ 45 ∷ end ∷ []
+unfolding corner
+no-corner-is i end h = rw (eq-eqb i noIndex h)
+
+pub a-corner-is : (i end : ℕ) → (i ≡ noIndex → ⊥) → corner i end ≡ number i end
+unfolding corner
+a-corner-is i end h = rw (ne-eqb i noIndex h)
+
+pub pair-is : (p : SupportPair) (end : ℕ) → pairText p end ≡ corner (p .first) 32 ++ corner (p .second) end
+unfolding pairText
+pair-is p end = refl
+
+pub corners-are : (k : Corners) → cornersText k ≡ pairText (k .a) 32 ++ pairText (k .b) 10
+unfolding cornersText
+corners-are k = refl
 
 pub length-pair : (p : SupportPair) (end : ℕ) → length (pairText p end) ≤ 42
 unfolding pairText
