@@ -24,10 +24,11 @@ static int small_calls(void) {
 
   const float moves[24] = {0, 0, 1, 0.01f, 0, 0, 0, 0, 4, 0, 1, 0, 1, 0, 0, 0, 4, 0, 4, 0, 1, 0, 1, 0};
   float contact[5];
-  uint32_t counts[3];
-  answer = foldflake_sweep(square, 8, square, 8, moves, 24, contact, 5, counts, 3);
+  uint32_t counts[7];
+  answer = foldflake_sweep(square, 8, square, 8, moves, 24, contact, 5, counts, 7);
   if (answer != FOLDFLAKE_SWEEP_HIT) return 0;
-  fprintf(stderr, "sweep: fraction %g, calls %u\n", contact[0], counts[0]);
+  fprintf(stderr, "sweep: fraction %g, calls %u, corners of A %d %d, of B %d %d\n", contact[0], counts[0], (int)counts[3], (int)counts[4], (int)counts[5],
+          (int)counts[6]);
   return 1;
 }
 
@@ -40,7 +41,7 @@ static int failed(const char *which) {
 int main(int argc, char **argv) {
   (void)argv;
   uint8_t block[512];
-  char line[161];
+  char line[241];
   unsigned long long blocks = 0, clear = 0, contact = 0, undecided = 0, refused = 0;
   if (argc > 1) {
     fputs("sheet: no argument is taken\n", stderr);
@@ -56,7 +57,7 @@ int main(int argc, char **argv) {
       if (printf("%llu 0 9\n", blocks) < 0) return failed("standard output");
       break;
     }
-    size_t n = foldflake_line(blocks, block, 512, (uint8_t *)line, 160);
+    size_t n = foldflake_line(blocks, block, 512, (uint8_t *)line, 240);
     line[n] = 0;
     if (fputs(line, stdout) == EOF) return failed("standard output");
     int letter = status(line);

@@ -33,6 +33,9 @@ enum { FOLDFLAKE_WRONG_LENGTH = 255 };
 /* What foldflake_sweep answers. SEPARATED does not clear a move that turns, and FAILED is no verdict: see README.md, "What a setter must know". */
 enum { FOLDFLAKE_SWEEP_OVERLAPPED = 16, FOLDFLAKE_SWEEP_HIT = 17, FOLDFLAKE_SWEEP_SEPARATED = 18, FOLDFLAKE_SWEEP_FAILED = 19 };
 
+/* What foldflake_sweep tells in place of a corner where there is none. */
+#define FOLDFLAKE_NO_CORNER UINT32_MAX
+
 /* How foldflake_distance ends: FOLDFLAKE_ENDING of its answer. A refusal or a wrong length is its own ending, with no rounds. */
 enum { FOLDFLAKE_DISTANCE_TOUCHING = 16, FOLDFLAKE_DISTANCE_SETTLED = 17, FOLDFLAKE_DISTANCE_ROUND_LIMIT = 18 };
 #define FOLDFLAKE_ENDING(answer) ((answer) % 256u)
@@ -45,13 +48,16 @@ enum { FOLDFLAKE_BUILT = 32 };
 float foldflake_root(float x);
 
 /* The line of a block of 512 bytes as block `number` of a file, newline included, at the start of out; the answer is its length. The answer is 0,
-   and out as it was, where block_len is not 512, number is 0 or above 2^63, or out_len is below 160. */
+   and out as it was, where block_len is not 512, number is 0 or above 2^63, or out_len is below 240. */
 size_t foldflake_line(uint64_t number, const uint8_t *block, size_t block_len, uint8_t *out, size_t out_len);
 
 /* The sweep of two outlines.
    numbers, 24: radius of A, of B, max fraction, slop, then the move of A and of B: local centre x y, first centre x y, last centre x y, first
    rotation c s, last rotation c s (docs/GLOSSARY.md says what each is).
-   out, 5: fraction, point x y, normal x y. counts, 3: distance calls, separation searches, root steps.
+   out, 5: fraction, point x y, normal x y.
+   counts, 7: distance calls, separation searches, root steps; then of the last search the corners that lie deepest along its axis, the lowest index
+   and the highest whose value equals its, of A and of B; FOLDFLAKE_NO_CORNER twice for a side whose edge the axis is across, and four times where
+   no search ran.
    The answer is a refusal, 1 to 8, or FOLDFLAKE_SWEEP_.., or FOLDFLAKE_WRONG_LENGTH. On a refusal or a wrong length out and counts are as they
    were. */
 uint32_t foldflake_sweep(const float *points_a, size_t numbers_in_a, const float *points_b, size_t numbers_in_b, const float *numbers,

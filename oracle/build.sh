@@ -7,6 +7,8 @@
 #   2. in proxy_distance.rs the way a call ends is noted: round limit at its start, touching and settled where it leaves the loop.
 #      With the CFG `rounds` what each solve keeps is noted too.
 #   3. in sweep_toi.rs distance calls, separation searches and root steps are counted where they are made.
+#   4. in toi_proxy.rs `support` notes the highest index whose value equals the best, and in separation.rs a search notes for either side what
+#      `support` told of it, or that the side is a face's.
 set -eu
 here="$(cd "$(dirname "$0")" && pwd)"
 src="$1/query/sweep_toi"; out="$2"; rustc="${3:-rustc}"
@@ -38,6 +40,35 @@ edit proxy_distance 2 'if duplicate {' "if duplicate { $noted::SETTLED);"
 edit sweep_toi 1 'distance_iterations += 1;' 'distance_iterations += 1; crate::counts::distance_call();'
 edit sweep_toi 1 'fcn.find_min_separation(t2);' '{ crate::counts::search(); fcn.find_min_separation(t2) };'
 edit sweep_toi 1 'root_iteration_count += 1;' 'root_iteration_count += 1; crate::counts::root_step();'
+corners='crate::counts::corners'
+edit toi_proxy 1 'let mut best_index = 0;
+' 'let mut best_index = 0; let mut second_index = 0;
+'
+edit toi_proxy 1 'best_value = value;
+            }
+' 'best_value = value; second_index = i;
+            } else if value == best_value {
+                second_index = i;
+            }
+'
+edit toi_proxy 1 'best_index as u32
+    }' 'crate::counts::second(second_index as u32); best_index as u32
+    }'
+edit separation 1 'let index_a = self.proxy_a.support(axis_a);
+                let index_b = self.proxy_b.support(axis_b);
+
+' "let index_a = self.proxy_a.support(axis_a); $corners(0, index_a);
+                let index_b = self.proxy_b.support(axis_b); $corners(1, index_b);
+
+"
+edit separation 1 'let index_b = self.proxy_b.support(axis_b);
+                let point_b = ' "crate::counts::face(0);
+                let index_b = self.proxy_b.support(axis_b); $corners(1, index_b);
+                let point_b = "
+edit separation 1 'let index_a = self.proxy_a.support(axis_a);
+                let point_a = ' "crate::counts::face(1);
+                let index_a = self.proxy_a.support(axis_a); $corners(0, index_a);
+                let point_a = "
 python3 - "$1/shape/cuboid.rs" "$out/cuboid.rs" <<'PY'
 import sys
 text = open(sys.argv[1], encoding="utf-8").read()

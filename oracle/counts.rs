@@ -1,5 +1,5 @@
-//! What the module's text is made to tell while it runs (see build.sh): three counters, how the last distance call ended, and
-//! with the cfg `rounds` what each of its solves kept.
+//! What the module's text is made to tell while it runs (see build.sh): three counters, how the last distance call ended, the corners of the last
+//! separation search, and with the cfg `rounds` what each solve kept.
 use core::sync::atomic::{AtomicU32, AtomicU64, Ordering::Relaxed};
 
 static DISTANCE_CALLS: AtomicU32 = AtomicU32::new(0);
@@ -52,6 +52,32 @@ pub fn ending(e: u32) {
 
 pub fn last_ending() -> u32 {
     ENDING.load(Relaxed)
+}
+
+// the second index of the last `support`, and of the last search the first and second of A, then of B
+static SECOND: AtomicU32 = AtomicU32::new(0);
+static CORNERS: [AtomicU32; 4] = [const { AtomicU32::new(u32::MAX) }; 4];
+
+pub fn second(index: u32) {
+    SECOND.store(index, Relaxed)
+}
+
+fn side(which: usize, first: u32, second: u32) {
+    CORNERS[2 * which].store(first, Relaxed);
+    CORNERS[2 * which + 1].store(second, Relaxed)
+}
+
+pub fn corners(which: usize, first: u32) {
+    side(which, first, SECOND.load(Relaxed))
+}
+
+pub fn face(which: usize) {
+    side(which, u32::MAX, u32::MAX)
+}
+
+/// The corners of the last search since this was last asked; all FFFFFFFF where there was none.
+pub fn take_corners() -> [u32; 4] {
+    [0, 1, 2, 3].map(|i| CORNERS[i].swap(u32::MAX, Relaxed))
 }
 
 // each solve's count and, for each vertex kept, the two corners: of outlines of at most 64

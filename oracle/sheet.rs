@@ -61,9 +61,10 @@ fn line(number: u64, b: &[u8; SIZE]) -> (String, u32) {
         return (format!("{number} {} {}\n", word(b, 0), x.refused), x.refused);
     }
     let f = x.floats.map(crate::ground::bits);
+    let k = x.corners.map(|i| if i == u32::MAX { "-".to_string() } else { i.to_string() });
     let text = format!(
-        "{number} {} 0 {} {:08X} {:08X} {:08X} {:08X} {:08X} {} {} {}\n",
-        word(b, 0), ["O", "H", "S", "F"][x.status as usize], f[0], f[1], f[2], f[3], f[4], x.counts[0], x.counts[1], x.counts[2]
+        "{number} {} 0 {} {:08X} {:08X} {:08X} {:08X} {:08X} {} {} {} {}\n",
+        word(b, 0), ["O", "H", "S", "F"][x.status as usize], f[0], f[1], f[2], f[3], f[4], x.counts[0], x.counts[1], x.counts[2], k.join(" ")
     );
     (text, 16 + x.status)
 }
@@ -245,12 +246,12 @@ pub fn batch(seed: u64, count: u64) {
     }
 }
 
-/// A block as block `number` of a file, in 160 words: the block, the bytes of its line, zeros, and the line's kind.
+/// A block as block `number` of a file, in 168 words: the block, the bytes of its line, zeros, and the line's kind.
 pub fn row(number: u64, b: &[u8; SIZE]) -> Vec<u32> {
     let (text, kind) = line(number, b);
     let mut bytes = [&b[..], text.as_bytes()].concat();
-    assert!(bytes.len() <= 636);
-    bytes.resize(636, 0);
+    assert!(bytes.len() <= 668);
+    bytes.resize(668, 0);
     bytes.chunks_exact(4).map(|w| word(w, 0)).chain([kind]).collect()
 }
 
@@ -261,7 +262,7 @@ pub fn rows(seed: u64, count: u64) {
     let mut seen = [0u32; 20];
     for i in 1..=count {
         let words = row(i, &made(&mut r, i));
-        seen[words[159] as usize] += 1;
+        seen[words[167] as usize] += 1;
         out.row(&words);
     }
     out.end();

@@ -1,4 +1,4 @@
-//! Stored sweeps: a pool, then rows of 11 words (see docs/REPLAYS.md).
+//! Stored sweeps: a pool, then rows of 15 words (see docs/REPLAYS.md).
 use crate::counts;
 use crate::domain;
 use crate::ground::bits;
@@ -17,6 +17,8 @@ pub struct Answer {
     /// Fraction, point, normal.
     pub floats: [f32; 5],
     pub counts: [u32; 3],
+    /// First and second corner of A, then of B, of the last search; FFFFFFFF for a face side or where there was none.
+    pub corners: [u32; 4],
     /// Searches after one distance call, and root steps after one search.
     pub most: [u32; 2],
 }
@@ -24,10 +26,11 @@ pub struct Answer {
 pub fn answer(a: &Outline, ra: f32, wa: &Sweep, b: &Outline, rb: f32, wb: &Sweep, max_fraction: f32, slop: f32) -> Answer {
     let refused = domain::or(domain::pair(a, b, ra, rb), || domain::sweep(wa, wb, max_fraction, slop));
     if refused != 0 {
-        return Answer { refused, status: 0, floats: [0.0; 5], counts: [0; 3], most: [0; 2] };
+        return Answer { refused, status: 0, floats: [0.0; 5], counts: [0; 3], corners: [u32::MAX; 4], most: [0; 2] };
     }
     let (pa, pb) = (points(a), points(b));
     counts::take();
+    counts::take_corners();
     counts::take_most();
     let o = sweep_time_of_impact(&ToiProxy::from_points(&pa, ra), wa, &ToiProxy::from_points(&pb, rb), wb, max_fraction, slop);
     let status = match o.status {
@@ -36,7 +39,7 @@ pub fn answer(a: &Outline, ra: f32, wa: &Sweep, b: &Outline, rb: f32, wb: &Sweep
         SweepToiStatus::Separated => 2,
         SweepToiStatus::Failed => 3,
     };
-    Answer { refused, status, floats: [o.fraction, o.point.x, o.point.y, o.normal.x, o.normal.y], counts: counts::take(), most: counts::take_most() }
+    Answer { refused, status, floats: [o.fraction, o.point.x, o.point.y, o.normal.x, o.normal.y], counts: counts::take(), corners: counts::take_corners(), most: counts::take_most() }
 }
 
 #[derive(Copy, Clone)]
@@ -55,8 +58,8 @@ pub fn ask(p: &Pool, k: Call) -> Answer {
     answer(&p.outlines[k.a], ra, &p.moves[k.move_a], &p.outlines[k.b], rb, &p.moves[k.move_b], p.fractions[k.fraction], p.slops[k.slop])
 }
 
-pub fn row(k: Call, x: &Answer) -> [u32; 11] {
-    let mut w = [0; 11];
+pub fn row(k: Call, x: &Answer) -> [u32; 15] {
+    let mut w = [0; 15];
     w[0] = k.a as u32 | (k.b as u32) << 8 | (k.move_a as u32) << 16 | (k.move_b as u32) << 24;
     w[1] = k.radii as u32 | (k.fraction as u32) << 8 | (k.slop as u32) << 16;
     w[2] = if x.refused != 0 { x.refused } else { 16 + x.status };
@@ -64,7 +67,8 @@ pub fn row(k: Call, x: &Answer) -> [u32; 11] {
         for (i, &y) in x.floats.iter().enumerate() {
             w[3 + i] = bits(y);
         }
-        w[8..].copy_from_slice(&x.counts);
+        w[8..11].copy_from_slice(&x.counts);
+        w[11..].copy_from_slice(&x.corners);
     }
     w
 }

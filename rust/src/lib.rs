@@ -13,7 +13,7 @@
 //! let stands = Move { local_center: [0.0; 2], first: [6.0, 0.0], last: [6.0, 0.0], first_rotation: [1.0, 0.0], last_rotation: [1.0, 0.0] };
 //! let goes = Move { first: [0.0; 2], last: [8.0, 0.0], ..stands };
 //! match sweep(&square, 0.0, &goes, &square, 0.0, &stands, 1.0, 0.01)? {
-//!     Sweep::Hit(contact, _) => assert!((contact.fraction - 0.5).abs() < 0.01),
+//!     Sweep::Hit(contact, ..) => assert!((contact.fraction - 0.5).abs() < 0.01),
 //!     other => panic!("{other:?}"),
 //! }
 //! # Ok::<(), foldflake::Refusal>(())
@@ -138,7 +138,7 @@ pub struct Move {
 /// let goes = Move { first: [0.0; 2], ..stands };
 /// // two points; 0.5 is left between them, and the contact lies midway
 /// match sweep(&[0.0, 0.0], 0.0, &goes, &[0.0, 0.0], 0.0, &stands, 1.0, 0.5) {
-///     Ok(Sweep::Hit(contact, _)) => assert_eq!((contact.fraction, contact.point, contact.normal), (0.875, [3.75, 0.0], [1.0, 0.0])),
+///     Ok(Sweep::Hit(contact, ..)) => assert_eq!((contact.fraction, contact.point, contact.normal), (0.875, [3.75, 0.0], [1.0, 0.0])),
 ///     other => panic!("{other:?}"),
 /// }
 /// ```
@@ -155,10 +155,10 @@ pub struct Contact {
 /// How much work a sweep took: at most 20, 160 and 8,000.
 ///
 /// ```
-/// use foldflake::{sweep, Counts, Move, Sweep};
+/// use foldflake::{sweep, Corners, Counts, Move, Sweep};
 /// let still = Move { local_center: [0.0; 2], first: [0.0; 2], last: [0.0; 2], first_rotation: [1.0, 0.0], last_rotation: [1.0, 0.0] };
 /// let answer = sweep(&[0.0, 0.0], 0.0, &still, &[0.0, 0.0], 0.0, &still, 1.0, 0.01);
-/// assert_eq!(answer, Ok(Sweep::Overlapped(Counts { distance_calls: 1, searches: 0, root_steps: 0 })));
+/// assert_eq!(answer, Ok(Sweep::Overlapped(Counts { distance_calls: 1, searches: 0, root_steps: 0 }, Corners { a: None, b: None })));
 /// ```
 #[derive(Clone, Copy, Debug, PartialEq, Eq)]
 pub struct Counts {
@@ -170,7 +170,30 @@ pub struct Counts {
     pub root_steps: u32,
 }
 
-/// How a sweep ends.
+/// Which corners of each outline lie deepest along the axis of a sweep's last separation search: the lowest index and the highest whose value equals its,
+/// counted from 0. `None` where the axis is across an edge of that outline, and for both where no search ran.
+///
+/// ```
+/// use foldflake::{sweep, Corners, Move, Sweep};
+/// // a cart goes straight at a table: its front edge meets the table's corners 0 and 3
+/// let cart = [-6.0, -4.0, 6.0, -4.0, 6.0, 4.0, -6.0, 4.0];
+/// let table = [-10.0, -5.0, 10.0, -5.0, 10.0, 5.0, -10.0, 5.0];
+/// let stands = Move { local_center: [0.0; 2], first: [0.0; 2], last: [0.0; 2], first_rotation: [1.0, 0.0], last_rotation: [1.0, 0.0] };
+/// let goes = Move { first: [-40.0, 0.0], ..stands };
+/// match sweep(&cart, 0.0, &goes, &table, 0.0, &stands, 1.0, 0.005) {
+///     Ok(Sweep::Hit(_, _, corners)) => assert_eq!(corners, Corners { a: None, b: Some([0, 3]) }),
+///     other => panic!("{other:?}"),
+/// }
+/// ```
+#[derive(Clone, Copy, Debug, PartialEq, Eq)]
+pub struct Corners {
+    /// First and second corner of A.
+    pub a: Option<[u32; 2]>,
+    /// First and second corner of B.
+    pub b: Option<[u32; 2]>,
+}
+
+/// How a sweep ends, with its contact, the work that it took and the corners of its last search.
 ///
 /// The target is the larger of the slop and (radius A + radius B) - slop, and the tolerance a quarter of the slop.
 ///
@@ -193,14 +216,14 @@ pub struct Counts {
 #[derive(Clone, Copy, Debug, PartialEq)]
 pub enum Sweep {
     /// The outlines touch or overlap where the search stood, which may be later than at fraction 0.
-    Overlapped(Counts),
+    Overlapped(Counts, Corners),
     /// They come within the target distance at the contact's fraction.
-    Hit(Contact, Counts),
+    Hit(Contact, Counts, Corners),
     /// Along one axis they are apart by more than target and tolerance, where the search stood last and at the planned end. A straight move is
     /// clear then, up to the tolerance; **a body that turns may swing in and out again in between**: cut a turn into steps.
-    Separated(Contact, Counts),
+    Separated(Contact, Counts, Corners),
     /// No verdict: the search gave up. The fraction is the last safe one.
-    Failed(Contact, Counts),
+    Failed(Contact, Counts, Corners),
 }
 
 /// The corner pairs from which the next distance call starts; `Cache::default()` for a first call.
@@ -286,7 +309,7 @@ pub fn root(x: f32) -> f32 {
 /// assert_eq!(foldflake::line(0, &[0; 512]), None);
 /// ```
 pub fn line(number: u64, block: &[u8; 512]) -> Option<String> {
-    let mut out = [0u8; 160];
+    let mut out = [0u8; 240];
     // Safety: both lists have the lengths handed over, and `out` is ours alone.
     let n = unsafe { entry::foldflake_line(number, block.as_ptr(), block.len(), out.as_mut_ptr(), out.len()) };
     if n == 0 {
@@ -323,7 +346,7 @@ pub fn sweep(
         let pairs = [m.local_center, m.first, m.last, m.first_rotation, m.last_rotation];
         part.chunks_mut(2).zip(&pairs).for_each(|(place, pair)| place.copy_from_slice(pair));
     }
-    let (mut out, mut counts) = ([0f32; 5], [0u32; 3]);
+    let (mut out, mut counts) = ([0f32; 5], [0u32; 7]);
     // Safety: each list has the length handed over, and the two that are written are ours alone.
     let answer = unsafe {
         entry::foldflake_sweep(
@@ -340,12 +363,14 @@ pub fn sweep(
         )
     };
     let contact = Contact { fraction: out[0], point: [out[1], out[2]], normal: [out[3], out[4]] };
+    let side = |first: u32, second: u32| if first == u32::MAX { None } else { Some([first, second]) };
+    let corners = Corners { a: side(counts[3], counts[4]), b: side(counts[5], counts[6]) };
     let counts = Counts { distance_calls: counts[0], searches: counts[1], root_steps: counts[2] };
     match answer {
-        16 => Ok(Sweep::Overlapped(counts)),
-        17 => Ok(Sweep::Hit(contact, counts)),
-        18 => Ok(Sweep::Separated(contact, counts)),
-        19 => Ok(Sweep::Failed(contact, counts)),
+        16 => Ok(Sweep::Overlapped(counts, corners)),
+        17 => Ok(Sweep::Hit(contact, counts, corners)),
+        18 => Ok(Sweep::Separated(contact, counts, corners)),
+        19 => Ok(Sweep::Failed(contact, counts, corners)),
         number => Err(Refusal(number)),
     }
 }

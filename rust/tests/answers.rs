@@ -40,7 +40,7 @@ fn example_block() -> [u8; 512] {
 fn a_block_has_its_line() {
     let block = example_block();
     let text = line(1, &block).unwrap();
-    assert!(text.starts_with("1 7 0 H 3F600000 3E800000 00000000 3F800000 00000000 2 2 2"), "{text}");
+    assert!(text.starts_with("1 7 0 H 3F600000 3E800000 00000000 3F800000 00000000 2 2 2 0 0 0 0"), "{text}");
     assert!(line(u64::MAX, &block).is_none() && line(0, &block).is_none());
     assert!(line(1 << 63, &block).unwrap().starts_with("9223372036854775808 7 0 H "));
     let mut damaged = block;
@@ -81,11 +81,11 @@ fn every_status() {
     let by = |m: &Move, b: &Move| sweep(&SQUARE, 0.0, m, &SQUARE, 0.0, b, 1.0, 0.01);
     assert!(matches!(by(&goes([0.0, 0.0], [4.0, 0.0]), &still(4.0, 0.0)), Ok(Sweep::Hit(..))));
     assert!(matches!(by(&goes([0.0, 0.0], [0.0, 9.0]), &still(4.0, 0.0)), Ok(Sweep::Separated(..))));
-    assert!(matches!(by(&still(3.5, 0.5), &still(4.0, 0.0)), Ok(Sweep::Overlapped(_))));
+    assert!(matches!(by(&still(3.5, 0.5), &still(4.0, 0.0)), Ok(Sweep::Overlapped(..))));
     // a half turn has no direction: the search gives up
     let half = Move { last_rotation: [-1.0, 0.0], ..still(0.0, 0.0) };
     let gave_up = sweep(&SQUARE.map(|x| 5.0 * x), 0.0, &half, &WALL, 0.0, &still(6.0, 0.0), 1.0, 0.005);
-    assert!(matches!(gave_up, Ok(Sweep::Failed(_, counts)) if counts.distance_calls == 20 && counts.searches == 160 && counts.root_steps == 8000));
+    assert!(matches!(gave_up, Ok(Sweep::Failed(_, counts, _)) if counts.distance_calls == 20 && counts.searches == 160 && counts.root_steps == 8000));
 }
 
 /// What `Separated` does not see: the second is a bar that would sweep through the point whichever way it turned.
@@ -98,7 +98,7 @@ fn separated_does_not_clear_a_turn() {
         match sweep(&big, 0.0, &turns, &WALL, 0.0, &still(6.0, 0.0), 1.0, 0.005).unwrap() {
             Sweep::Separated(..) => 'S',
             Sweep::Hit(..) => 'H',
-            Sweep::Overlapped(_) => 'O',
+            Sweep::Overlapped(..) => 'O',
             Sweep::Failed(..) => 'F',
         }
     };

@@ -20,9 +20,9 @@ use Rattle.foldflake.specs.Entry.{sweepCall, sweepNumber, contactAfter, 
 
 -- ---- the sweep
 module _ (ns out : List Float) (counts : List ℕ) where
-  pub sweep-lengths : sweepFits ns out counts ≡ true → (length ns ≡ 24) × (length out ≡ 5) × (length counts ≡ 3)
+  pub sweep-lengths : sweepFits ns out counts ≡ true → (length ns ≡ 24) × (length out ≡ 5) × (length counts ≡ 7)
   sweep-lengths fits =
-      let last = both (eqb (length ns) 24 && eqb (length out) 5) (eqb (length counts) 3) fits in
+      let last = both (eqb (length ns) 24 && eqb (length out) 5) (eqb (length counts) 7) fits in
       let first = both (eqb (length ns) 24) (eqb (length out) 5) (last .0) in
       (eqb-true _ _ (first .0), eqb-true _ _ (first .1), eqb-true _ _ (last .1))
 

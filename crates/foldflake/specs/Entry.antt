@@ -16,6 +16,7 @@ use Rattle.model.specs.declared.DistanceAnswer.the-variants.{Measured, Refused 
 use Rattle.model.specs.declared.Distance.{Distance}
 use Rattle.model.specs.declared.Counts.{Counts}
 use Rattle.model.specs.declared.Contact.{Contact}
+use Rattle.model.specs.declared.Corners.{Corners}
 use Rattle.model.specs.declared.Status.{Status}
 use Rattle.model.specs.declared.Status.the-variants.{Overlapped, Hit, Separated, Failed}
 use Rattle.model.specs.declared.BlockAnswer.{BlockAnswer}
@@ -27,7 +28,7 @@ use Rattle.model.specs.Block.{blockSize}
 use Rattle.model.specs.Work.{turn, sweepFor, told, blockAnswer}
 use Rattle.lines.specs.Part.{countLimit, lineFor}
 use Rattle.shapes.specs.declared.Built.{Built}
-use Rattle.shapes.specs.declared.Built.the-variants.{Corners, Refused as Unbuilt}
+use Rattle.shapes.specs.declared.Built.the-variants as Shape
 
 -- ---- one block to one line
 -- block n of a file; nothing where the block is not one, no file has the number, or there is no room
@@ -62,15 +63,17 @@ abbrev pub contactAfter : BlockAnswer → List Float → List Float
 contactAfter (Worked job v) out = contactFloats (v .contact)
 contactAfter (Refused job k) out = out
 
-abbrev pub countsWords : Counts → List ℕ
-countsWords n = n .«distance_calls» ∷ n .searches ∷ n .«root_steps» ∷ []
+-- and of the last search the corners of A and of B, first and second
+abbrev pub countsWords : Counts → Corners → List ℕ
+countsWords n k =
+    n .«distance_calls» ∷ n .searches ∷ n .«root_steps» ∷ k .a .first ∷ k .a .second ∷ k .b .first ∷ k .b .second ∷ []
 
 abbrev pub countsAfter : BlockAnswer → List ℕ → List ℕ
-countsAfter (Worked job v) out = countsWords (v .counts)
+countsAfter (Worked job v) out = countsWords (v .counts) (v .corners)
 countsAfter (Refused job k) out = out
 
 abbrev pub sweepFits : List Float → List Float → List ℕ → Bool
-sweepFits ns out counts = eqb (length ns) 24 && eqb (length out) 5 && eqb (length counts) 3
+sweepFits ns out counts = eqb (length ns) 24 && eqb (length out) 5 && eqb (length counts) 7
 
 pub record SweepTold (a b ns out : List Float) (counts : List ℕ) (out' : List Float) (counts' : List ℕ) (r : ℕ) : Type 0 where
   pub number : r ≡ cond (sweepFits ns out counts) (sweepNumber (sweepCall a b ns)) 255
@@ -137,8 +140,8 @@ pub record DistanceTold (a b ns : List Float) (radii : ℕ) (words : List ℕ) (
 
 -- ---- plates and bars
 abbrev pub builtNumber : Built → ℕ
-builtNumber (Corners n) = 32
-builtNumber (Unbuilt k) = k
+builtNumber (Shape.Corners n) = 32
+builtNumber (Shape.Refused k) = k
 
 -- a placed shape, by what it answers and leaves for a pose: 255, and nothing written, for a pose that has not four numbers
 pub record PlacedTold (told : Pose → List Float → Built) (left : Pose → List Float → List Float) (ns out out' : List Float) (r : ℕ) : Type 0 where

@@ -25,7 +25,7 @@ pub extern "C" fn foldflake_root(x: f32) -> f32
 }
 
 // The line of a block as block `number` of a file, at the start of out, and its length. 0, and nothing written, where the block has not 512
-// bytes, the number is 0 or above 2^63, or out has fewer than 160 bytes.
+// bytes, the number is 0 or above 2^63, or out has fewer than 240 bytes.
 #[no_mangle]
 pub extern "C" fn foldflake_line(number: u64, block: &[u8], out: &mut [u8]) -> usize
     ensures { λ r. ⌜ LineTold number (now (block .entry)) (now (out .entry)) (now (out .exit)) r ⌝ }
@@ -42,7 +42,8 @@ pub extern "C" fn foldflake_line(number: u64, block: &[u8], out: &mut [u8]) -> u
 
 // The sweep of two outlines. Numbers: both radii, the max fraction, the slop, and two moves of ten as in a block. The answer: a refusal, 1 to 8;
 // 16 overlapped, 17 hit, 18 separated, 19 failed; 255 where a list has the wrong length. From 16 to 19 the fraction, the point and the normal
-// stand in out and the three counts in counts; else nothing is written.
+// stand in out; in counts the three counts, then of the last search the first and the second corner of A, and of B, FFFFFFFF where there is none. Else
+// nothing is written.
 #[no_mangle]
 pub extern "C" fn foldflake_sweep(
     points_a: &[f32],
@@ -53,9 +54,9 @@ pub extern "C" fn foldflake_sweep(
 ) -> u32
     ensures { λ r. ⌜ SweepTold (now («points_a» .entry)) (now («points_b» .entry)) (now (numbers .entry)) (now (out .entry)) (now (counts .entry)) (now (out .exit)) (now (counts .exit)) r ⌝ }
 {
-    if (numbers.len() == 24) & (out.len() == 5) & (counts.len() == 3) {
-        let answer = work::sweep_of(points_a, points_b, numbers);
-        tell_sweep(work::told(0, answer), out, counts)
+    if (numbers.len() == 24) & (out.len() == 5) & (counts.len() == 7) {
+        let swept = work::sweep_of(points_a, points_b, numbers);
+        tell_sweep(work::told(0, swept), out, counts)
     } else {
         255
     }

@@ -1,6 +1,7 @@
 // Answers, told by a number and by what is written into lent lists.
 use model::BlockAnswer;
 use model::Contact;
+use model::Corners;
 use model::Counts;
 use model::Distance;
 use model::DistanceAnswer;
@@ -26,13 +27,17 @@ fn put_contact(out: &mut [f32], c: Contact)
     out[4] = c.normal.y;
 }
 
-fn put_counts(out: &mut [u32], n: Counts)
-    requires { ⌜ length (now out) ≡ 3 ⌝ }
-    ensures { λ _. ⌜ now (out .exit) ≡ countsWords n ⌝ }
+fn put_counts(out: &mut [u32], n: Counts, k: Corners)
+    requires { ⌜ length (now out) ≡ 7 ⌝ }
+    ensures { λ _. ⌜ now (out .exit) ≡ countsWords n k ⌝ }
 {
     out[0] = n.distance_calls;
     out[1] = n.searches;
     out[2] = n.root_steps;
+    out[3] = k.a.first;
+    out[4] = k.a.second;
+    out[5] = k.b.first;
+    out[6] = k.b.second;
 }
 
 fn status_number(status: Status) -> u32
@@ -46,22 +51,23 @@ fn status_number(status: Status) -> u32
     }
 }
 
-// A contact and its counts, under the number of the status.
+// A contact, its counts and its corners, under the number of the status.
 fn put_verdict(out: &mut [f32], counts: &mut [u32], v: Verdict) -> u32
-    requires { ⌜ (length (now out) ≡ 5) × (length (now counts) ≡ 3) ⌝ }
-    ensures { λ r. ⌜ (r ≡ statusNumber (v .status)) × (now (out .exit) ≡ contactFloats (v .contact)) × (now (counts .exit) ≡ countsWords (v .counts)) ⌝ }
+    requires { ⌜ (length (now out) ≡ 5) × (length (now counts) ≡ 7) ⌝ }
+    ensures { λ r. ⌜ (r ≡ statusNumber (v .status)) × (now (out .exit) ≡ contactFloats (v .contact)) × (now (counts .exit) ≡ countsWords (v .counts) (v .corners)) ⌝ }
 {
     let contact = v.contact;
     let n = v.counts;
+    let corners = v.corners;
     put_contact(out, contact);
-    put_counts(counts, n);
+    put_counts(counts, n, corners);
     let status = v.status;
     status_number(status)
 }
 
 // A refusal writes nothing.
 pub fn tell_sweep(x: BlockAnswer, out: &mut [f32], counts: &mut [u32]) -> u32
-    requires { ⌜ (length (now out) ≡ 5) × (length (now counts) ≡ 3) ⌝ }
+    requires { ⌜ (length (now out) ≡ 5) × (length (now counts) ≡ 7) ⌝ }
     ensures { λ r. ⌜ (r ≡ sweepNumber x) × (now (out .exit) ≡ contactAfter x (now (out .entry))) × (now (counts .exit) ≡ countsAfter x (now (counts .entry))) ⌝ }
 {
     match x {

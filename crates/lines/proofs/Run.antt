@@ -30,7 +30,7 @@ counting-on t bytes h =
 
 fitting : (size : ℕ) (t : Totals) (bytes : ℕ) → size ≤ partSize → Counting t bytes → fits size partSize t ≡ true
 fitting size t bytes small h =
-    let room : size / 512 + 2 ≤ partSize / 160 = omega arith in
+    let room : size / 512 + 2 ≤ partSize / 240 = omega arith in
     rw (le-leb _ _ room, counting-on t bytes h)
 
 -- a whole part has 128 answers

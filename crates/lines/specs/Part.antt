@@ -11,9 +11,10 @@ use Rattle.model.specs.declared.Totals.{Totals}
 use Rattle.model.specs.Block.{blockSize}
 use Rattle.model.specs.Sheet.{answers, answerLine, totalsFrom, partText}
 
--- no line is longer: two numbers of 20 digits, four floats more than one of eight, the status, three counts, and what stands between
+-- no line is longer: nine numbers of up to 20 digits and a byte after each (block, job, three counts, four corners), five floats of eight and a blank,
+-- and the 0 and the status with theirs: 238
 abbrev pub longestLine : ℕ
-longestLine = 160
+longestLine = 240
 
 -- totals below this can be counted on through any part without wrapping
 abbrev pub countLimit : ℕ

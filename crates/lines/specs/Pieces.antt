@@ -3,7 +3,10 @@ use Prim.Native.Nat.{ℕ}
 use mathlib.Core.List.{List, [], _∷_, _++_}
 use lib.Ieee.{binary32, Float}
 use Rattle.model.specs.declared.Contact.{Contact}
-use Rattle.model.specs.Text.{decimal, hexFloat, line}
+use Rattle.model.specs.declared.SupportPair.{SupportPair}
+use Rattle.model.specs.declared.Corners.{Corners}
+use Rattle.model.specs.Text.{decimal, hexFloat}
+use Rattle.model.specs.Sheet.{cornerText}
 
 abbrev pub number : ℕ → ℕ → List ℕ
 number n end = decimal n ++ (end ∷ [])
@@ -11,8 +14,17 @@ number n end = decimal n ++ (end ∷ [])
 abbrev pub hex : Float → List ℕ
 hex x = hexFloat binary32 x ++ (32 ∷ [])
 
-unfoldable pub three : ℕ → ℕ → ℕ → List ℕ
-three a b c = line (decimal a ∷ decimal b ∷ decimal c ∷ [])
+unfoldable pub three : ℕ → ℕ → ℕ → ℕ → List ℕ
+three a b c end = number a 32 ++ number b 32 ++ number c end
 
 unfoldable pub floats : Contact → List ℕ
 floats c = hex (c .fraction) ++ hex (c .point .x) ++ hex (c .point .y) ++ hex (c .normal .x) ++ hex (c .normal .y)
+
+unfoldable pub corner : ℕ → ℕ → List ℕ
+corner i end = cornerText i ++ (end ∷ [])
+
+unfoldable pub pairText : SupportPair → ℕ → List ℕ
+pairText p end = corner (p .first) 32 ++ corner (p .second) end
+
+unfoldable pub cornersText : Corners → List ℕ
+cornersText k = pairText (k .a) 32 ++ pairText (k .b) 10

@@ -17,7 +17,7 @@ ghost use Rattle.lines.specs.Part.{Below, countLimit, longestLine, lineF
 ghost use Rattle.lines.specs.Part as Part;
 
 // No line is longer.
-const LONGEST_LINE: usize = 160;
+const LONGEST_LINE: usize = 240;
 
 // A shorter part is the last one.
 const PART_SIZE: usize = 65536;

@@ -1,5 +1,7 @@
 // Pieces of a line, each written from a place on; the answer is the place after it.
 use model::Contact;
+use model::Corners;
+use model::SupportPair;
 ghost use mathlib.Core.Path.{_≡_};
 ghost use Prim.Native.Nat.{_+_, _≤_, _<_};
 ghost use mathlib.Core.List.{[], _∷_, _++_};
@@ -7,7 +9,10 @@ ghost use lib.ListN.{length};
 ghost use lib.Ieee.{binary32};
 ghost use Rattle.model.specs.Text.{capital, hexBy};
 ghost use Rattle.lines.specs.Put.{Put, whereRoom};
-ghost use Rattle.lines.specs.Pieces.{number, hex, three, floats};
+ghost use Rattle.lines.specs.Pieces.{number, hex, three, floats, corner, pairText, cornersText};
+
+// The index that tells of no corner.
+const NO_INDEX: u32 = 4294967295;
 
 // A text as it stands.
 pub fn put(out: &mut [u8], at: usize, text: &[u8]) -> usize
@@ -97,14 +102,14 @@ pub fn put_float(out: &mut [u8], at: usize, x: f32) -> usize
     put(out, at, &digits)
 }
 
-// Three numbers with a blank between, and a newline.
-pub fn put_three(out: &mut [u8], at: usize, a: u64, b: u64, c: u64) -> usize
+// Three numbers with a blank between, and a byte after them.
+pub fn put_three(out: &mut [u8], at: usize, a: u64, b: u64, c: u64, end: u8) -> usize
     requires { ⌜ at + 63 ≤ length (now out) ⌝ }
-    ensures { λ r. ⌜ Put (now (out .entry)) at (three a b c) (now (out .exit)) r ⌝ }
+    ensures { λ r. ⌜ Put (now (out .entry)) at (three a b c end) (now (out .exit)) r ⌝ }
 {
     let e1 = put_number(out, at, a, b' ');
     let e2 = put_number(out, e1, b, b' ');
-    put_number(out, e2, c, b'\n')
+    put_number(out, e2, c, end)
 }
 
 // The floats of a contact, and a blank after each.
@@ -117,4 +122,36 @@ pub fn put_contact(out: &mut [u8], at: usize, c: Contact) -> usize
     let e3 = put_float(out, e2, c.point.y);
     let e4 = put_float(out, e3, c.normal.x);
     put_float(out, e4, c.normal.y)
+}
+
+// The number of a corner, or - where there is none, and a byte after it.
+fn put_corner(out: &mut [u8], at: usize, i: u32, end: u8) -> usize
+    requires { ⌜ at + 21 ≤ length (now out) ⌝ }
+    ensures { λ r. ⌜ Put (now (out .entry)) at (corner i end) (now (out .exit)) r ⌝ }
+{
+    if i == NO_INDEX {
+        let none = [b'-', end];
+        return put(out, at, &none);
+    }
+    put_number(out, at, i as u64, end)
+}
+
+// Both corners of a side, and a byte after them.
+fn put_pair(out: &mut [u8], at: usize, p: SupportPair, end: u8) -> usize
+    requires { ⌜ at + 42 ≤ length (now out) ⌝ }
+    ensures { λ r. ⌜ Put (now (out .entry)) at (pairText p end) (now (out .exit)) r ⌝ }
+{
+    let e1 = put_corner(out, at, p.first, b' ');
+    put_corner(out, e1, p.second, end)
+}
+
+// The corners of A and of B, and a newline.
+pub fn put_corners(out: &mut [u8], at: usize, k: Corners) -> usize
+    requires { ⌜ at + 84 ≤ length (now out) ⌝ }
+    ensures { λ r. ⌜ Put (now (out .entry)) at (cornersText k) (now (out .exit)) r ⌝ }
+{
+    let a = k.a;
+    let b = k.b;
+    let e1 = put_pair(out, at, a, b' ');
+    put_pair(out, e1, b, b'\n')
 }

@@ -2,6 +2,7 @@
 use crate::answer::letter_of;
 use crate::put::put;
 use crate::put::put_contact;
+use crate::put::put_corners;
 use crate::put::put_number;
 use crate::put::put_three;
 use model::BlockAnswer;
@@ -21,18 +22,21 @@ fn put_worked(out: &mut [u8], at: usize, n: u64, job: u32, v: Verdict) -> usize
     let status = v.status;
     let letter = letter_of(status);
     let contact = v.contact;
+    let corners = v.corners;
     let e1 = put_number(out, at, n, b' ');
     let e2 = put_number(out, e1, job as u64, b' ');
     let ending = [b'0', b' ', letter, b' '];
     let e3 = put(out, e2, &ending);
     let e4 = put_contact(out, e3, contact);
-    put_three(
+    let e5 = put_three(
         out,
         e4,
         v.counts.distance_calls as u64,
         v.counts.searches as u64,
         v.counts.root_steps as u64,
-    )
+        b' ',
+    );
+    put_corners(out, e5, corners)
 }
 
 // The line of block n.
@@ -42,7 +46,14 @@ pub fn put_answer(out: &mut [u8], at: usize, n: u64, answer: BlockAnswer) -> usi
 {
     match answer {
         BlockAnswer::Worked(job, verdict) => put_worked(out, at, n, job, verdict),
-        BlockAnswer::Refused(job, number) => put_three(out, at, n, job as u64, number as u64),
+        BlockAnswer::Refused(job, number) => put_three(
+            out,
+            at,
+            n,
+            job as u64,
+            number as u64,
+            b'\n',
+        ),
     }
 }
 
@@ -54,5 +65,5 @@ pub fn put_total(out: &mut [u8], at: usize, t: Totals) -> usize
     let e1 = put(out, at, b"TOTAL ");
     let e2 = put_number(out, e1, t.blocks, b' ');
     let e3 = put_number(out, e2, t.clear, b' ');
-    put_three(out, e3, t.contact, t.undecided, t.refused)
+    put_three(out, e3, t.contact, t.undecided, t.refused, b'\n')
 }

@@ -7,8 +7,10 @@ use Rattle.model.specs.declared.Rotation.{Rotation}
 use Rattle.model.specs.declared.Sweep.{Sweep}
 use Rattle.model.specs.declared.Counts.{Counts}
 use Rattle.model.specs.declared.Contact.{Contact}
+use Rattle.model.specs.declared.Corners.{Corners}
 use Rattle.model.specs.declared.SweepAnswer.{SweepAnswer}
-use Rattle.model.specs.declared.SweepAnswer.the-variants as Swept
+use Rattle.model.specs.declared.SweepAnswer.the-variants as Answered
+use Rattle.model.specs.declared.Swept.{Swept}
 use Rattle.model.specs.declared.Block.{Block}
 use Rattle.model.specs.declared.CheckedBlock.{CheckedBlock}
 use Rattle.model.specs.declared.CheckedBlock.the-variants as Checked
@@ -21,7 +23,8 @@ use Rattle.model.specs.Ground.{rotation, origin}
 use Rattle.model.specs.Ground as Ground
 use Rattle.model.specs.Wire.{word}
 use Rattle.model.specs.Support.{point}
-use Rattle.model.specs.SweepToi.{contact, sweepTimeOfImpact}
+use Rattle.model.specs.SweepToi.{contact}
+use Rattle.model.specs.Corners.{sweep}
 use Rattle.model.specs.Block.{checkedBlock}
 
 -- ---- a sweep by 24 numbers, as words 2 to 25 of a block hold them: twelve pairs
@@ -39,9 +42,9 @@ moveAt ns i = record {
 }
 
 -- the radii, the max fraction with the slop, the move of A, the move of B; a number that is missing is NaN
-unfoldable pub sweepFor : Format → List Float → List Float → List Float → SweepAnswer
+unfoldable pub sweepFor : Format → List Float → List Float → List Float → Swept
 sweepFor f a b ns =
-    sweepTimeOfImpact f a (point ns 0 .x) (moveAt ns 2) b (point ns 0 .y) (moveAt ns 7) (point ns 1 .x) (point ns 1 .y)
+    sweep f a (point ns 0 .x) (moveAt ns 2) b (point ns 0 .y) (moveAt ns 7) (point ns 1 .x) (point ns 1 .y)
 
 -- ---- the job of a block
 -- n floats from place k on
@@ -58,20 +61,24 @@ pointsA b k = floatsAt b 104 (2 * k .«count_a»)
 abbrev pub pointsB : List ℕ → Block → List Float
 pointsB b k = floatsAt b 232 (2 * k .«count_b»)
 
-abbrev pub sweepOf : Format → List ℕ → Block → SweepAnswer
+abbrev pub sweepOf : Format → List ℕ → Block → Swept
 sweepOf f b k = sweepFor f (pointsA b k) (pointsB b k) (numbersOf b)
 
 -- ---- what it comes to
-abbrev pub verdict : Status → Contact → Counts → Verdict
-verdict s c n = record { status = s; contact = c; counts = n }
+abbrev pub verdict : Status → Contact → Counts → Corners → Verdict
+verdict s c n k = record { status = s; contact = c; counts = n; corners = k }
 
 -- each case of the sweep's answer: its status and values, or its number. An overlap has fraction 0, whatever t1 was, and zeros
-abbrev pub told : Format → ℕ → SweepAnswer → BlockAnswer
-told f job (Swept.Overlapped n) = Worked job (verdict Overlapped (contact (Ground.zero f) (origin f) (origin f)) n)
-told f job (Swept.Hit c n) = Worked job (verdict Hit c n)
-told f job (Swept.Separated c n) = Worked job (verdict Separated c n)
-told f job (Swept.Failed c n) = Worked job (verdict Failed c n)
-told f job (Swept.Refused number) = Refused job number
+abbrev pub toldBy : Format → ℕ → Corners → SweepAnswer → BlockAnswer
+toldBy f job k (Answered.Overlapped n) = Worked job (verdict Overlapped (contact (Ground.zero f) (origin f) (origin f)) n k)
+toldBy f job k (Answered.Hit c n) = Worked job (verdict Hit c n k)
+toldBy f job k (Answered.Separated c n) = Worked job (verdict Separated c n k)
+toldBy f job k (Answered.Failed c n) = Worked job (verdict Failed c n k)
+toldBy f job k (Answered.Refused number) = Refused job number
+
+-- with the corners of its last search
+abbrev pub told : Format → ℕ → Swept → BlockAnswer
+told f job x = toldBy f job (x .corners) (x .answer)
 
 abbrev pub answerBy : Format → List ℕ → CheckedBlock → BlockAnswer
 answerBy f b (Checked.Good k) = told f (k .job) (sweepOf f b k)

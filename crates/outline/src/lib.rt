@@ -3,11 +3,13 @@ use domain::check_outline;
 use domain::refusal;
 use model::Checked;
 use model::SupportAnswer;
+use model::SupportPair;
 use model::Vector;
 ghost use mathlib.Core.Path.{_≡_};
 ghost use lib.Ieee.{binary32, nan};
 ghost use lib.ListN.{getD};
 ghost use Rattle.model.specs.Support as Support;
+ghost use Rattle.model.specs.Second as Second;
 
 // Number k of the list; NaN where there is none.
 fn part(points: &[f32], k: usize) -> f32
@@ -36,35 +38,51 @@ pub fn point(points: &[f32], i: u32) -> Vector
     Vector { x, y }
 }
 
-// The index of the point with the greatest projection along the direction, measured from point 0 for accuracy far from the origin.
-pub fn support_index(points: &[f32], direction: Vector) -> u32
-    ensures { λ r. ⌜ r ≡ Support.support binary32 (now (points .entry)) direction ⌝ }
+// The index of the point with the greatest projection along the direction, measured from point 0 for accuracy far from the origin; and the highest
+// index whose projection equals it.
+pub fn support_pair(points: &[f32], direction: Vector) -> SupportPair
+    ensures { λ r. ⌜ r ≡ Second.supportPair binary32 (now (points .entry)) direction ⌝ }
 {
     let origin = point(points, 0);
     let count = points.len() / 2;
     let mut best_index: usize = 0;
+    let mut second_index: usize = 0;
     let mut best_value = 0.0;
     let mut i: usize = 1;
     while i < count {
         let value = direction.x * (points[2 * i] - origin.x)
             + direction.y * (points[2 * i + 1] - origin.y);
-        // strictly greater: a tie keeps the lower index, and a NaN never wins
+        // strictly greater: a tie keeps the lower index as the first, and a NaN never wins
         if value > best_value {
             best_index = i;
+            second_index = i;
             best_value = value;
+        } else if value == best_value {
+            second_index = i;
         }
         i += 1;
     }
-    (best_index % 0x1_0000_0000) as u32
+    SupportPair {
+        first: (best_index % 0x1_0000_0000) as u32,
+        second: (second_index % 0x1_0000_0000) as u32,
+    }
 }
 
-// The same of a checked outline, or the number of its refusal.
+// The first of them alone.
+pub fn support_index(points: &[f32], direction: Vector) -> u32
+    ensures { λ r. ⌜ r ≡ Support.support binary32 (now (points .entry)) direction ⌝ }
+{
+    let pair = support_pair(points, direction);
+    pair.first
+}
+
+// Both of a checked outline, or the number of its refusal.
 pub fn support(points: &[f32], direction: Vector) -> SupportAnswer
-    ensures { λ r. ⌜ r ≡ Support.supportAnswer binary32 (now (points .entry)) direction ⌝ }
+    ensures { λ r. ⌜ r ≡ Second.supportAnswer binary32 (now (points .entry)) direction ⌝ }
 {
     let outline = check_outline(points);
     let Checked::Passed = outline else {
         return SupportAnswer::Refused(refusal(outline));
     };
-    SupportAnswer::At(support_index(points, direction))
+    SupportAnswer::At(support_pair(points, direction))
 }

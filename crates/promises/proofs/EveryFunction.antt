@@ -283,6 +283,13 @@ module _ {M : Type 1} (𝓤 : URA M) (H : Heap 𝓤) (A : Atoms 𝓤) (mem : Mem
     once = λ κs a g r r' v v'. told 𝓤 (λ p q. (search same-value, refl));
   }
 
+  pub outline-support-pair : OneResult 𝓤 H A outline.support_pair.ended (outline.support_pair.spec 𝓤 H A mem run)
+  outline-support-pair = record {
+    clauses = outline.support_pair.clauses 𝓤 H A mem run;
+    of-contract = refl;
+    once = λ κs a g r r' v v'. told 𝓤 (λ p q. (search same-value, refl));
+  }
+
   -- ---- simplex
   pub simplex-solve : OneResult 𝓤 H A simplex.solve.ended (simplex.solve.spec 𝓤 H A mem run)
   simplex-solve = record {

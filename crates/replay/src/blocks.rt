@@ -1,4 +1,4 @@
-// Table 4: blocks with their lines. A row has 160 words: a block, and as its answer 31 words of the line that it has as that block of a file, zeros
+// Table 4: blocks with their lines. A row has 168 words: a block, and as its answer 39 words of the line that it has as that block of a file, zeros
 // after the line's end, and the line's kind, as of a sweep.
 use crate::sweeps::kind;
 use crate::words::Words;
@@ -11,12 +11,12 @@ pub fn answer(row: &[u8], n: u64, words: &mut Words) {
     let start: usize = 0;
     let end: usize = 512;
     let answer = work::answer_block(&row[start..end]);
-    let mut text = [0u8; 160];
+    let mut text = [0u8; 240];
     lines::write_line(n, answer, &mut text);
     let mut i: usize = 0;
-    while i < 31 {
+    while i < 39 {
         put(words, i, wire::word(&text, 4 * i));
         i += 1;
     }
-    put(words, 31, kind(answer));
+    put(words, 39, kind(answer));
 }

@@ -1,5 +1,6 @@
-// Table 3: sweeps. A row has 11 words: bytes 0 to 6 are outline A, outline B, move A, move B, radii, max fraction and slop; the answer from word 2
-// on is the kind (the number of refusal, or 16 O, 17 H, 18 S, 19 F), fraction, point, normal, and the three counts.
+// Table 3: sweeps. A row has 15 words: bytes 0 to 6 are outline A, outline B, move A, move B, radii, max fraction and slop; the answer from word 2
+// on is the kind (the number of refusal, or 16 O, 17 H, 18 S, 19 F), fraction, point, normal, the three counts, and the first and second corner of A
+// and of B.
 use crate::pool::index;
 use crate::pool::outline;
 use crate::pool::request;
@@ -38,6 +39,10 @@ fn put_verdict(words: &mut Words, v: Verdict) {
     put(words, 6, v.counts.distance_calls);
     put(words, 7, v.counts.searches);
     put(words, 8, v.counts.root_steps);
+    put(words, 9, v.corners.a.first);
+    put(words, 10, v.corners.a.second);
+    put(words, 11, v.corners.b.first);
+    put(words, 12, v.corners.b.second);
 }
 
 pub fn answer(row: &[u8], pool: &[u8], numbers: &[f32], words: &mut Words) {

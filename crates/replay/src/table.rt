@@ -34,13 +34,13 @@ fn shape(size: usize, kind: usize, answer: usize, words: usize) -> RowShape
 
 // What the rows of a table are like. Of an unknown table no part has a row.
 fn shape_of(table: u32) -> RowShape
-    ensures { λ r. ⌜ (1 ≤ r .size) × (r .answer ≤ 512) × (r .words ≤ 32) ⌝ }
+    ensures { λ r. ⌜ (1 ≤ r .size) × (r .answer ≤ 512) × (r .words ≤ 40) ⌝ }
 {
     match table {
         1 => shape(64, 0, 36, 4),
         2 => shape(72, 8, 8, 16),
-        3 => shape(44, 8, 8, 9),
-        4 => shape(640, 636, 512, 32),
+        3 => shape(60, 8, 8, 13),
+        4 => shape(672, 668, 512, 40),
         5 => shape(4644, 0, 12, 6),
         6 => shape(44, 0, 12, 8),
         _ => shape(65536, 0, 0, 0),
@@ -69,13 +69,13 @@ fn replay_row(
     numbers: &[f32],
     counts: &mut Counts,
 )
-    requires { ⌜ (shape .answer ≤ 512) × (shape .words ≤ 32) ⌝ }
+    requires { ⌜ (shape .answer ≤ 512) × (shape .words ≤ 40) ⌝ }
 {
     let kind = wire::word(row, shape.kind);
     if kind == 0 {
         return;
     }
-    let mut words = [0u32; 32];
+    let mut words = [0u32; 40];
     answer(table, row, n, pool, numbers, &mut words);
     let differs = words::differ(&words, shape.words, row, shape.answer, 0);
     let noticed = words::differ(&words, shape.words, row, shape.answer, 1);

@@ -3,22 +3,22 @@ use model::Vector;
 ghost use Prim.Native.Nat.{_+_, _≤_, _<_};
 
 // Floats stand by their patterns; unused words are 0.
-pub type Words = [u32; 32];
+pub type Words = [u32; 40];
 
 pub fn put(words: &mut Words, i: usize, word: u32)
-    requires { ⌜ i < 32 ⌝ }
+    requires { ⌜ i < 40 ⌝ }
 {
     words[i] = word;
 }
 
 pub fn put_float(words: &mut Words, i: usize, x: f32)
-    requires { ⌜ i < 32 ⌝ }
+    requires { ⌜ i < 40 ⌝ }
 {
     words[i] = ground::to_bits(x);
 }
 
 pub fn put_vector(words: &mut Words, i: usize, v: Vector)
-    requires { ⌜ i < 31 ⌝ }
+    requires { ⌜ i < 39 ⌝ }
 {
     put_float(words, i, v.x);
     put_float(words, i + 1, v.y);
@@ -26,7 +26,7 @@ pub fn put_vector(words: &mut Words, i: usize, v: Vector)
 
 // Whether the first n words are not those of the row from a place on, the row's first one changed by spoil.
 pub fn differ(words: &Words, n: usize, row: &[u8], from: usize, spoil: u32) -> bool
-    requires { ⌜ (n ≤ 32) × (from ≤ 512) ⌝ }
+    requires { ⌜ (n ≤ 40) × (from ≤ 512) ⌝ }
 {
     let mut same = std::num::wrapping_add_u32(wire::word(row, from), spoil) == words[0];
     let mut i: usize = 1;

@@ -9,18 +9,22 @@ use ground::rotate_vec;
 use ground::scale;
 use ground::sub;
 use ground::transform_point;
+use model::Corners;
 use model::MinSeparation;
 use model::Pose;
+use model::Search;
 use model::SeparationFunction;
 use model::SeparationType;
 use model::SimplexCache;
+use model::SupportPair;
 use model::Sweep;
 use model::Vector;
 use outline::point;
-use outline::support_index;
+use outline::support_pair;
 ghost use mathlib.Core.Path.{_≡_};
 ghost use lib.Ieee.{binary32};
 ghost use Rattle.model.specs.Separation as Separation;
+ghost use Rattle.model.specs.Corners.{noCorner, cornersA, cornersB, search};
 
 // The index that a face has no corner for.
 const INVALID_INDEX: u32 = 4294967295;
@@ -247,36 +251,46 @@ pub fn evaluate(
     separation_of(fcn, points_a, points_b, xf_a, xf_b, index_a, index_b)
 }
 
-// The corner of A that lies deepest along the axis.
-fn deepest_a(fcn: SeparationFunction, points_a: &[f32], xf_a: Pose, xf_b: Pose) -> u32
-    ensures { λ r. ⌜ r ≡ Separation.deepestA binary32 (now («points_a» .entry)) fcn «xf_a» «xf_b» (fcn .ty) ⌝ }
+// What a face side has.
+fn no_corner() -> SupportPair
+    ensures { λ r. ⌜ r ≡ noCorner ⌝ }
+{
+    SupportPair {
+        first: INVALID_INDEX,
+        second: INVALID_INDEX,
+    }
+}
+
+// The corners of A that lie deepest along the axis.
+fn deepest_a(fcn: SeparationFunction, points_a: &[f32], xf_a: Pose, xf_b: Pose) -> SupportPair
+    ensures { λ r. ⌜ r ≡ cornersA binary32 (now («points_a» .entry)) fcn «xf_a» «xf_b» (fcn .ty) ⌝ }
 {
     let ty = fcn.ty;
     match ty {
-        SeparationType::Points => support_index(points_a, inv_rotate_vec(xf_a.rotation, fcn.axis)),
-        SeparationType::FaceA => INVALID_INDEX,
+        SeparationType::Points => support_pair(points_a, inv_rotate_vec(xf_a.rotation, fcn.axis)),
+        SeparationType::FaceA => no_corner(),
         SeparationType::FaceB => {
             let axis = neg(rotate_vec(xf_b.rotation, fcn.axis));
-            support_index(points_a, inv_rotate_vec(xf_a.rotation, axis))
+            support_pair(points_a, inv_rotate_vec(xf_a.rotation, axis))
         }
     }
 }
 
-// The corner of B that lies deepest along the axis.
-fn deepest_b(fcn: SeparationFunction, points_b: &[f32], xf_a: Pose, xf_b: Pose) -> u32
-    ensures { λ r. ⌜ r ≡ Separation.deepestB binary32 (now («points_b» .entry)) fcn «xf_a» «xf_b» (fcn .ty) ⌝ }
+// The corners of B that lie deepest along the axis.
+fn deepest_b(fcn: SeparationFunction, points_b: &[f32], xf_a: Pose, xf_b: Pose) -> SupportPair
+    ensures { λ r. ⌜ r ≡ cornersB binary32 (now («points_b» .entry)) fcn «xf_a» «xf_b» (fcn .ty) ⌝ }
 {
     let ty = fcn.ty;
     match ty {
-        SeparationType::Points => support_index(
+        SeparationType::Points => support_pair(
             points_b,
             inv_rotate_vec(xf_b.rotation, neg(fcn.axis)),
         ),
         SeparationType::FaceA => {
             let axis = neg(rotate_vec(xf_a.rotation, fcn.axis));
-            support_index(points_b, inv_rotate_vec(xf_b.rotation, axis))
+            support_pair(points_b, inv_rotate_vec(xf_b.rotation, axis))
         }
-        SeparationType::FaceB => INVALID_INDEX,
+        SeparationType::FaceB => no_corner(),
     }
 }
 
@@ -286,17 +300,19 @@ pub fn find_min_separation(
     points_a: &[f32],
     points_b: &[f32],
     t: f32,
-) -> MinSeparation
-    ensures { λ r. ⌜ r ≡ Separation.findMinSeparation binary32 (now («points_a» .entry)) (now («points_b» .entry)) fcn t ⌝ }
+) -> Search
+    ensures { λ r. ⌜ r ≡ search binary32 (now («points_a» .entry)) (now («points_b» .entry)) fcn t ⌝ }
 {
     let xf_a = transform_at(fcn.sweep_a, t);
     let xf_b = transform_at(fcn.sweep_b, t);
-    let index_a = deepest_a(fcn, points_a, xf_a, xf_b);
-    let index_b = deepest_b(fcn, points_b, xf_a, xf_b);
-    let separation = separation_of(fcn, points_a, points_b, xf_a, xf_b, index_a, index_b);
-    MinSeparation {
+    let a = deepest_a(fcn, points_a, xf_a, xf_b);
+    let b = deepest_b(fcn, points_b, xf_a, xf_b);
+    let separation = separation_of(fcn, points_a, points_b, xf_a, xf_b, a.first, b.first);
+    let least = MinSeparation {
         separation,
-        index_a,
-        index_b,
-    }
+        index_a: a.first,
+        index_b: b.first,
+    };
+    let corners = Corners { a, b };
+    Search { least, corners }
 }

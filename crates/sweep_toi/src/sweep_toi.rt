@@ -16,13 +16,16 @@ use ground::transform_point;
 use model::Checked;
 use model::Closest;
 use model::Contact;
+use model::Corners;
 use model::Counts;
 use model::Measurement;
 use model::Pose;
 use model::SimplexCache;
+use model::SupportPair;
 use model::Sweep;
 use model::SweepAnswer;
 use model::SweepTask;
+use model::Swept;
 use model::Vector;
 use separation::evaluate;
 use separation::find_min_separation;
@@ -33,6 +36,7 @@ ghost use Prim.Native.Nat.{_<_, _≤_, _+_};
 ghost use mathlib.Core.Path.{_≡_};
 ghost use lib.Ieee.{binary32};
 ghost use Rattle.model.specs.SweepToi as SweepToi;
+ghost use Rattle.model.specs.Corners.{swept, noSearch, advanced, sweep};
 
 const MAX_DISTANCE_ITERATIONS: u32 = 20;
 
@@ -133,11 +137,14 @@ fn stepped(counts: Counts, n: u32) -> Counts
     }
 }
 
-// The exits: with no place, or with the one that the distance call found.
-fn overlapped(counts: Counts) -> SweepAnswer
-    ensures { λ r. ⌜ r ≡ SweepToi.overlapped counts ⌝ }
+// The exits: with no place, or with the one that the distance call found; and with the corners of the last search.
+fn overlapped(counts: Counts, corners: Corners) -> Swept
+    ensures { λ r. ⌜ r ≡ swept (SweepToi.overlapped counts) corners ⌝ }
 {
-    SweepAnswer::Overlapped(counts)
+    Swept {
+        answer: SweepAnswer::Overlapped(counts),
+        corners,
+    }
 }
 
 fn contact_at(t: f32, closest: Closest) -> Contact
@@ -163,34 +170,67 @@ fn no_contact(t: f32) -> Contact
     }
 }
 
-fn hit(t: f32, closest: Closest, counts: Counts) -> SweepAnswer
-    ensures { λ r. ⌜ r ≡ SweepToi.hit t closest counts ⌝ }
+fn hit(t: f32, closest: Closest, counts: Counts, corners: Corners) -> Swept
+    ensures { λ r. ⌜ r ≡ swept (SweepToi.hit t closest counts) corners ⌝ }
 {
-    SweepAnswer::Hit(contact_at(t, closest), counts)
+    Swept {
+        answer: SweepAnswer::Hit(contact_at(t, closest), counts),
+        corners,
+    }
 }
 
-fn separated(t: f32, counts: Counts) -> SweepAnswer
-    ensures { λ r. ⌜ r ≡ SweepToi.separated binary32 t counts ⌝ }
+fn separated(t: f32, counts: Counts, corners: Corners) -> Swept
+    ensures { λ r. ⌜ r ≡ swept (SweepToi.separated binary32 t counts) corners ⌝ }
 {
-    SweepAnswer::Separated(no_contact(t), counts)
+    Swept {
+        answer: SweepAnswer::Separated(no_contact(t), counts),
+        corners,
+    }
 }
 
-fn failed(t: f32, counts: Counts) -> SweepAnswer
-    ensures { λ r. ⌜ r ≡ SweepToi.failed binary32 t counts ⌝ }
+fn failed(t: f32, counts: Counts, corners: Corners) -> Swept
+    ensures { λ r. ⌜ r ≡ swept (SweepToi.failed binary32 t counts) corners ⌝ }
 {
-    SweepAnswer::Failed(no_contact(t), counts)
+    Swept {
+        answer: SweepAnswer::Failed(no_contact(t), counts),
+        corners,
+    }
 }
 
-fn failed_at(t: f32, closest: Closest, counts: Counts) -> SweepAnswer
-    ensures { λ r. ⌜ r ≡ SweepToi.failedAt t closest counts ⌝ }
+fn failed_at(t: f32, closest: Closest, counts: Counts, corners: Corners) -> Swept
+    ensures { λ r. ⌜ r ≡ swept (SweepToi.failedAt t closest counts) corners ⌝ }
 {
-    SweepAnswer::Failed(contact_at(t, closest), counts)
+    Swept {
+        answer: SweepAnswer::Failed(contact_at(t, closest), counts),
+        corners,
+    }
+}
+
+// Where no search ran.
+fn no_search() -> Corners
+    ensures { λ r. ⌜ r ≡ noSearch ⌝ }
+{
+    let none = SupportPair {
+        first: 0xffff_ffff,
+        second: 0xffff_ffff,
+    };
+    Corners { a: none, b: none }
+}
+
+fn refused(number: u32) -> Swept
+    ensures { λ r. ⌜ r ≡ swept (SweepAnswer.Refused number) noSearch ⌝ }
+{
+    let corners = no_search();
+    Swept {
+        answer: SweepAnswer::Refused(number),
+        corners,
+    }
 }
 
 // The answer of a task. Three loops inside one another: a distance call gives an axis, the push-backs along it look for the time at which the
 // deepest corners reach the target, and the root search ends with the new t2.
-pub fn advance(task: SweepTask, points_a: &[f32], points_b: &[f32]) -> SweepAnswer
-    ensures { λ r. ⌜ r ≡ SweepToi.advance binary32 task (now («points_a» .entry)) (now («points_b» .entry)) ⌝ }
+pub fn advance(task: SweepTask, points_a: &[f32], points_b: &[f32]) -> Swept
+    ensures { λ r. ⌜ r ≡ advanced binary32 task (now («points_a» .entry)) (now («points_b» .entry)) ⌝ }
 {
     let target = task.target;
     let tolerance = task.tolerance;
@@ -205,25 +245,28 @@ pub fn advance(task: SweepTask, points_a: &[f32], points_b: &[f32]) -> SweepAnsw
         searches: 0,
         root_steps: 0,
     };
+    let mut corners = no_search();
     'advance: loop {
         let closest = closest_at(task, points_a, points_b, t1, cache);
         cache = closest.cache;
         counts = called(counts);
         if closest.distance <= 0.0 {
-            break 'advance overlapped(counts);
+            break 'advance overlapped(counts, corners);
         }
         if closest.distance <= target + tolerance {
-            break 'advance hit(t1, closest, counts);
+            break 'advance hit(t1, closest, counts, corners);
         }
         let fcn = new_separation(cache, points_a, task.sweep_a, points_b, task.sweep_b, t1);
         let mut t2 = task.t_max;
         let mut push_back_iterations = 0u32;
         'push_back: loop {
-            let deepest = find_min_separation(fcn, points_a, points_b, t2);
+            let found = find_min_separation(fcn, points_a, points_b, t2);
+            let deepest = found.least;
+            corners = found.corners;
             counts = searched(counts);
             let mut s2 = deepest.separation;
             if s2 - target > tolerance {
-                break 'advance separated(task.t_max, counts);
+                break 'advance separated(task.t_max, counts, corners);
             }
             if s2 >= target - tolerance {
                 t1 = t2;
@@ -239,10 +282,10 @@ pub fn advance(task: SweepTask, points_a: &[f32], points_b: &[f32]) -> SweepAnsw
             );
             // the root search before this one may have run out of steps
             if s1 < target - tolerance {
-                break 'advance failed(t1, counts);
+                break 'advance failed(t1, counts, corners);
             }
             if s1 <= target + tolerance {
-                break 'advance hit(t1, closest, counts);
+                break 'advance hit(t1, closest, counts, corners);
             }
             let mut a1 = t1;
             let mut a2 = t2;
@@ -273,7 +316,7 @@ pub fn advance(task: SweepTask, points_a: &[f32], points_b: &[f32]) -> SweepAnsw
             }
         }
         if counts.distance_calls == MAX_DISTANCE_ITERATIONS {
-            break 'advance failed_at(t1, closest, counts);
+            break 'advance failed_at(t1, closest, counts, corners);
         }
     }
 }
@@ -305,7 +348,8 @@ fn sweep_task(
     }
 }
 
-// When the outlines, each within its radius and on its way, come within the target distance; or the number of the first refusal.
+// When the outlines, each within its radius and on its way, come within the target distance, with the corners of the last search; or the number of
+// the first refusal.
 pub fn sweep_time_of_impact(
     points_a: &[f32],
     radius_a: f32,
@@ -315,25 +359,25 @@ pub fn sweep_time_of_impact(
     sweep_b: Sweep,
     max_fraction: f32,
     linear_slop: f32,
-) -> SweepAnswer
-    ensures { λ r. ⌜ r ≡ SweepToi.sweepTimeOfImpact binary32 (now («points_a» .entry)) «radius_a» «sweep_a»
+) -> Swept
+    ensures { λ r. ⌜ r ≡ sweep binary32 (now («points_a» .entry)) «radius_a» «sweep_a»
         (now («points_b» .entry)) «radius_b» «sweep_b» «max_fraction» «linear_slop» ⌝ }
 {
     let pair = check_pair(points_a, points_b, radius_a, radius_b);
     let Checked::Passed = pair else {
-        return SweepAnswer::Refused(refusal(pair));
+        return refused(refusal(pair));
     };
     let sweeps = check_sweeps(sweep_a, sweep_b);
     let Checked::Passed = sweeps else {
-        return SweepAnswer::Refused(refusal(sweeps));
+        return refused(refusal(sweeps));
     };
     let fraction = check_fraction(max_fraction);
     let Checked::Passed = fraction else {
-        return SweepAnswer::Refused(refusal(fraction));
+        return refused(refusal(fraction));
     };
     let slop = check_slop(linear_slop);
     let Checked::Passed = slop else {
-        return SweepAnswer::Refused(refusal(slop));
+        return refused(refusal(slop));
     };
     let task = sweep_task(
         radius_a,

@@ -8,18 +8,20 @@ use mathlib.Core.List.{List, [], _∷_}
 use lib.Dec.{T, eqb, ltb, eqb·suc-zero, eqb→eq, eqb-refl, ltb→lt, lt→ltb}
 use lib.ListN.{drop, length, drop-of-length-le}
 use lib.Seq.{drop-cons}
-use lib.Ieee.{Float, Format, lt}
+use lib.Ieee.{Float, Format, lt, eq}
 use Rattle.model.specs.declared.Vector.{Vector}
+use Rattle.model.specs.declared.SupportPair.{SupportPair}
 use Rattle.model.specs.declared.SupportAnswer.the-variants.{At, Refused}
 use Rattle.model.specs.Ground.{vector, minus, dot}
 use Rattle.model.specs.Ground as Ground
 use Rattle.model.specs.Domain.{badPart, badVector, badParts}
-use Rattle.model.specs.Support.{supportFrom, supportBy, supportAnswer}
+use Rattle.model.specs.Support.{supportFrom}
+use Rattle.model.specs.Second.{secondFrom, pair, supportBy, supportAnswer}
 use Rattle.toi_proxy.specs.declared.point_list.Farthest.{Farthest}
 use Rattle.toi_proxy.specs.Points.{flat, noPoint, pointOf, farthest, taken, answerOf}
 
 abbrev pub start : Format → Farthest
-start f = farthest (Ground.zero f) (Ground.zero f) false 0 (Ground.zero f)
+start f = farthest (Ground.zero f) (Ground.zero f) false 0 0 (Ground.zero f)
 
 -- all points of a list, the first of which has the index i
 unfoldable pub takenFrom : Format → Vector → Farthest → ℕ → List Vector → Farthest
@@ -32,24 +34,32 @@ module _ (f : Format) (d : Vector) (s : Farthest) (i : ℕ) (p : Vector) where
   valueAt = dot f d (minus f p (vector (s .x) (s .y)))
 
   abbrev later : Farthest
-  later = farthest (s .x) (s .y) (s .bad || badVector f p) (cond (lt (s .value) valueAt) i (s .best)) (cond (lt (s .value) valueAt) valueAt (s .value))
+  later =
+      farthest (s .x) (s .y) (s .bad || badVector f p) (cond (lt (s .value) valueAt) i (s .best))
+      (cond (lt (s .value) valueAt) i (cond (eq valueAt (s .value)) i (s .second))) (cond (lt (s .value) valueAt) valueAt (s .value))
 
   later-taken : eqb i 0 ≡ false → taken f d s i p ≡ later
   unfolding taken
   later-taken h = rw h
 
   module _ (b : Bool) (e : b ≡ badVector f p) where
-    pub first-taken : eqb i 0 ≡ true → farthest (p .x) (p .y) (s .bad || b) 0 (Ground.zero f) ≡ taken f d s i p
+    pub first-taken : eqb i 0 ≡ true → farthest (p .x) (p .y) (s .bad || b) 0 0 (Ground.zero f) ≡ taken f d s i p
     unfolding taken
     first-taken h = rw (e, h)
 
-    pub better-taken : eqb i 0 ≡ false → lt (s .value) valueAt ≡ true → farthest (s .x) (s .y) (s .bad || b) i valueAt ≡ taken f d s i p
+    pub better-taken : eqb i 0 ≡ false → lt (s .value) valueAt ≡ true → farthest (s .x) (s .y) (s .bad || b) i i valueAt ≡ taken f d s i p
     unfolding taken
     better-taken h up = rw (e, h, up)
 
-    pub worse-taken : eqb i 0 ≡ false → lt (s .value) valueAt ≡ false → farthest (s .x) (s .y) (s .bad || b) (s .best) (s .value) ≡ taken f d s i p
+    pub equal-taken : eqb i 0 ≡ false → lt (s .value) valueAt ≡ false → eq valueAt (s .value) ≡ true →
+        farthest (s .x) (s .y) (s .bad || b) (s .best) i (s .value) ≡ taken f d s i p
     unfolding taken
-    worse-taken h not-up = rw (e, h, not-up)
+    equal-taken h not-up level = rw (e, h, not-up, level)
+
+    pub worse-taken : eqb i 0 ≡ false → lt (s .value) valueAt ≡ false → eq valueAt (s .value) ≡ false →
+        farthest (s .x) (s .y) (s .bad || b) (s .best) (s .second) (s .value) ≡ taken f d s i p
+    unfolding taken
+    worse-taken h not-up not-level = rw (e, h, not-up, not-level)
 
 same-bad : (t : Bool) (u w : Farthest) → u .bad ≡ w .bad → cond t u w .bad ≡ w .bad
 same-bad true u w e = e
@@ -93,6 +103,13 @@ best-from f d [] s i h = refl
 best-from f d (p ∷ ps) s i h = ap (λ (t : Farthest). takenFrom f d t (i + 1) ps .best) (later-taken f d s i p h)
     ∙ best-from f d ps (later f d s i p) (i + 1) (not-first i)
 
+second-from : (f : Format) (d : Vector) (ps : List Vector) (s : Farthest) (i : ℕ) → eqb i 0 ≡ false → takenFrom f d s i ps .second
+    ≡ secondFrom f d (vector (s .x) (s .y)) (flat ps) i (s .second) (s .value)
+unfolding takenFrom secondFrom
+second-from f d [] s i h = refl
+second-from f d (p ∷ ps) s i h = ap (λ (t : Farthest). takenFrom f d t (i + 1) ps .second) (later-taken f d s i p h)
+    ∙ second-from f d ps (later f d s i p) (i + 1) (not-first i)
+
 -- the flat list's length
 length-flat : (ps : List Vector) → length (flat ps) ≡ 2 * length ps
 length-flat [] = refl
@@ -128,22 +145,31 @@ best-all : (f : Format) (d : Vector) (p : Vector) (ps : List Vector) → takenFr
 unfolding takenFrom
 best-all f d p ps =
     ap (λ (t : Farthest). takenFrom f d t 1 ps .best) (sym (first-taken f d (start f) 0 p (badVector f p) refl refl))
-    ∙ best-from f d ps (farthest (p .x) (p .y) (badVector f p) 0 (Ground.zero f)) 1 refl
+    ∙ best-from f d ps (farthest (p .x) (p .y) (badVector f p) 0 0 (Ground.zero f)) 1 refl
+
+second-all : (f : Format) (d : Vector) (p : Vector) (ps : List Vector) → takenFrom f d (start f) 0 (p ∷ ps) .second
+    ≡ secondFrom f d p (flat ps) 1 0 (Ground.zero f)
+unfolding takenFrom
+second-all f d p ps =
+    ap (λ (t : Farthest). takenFrom f d t 1 ps .second) (sym (first-taken f d (start f) 0 p (badVector f p) refl refl))
+    ∙ second-from f d ps (farthest (p .x) (p .y) (badVector f p) 0 0 (Ground.zero f)) 1 refl
 
 -- the answer by the three tests
-by-cases : (none bad : Bool) (i : ℕ) → cond none (Refused 1) (cond bad (Refused 3) (At i)) ≡ supportBy (cond none 1 (cond bad 3 0)) i
-by-cases true bad i = refl
-by-cases false true i = refl
-by-cases false false i = refl
+by-cases : (none bad : Bool) (p : SupportPair) → cond none (Refused 1) (cond bad (Refused 3) (At p)) ≡ supportBy (cond none 1 (cond bad 3 0)) p
+by-cases true bad p = refl
+by-cases false true p = refl
+by-cases false false p = refl
 
-by-tests : (none none' bad bad' : Bool) (i j : ℕ) → none' ≡ none → bad ≡ bad' → i ≡ j →
-    cond none (Refused 1) (cond bad (Refused 3) (At (i % 2 ^ 32))) ≡ supportBy (cond none' 1 (cond bad' 3 0)) (j % 2 ^ 32)
-by-tests none none' bad bad' i j n b k = rw (n, b, k) (by-cases none bad' (j % 2 ^ 32))
+by-tests : (none none' bad bad' : Bool) (i j k l : ℕ) → none' ≡ none → bad ≡ bad' → i ≡ j → k ≡ l →
+    cond none (Refused 1) (cond bad (Refused 3) (At (pair (i % 2 ^ 32) (k % 2 ^ 32))))
+    ≡ supportBy (cond none' 1 (cond bad' 3 0)) (pair (j % 2 ^ 32) (l % 2 ^ 32))
+by-tests none none' bad bad' i j k l n b first second = rw (n, b, first, second) (by-cases none bad' (pair (j % 2 ^ 32) (l % 2 ^ 32)))
 
 answers : (f : Format) (d : Vector) (ps : List Vector) → answerOf (takenFrom f d (start f) 0 ps) (length ps) ≡ supportAnswer f (flat ps) d
 unfolding supportAnswer
 answers f d [] = refl
-answers f d (p ∷ ps) = by-tests _ _ _ _ _ _ (outline-tests _ _ (length-flat (p ∷ ps))) (bad-from f d (p ∷ ps) (start f) 0) (best-all f d p ps)
+answers f d (p ∷ ps) =
+    by-tests _ _ _ _ _ _ _ _ (outline-tests _ _ (length-flat (p ∷ ps))) (bad-from f d (p ∷ ps) (start f) 0) (best-all f d p ps) (second-all f d p ps)
 
 -- where all points are taken
 pub finishes : (f : Format) (d : Vector) (ps : List Vector) (i : ℕ) (s : Farthest) → i ≤ length ps → length ps ≤ i → takenFrom f d s i (drop i ps)

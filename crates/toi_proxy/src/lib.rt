@@ -6,14 +6,14 @@ use model::Pose;
 use model::SimplexCache;
 use model::SupportAnswer;
 use model::Sweep;
-use model::SweepAnswer;
+use model::Swept;
 use model::Vector;
 pub use point_list::support_points;
 ghost use mathlib.Core.Path.{_≡_};
 ghost use lib.Ieee.{binary32};
 ghost use Rattle.model.specs.Distance.{proxyDistance};
-ghost use Rattle.model.specs.Support.{supportAnswer};
-ghost use Rattle.model.specs.SweepToi.{sweepTimeOfImpact};
+ghost use Rattle.model.specs.Second.{supportAnswer};
+ghost use Rattle.model.specs.Corners.{sweep};
 
 // An outline by its list x0 y0 x1 y1 .., and the radius around it.
 pub struct ToiProxy<'a> {
@@ -42,7 +42,7 @@ pub fn radius<'a>(proxy: ToiProxy<'a>) -> f32
     proxy.radius
 }
 
-// Which point of a proxy lies farthest along a direction, or the number of its refusal.
+// Which points of a proxy lie farthest along a direction, the first and the second; or the number of its refusal.
 pub fn support<'a>(proxy: ToiProxy<'a>, direction: Vector) -> SupportAnswer
     ensures { λ r. ⌜ r ≡ supportAnswer binary32 (now (proxy .entry .points)) direction ⌝ }
 {
@@ -78,8 +78,8 @@ pub fn sweep_time_of_impact<'a, 'b>(
     sweep_b: Sweep,
     max_fraction: f32,
     linear_slop: f32,
-) -> SweepAnswer
-    ensures { λ r. ⌜ r ≡ sweepTimeOfImpact binary32 (now («proxy_a» .entry .points)) («proxy_a» .entry .radius) «sweep_a» (now («proxy_b» .entry .points)) («proxy_b» .entry .radius) «sweep_b» «max_fraction» «linear_slop» ⌝ }
+) -> Swept
+    ensures { λ r. ⌜ r ≡ sweep binary32 (now («proxy_a» .entry .points)) («proxy_a» .entry .radius) «sweep_a» (now («proxy_b» .entry .points)) («proxy_b» .entry .radius) «sweep_b» «max_fraction» «linear_slop» ⌝ }
 {
     sweep_toi::sweep_time_of_impact(
         proxy_a.points,

@@ -1,20 +1,22 @@
 // The support of a lent list of point records: that of the flat list of their parts.
 use domain::bad_vector;
 use model::SupportAnswer;
+use model::SupportPair;
 use model::Vector;
 ghost use Prim.Native.Nat.{_<_};
 ghost use mathlib.Core.Path.{_≡_};
 ghost use lib.Ieee.{binary32};
 ghost use lib.ListN.{length};
-ghost use Rattle.model.specs.Support.{supportAnswer};
+ghost use Rattle.model.specs.Second.{supportAnswer};
 ghost use Rattle.toi_proxy.specs.Points.{pointOf, flat, taken, answerOf};
 
-// What is known of the points so far: the first one's parts, whether any has a bad part, and the best with its value.
+// What is known of the points so far: the first one's parts, whether any has a bad part, and the best with its value, the first and the second.
 struct Farthest {
     x: f32,
     y: f32,
     bad: bool,
     best: usize,
+    second: usize,
     value: f32,
 }
 
@@ -25,7 +27,8 @@ fn point_at(points: &[Vector], i: usize) -> Vector
     points[i]
 }
 
-// Takes point i: the first is the origin of all values, and a later one is better where its value is above the best.
+// Takes point i: the first is the origin of all values, and a later one is better where its value is above the best, and the second where
+// it is equal.
 fn take(s: Farthest, i: usize, p: Vector, direction: Vector) -> Farthest
     ensures { λ r. ⌜ r ≡ taken binary32 direction s i p ⌝ }
 {
@@ -36,6 +39,7 @@ fn take(s: Farthest, i: usize, p: Vector, direction: Vector) -> Farthest
             y: p.y,
             bad,
             best: 0,
+            second: 0,
             value: 0.0,
         };
     }
@@ -46,7 +50,17 @@ fn take(s: Farthest, i: usize, p: Vector, direction: Vector) -> Farthest
             y: s.y,
             bad,
             best: i,
+            second: i,
             value,
+        }
+    } else if value == s.value {
+        Farthest {
+            x: s.x,
+            y: s.y,
+            bad,
+            best: s.best,
+            second: i,
+            value: s.value,
         }
     } else {
         Farthest {
@@ -54,6 +68,7 @@ fn take(s: Farthest, i: usize, p: Vector, direction: Vector) -> Farthest
             y: s.y,
             bad,
             best: s.best,
+            second: s.second,
             value: s.value,
         }
     }
@@ -69,10 +84,13 @@ fn answer(s: Farthest, count: usize) -> SupportAnswer
     if s.bad {
         return SupportAnswer::Refused(3);
     }
-    SupportAnswer::At((s.best % 0x1_0000_0000) as u32)
+    SupportAnswer::At(SupportPair {
+        first: (s.best % 0x1_0000_0000) as u32,
+        second: (s.second % 0x1_0000_0000) as u32,
+    })
 }
 
-// Which point of a list of records lies farthest along a direction, or the number of its refusal: the answer of the flat list.
+// Which points of a list of records lie farthest along a direction, the first and the second; or the number of its refusal: the answer of the flat list.
 pub fn support_points(points: &[Vector], direction: Vector) -> SupportAnswer
     ensures { λ r. ⌜ r ≡ supportAnswer binary32 (flat (now (points .entry))) direction ⌝ }
 {
@@ -81,6 +99,7 @@ pub fn support_points(points: &[Vector], direction: Vector) -> SupportAnswer
         y: 0.0,
         bad: false,
         best: 0,
+        second: 0,
         value: 0.0,
     };
     let mut i: usize = 0;

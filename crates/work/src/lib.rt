@@ -3,11 +3,13 @@ use model::Block;
 use model::BlockAnswer;
 use model::CheckedBlock;
 use model::Contact;
+use model::Corners;
 use model::Counts;
 use model::Rotation;
 use model::Status;
 use model::Sweep;
 use model::SweepAnswer;
+use model::Swept;
 use model::Vector;
 use model::Verdict;
 use outline::point;
@@ -45,7 +47,7 @@ fn move_at(numbers: &[f32], i: u32) -> Sweep
 }
 
 // The sweep that 24 numbers ask for: both radii, the max fraction, the slop, and two moves of ten. A number that is missing is NaN.
-pub fn sweep_of(points_a: &[f32], points_b: &[f32], numbers: &[f32]) -> SweepAnswer
+pub fn sweep_of(points_a: &[f32], points_b: &[f32], numbers: &[f32]) -> Swept
     ensures { λ r. ⌜ r ≡ Work.sweepFor binary32 (now («points_a» .entry)) (now («points_b» .entry)) (now (numbers .entry)) ⌝ }
 {
     let radii = point(numbers, 0);
@@ -79,7 +81,7 @@ fn floats_at(part: &[u8], from: usize, n: usize) -> [f32; 32]
 }
 
 // The answer of the sweep that a block asks for.
-fn work_block(part: &[u8], k: Block) -> SweepAnswer
+fn work_block(part: &[u8], k: Block) -> Swept
     requires { ⌜ (k .«count_a» ≤ mostPoints) × (k .«count_b» ≤ mostPoints) ⌝ }
     ensures { λ r. ⌜ r ≡ Work.sweepOf binary32 (now (part .entry)) k ⌝ }
 {
@@ -91,8 +93,14 @@ fn work_block(part: &[u8], k: Block) -> SweepAnswer
     sweep_of(&points_a[..n_a], &points_b[..n_b], &numbers[..24])
 }
 
-fn worked(job: u32, status: Status, contact: Contact, counts: Counts) -> BlockAnswer
-    ensures { λ r. ⌜ r ≡ BlockAnswer.Worked job (Work.verdict status contact counts) ⌝ }
+fn worked(
+    job: u32,
+    status: Status,
+    contact: Contact,
+    counts: Counts,
+    corners: Corners,
+) -> BlockAnswer
+    ensures { λ r. ⌜ r ≡ BlockAnswer.Worked job (Work.verdict status contact counts corners) ⌝ }
 {
     BlockAnswer::Worked(
         job,
@@ -100,13 +108,14 @@ fn worked(job: u32, status: Status, contact: Contact, counts: Counts) -> BlockAn
             status,
             contact,
             counts,
+            corners,
         },
     )
 }
 
 // What a sweep's answer comes to. An overlap has fraction 0 and zeros.
-pub fn told(job: u32, answer: SweepAnswer) -> BlockAnswer
-    ensures { λ r. ⌜ r ≡ Work.told binary32 job answer ⌝ }
+fn told_by(job: u32, corners: Corners, answer: SweepAnswer) -> BlockAnswer
+    ensures { λ r. ⌜ r ≡ Work.toldBy binary32 job corners answer ⌝ }
 {
     let zero = Vector { x: 0.0, y: 0.0 };
     let none = Contact {
@@ -115,12 +124,29 @@ pub fn told(job: u32, answer: SweepAnswer) -> BlockAnswer
         normal: zero,
     };
     match answer {
-        SweepAnswer::Overlapped(counts) => worked(job, Status::Overlapped, none, counts),
-        SweepAnswer::Hit(contact, counts) => worked(job, Status::Hit, contact, counts),
-        SweepAnswer::Separated(contact, counts) => worked(job, Status::Separated, contact, counts),
-        SweepAnswer::Failed(contact, counts) => worked(job, Status::Failed, contact, counts),
+        SweepAnswer::Overlapped(counts) => worked(job, Status::Overlapped, none, counts, corners),
+        SweepAnswer::Hit(contact, counts) => worked(job, Status::Hit, contact, counts, corners),
+        SweepAnswer::Separated(contact, counts) => {
+            worked(job, Status::Separated, contact, counts, corners)
+        }
+        SweepAnswer::Failed(contact, counts) => worked(
+            job,
+            Status::Failed,
+            contact,
+            counts,
+            corners,
+        ),
         SweepAnswer::Refused(number) => BlockAnswer::Refused(job, number),
     }
+}
+
+// The same with the corners of the sweep's last search.
+pub fn told(job: u32, swept: Swept) -> BlockAnswer
+    ensures { λ r. ⌜ r ≡ Work.told binary32 job swept ⌝ }
+{
+    let answer = swept.answer;
+    let corners = swept.corners;
+    told_by(job, corners, answer)
 }
 
 fn refusal(checked: CheckedBlock) -> BlockAnswer
@@ -140,6 +166,6 @@ pub fn answer_block(part: &[u8]) -> BlockAnswer
     let CheckedBlock::Good(k) = checked else {
         return refusal(checked);
     };
-    let answer = work_block(part, k);
-    told(k.job, answer)
+    let swept = work_block(part, k);
+    told(k.job, swept)
 }

@@ -20,13 +20,13 @@ refusal-requires c κs = search needs
 returns : tie.Need-returns
 returns c = outline-refused binary32 _ _ _ (c .before .before .before .check-outline .ensures) _ (c .before .enum-told2 .given .1) _ (c .refusal .ensures)
 
-support-index-requires : tie.Need-support-index-requires
-support-index-requires c κs = search needs
+support-pair-requires : tie.Need-support-pair-requires
+support-pair-requires c κs = search needs
 
 returns-2 : tie.Need-returns-2
-returns-2 c = outline-passed binary32 _ _ _ (c .before .before .before .check-outline .ensures) (c .before .enum-told .given .1) _ (c .support-index .ensures)
+returns-2 c = outline-passed binary32 _ _ _ (c .before .before .before .check-outline .ensures) (c .before .enum-told .given .1) _ (c .support-pair .ensures)
 
 pub support-spec : {M : Type 1} → statement M
 support-spec =
     tie.close
-    (tie.spec check-outline-requires enum-told enum-told-2 refusal-requires returns support-index-requires returns-2)
+    (tie.spec check-outline-requires enum-told enum-told-2 refusal-requires returns support-pair-requires returns-2)

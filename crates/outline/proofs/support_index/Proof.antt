@@ -1,101 +1,13 @@
--- `support_index` meets its contract. The invariant: what is left of the list, from the best so far, gives what the whole gives.
--- Assumes nothing.
-use Prim.Native.Nat.{_≤_, _*_, _-_, _%_}
-use native.Mathlib.Omega.{arith}
-use mathlib.Core.Path.{_≡_, refl, sym, _∙_}
-use mathlib.Core.Logic.{⊎-elim}
+-- `support_index` meets its contract: the first of the pair. Assumes nothing.
 use borrow.Author.Needs.{needs}
-use lib.Ieee.{binary32}
-use lib.ListN.{drop}
-use Rattle.model.specs.Ground as Ground
-use Rattle.model.specs.Support.{supportFrom}
-use Rattle.outline.proofs.Laws.{support-step, support-stop}
 use Rattle.outline.proofs.support_index.Statement.{statement}
 use Rattle.outline.proofs.support_index.Tie as tie
 
-abbrev Inv-loop : tie.InvT-loop
-Inv-loop points direction origin count best-index₀ best-value₀ i₀ best-index best-value i = (1 ≤ i)
-    × (supportFrom binary32 direction origin (drop (2 * i) points) i best-index best-value ≡ supportFrom binary32 direction origin (drop 2 points) 1 0 (Ground.zero binary32))
+support-pair-requires : tie.Need-support-pair-requires
+support-pair-requires c κs = search needs
 
-abbrev μ-loop : tie.MeasureT-loop
-μ-loop points direction origin count best-index₀ best-value₀ i₀ best-index best-value i = count - i
-
-point-requires : tie.Need-point-requires Inv-loop μ-loop
-point-requires c κs = search needs
-
-loop-holds : tie.Need-loop-holds Inv-loop μ-loop
-loop-holds c = (omega arith, refl)
-
-mul-value : tie.Need-mul-value Inv-loop μ-loop
-mul-value c = omega arith
-
-mul-value-2 : tie.Need-mul-value-2 Inv-loop μ-loop
-mul-value-2 c = omega arith
-
-shared-slice-read-value : tie.Need-shared-slice-read-value Inv-loop μ-loop
-shared-slice-read-value c = omega arith
-
-mul-value-3 : tie.Need-mul-value-3 Inv-loop μ-loop
-mul-value-3 c = omega arith
-
-add-value : tie.Need-add-value Inv-loop μ-loop
-add-value c = omega arith
-
-mul-value-4 : tie.Need-mul-value-4 Inv-loop μ-loop
-mul-value-4 c = omega arith
-
-shared-slice-read-value-2 : tie.Need-shared-slice-read-value-2 Inv-loop μ-loop
-shared-slice-read-value-2 c = omega arith
-
-add-i : tie.Need-add-i Inv-loop μ-loop
-add-i c = omega arith
-
-loop-less : tie.Need-loop-less Inv-loop μ-loop
-loop-less c = omega arith
-
-loop-again : tie.Need-loop-again Inv-loop μ-loop
-loop-again c =
-    let l = c .before .before .before .before .before .before .before .before .loop in
-    let a = c .before .before .before .before .before .before .before .before .before .before .before .args in
-    let o = c .before .before .before .before .before .before .before .before .before .point .result in
-    let e = support-step binary32 (a .direction) o (a .points .now) (l .i) (l .best-index) (l .best-value)
-    (c .before .before .before .before .before .before .before .loop-test .taken) in (
-      omega arith,
-      ⊎-elim
-          (λ w. rw (w .1, w .2) (sym (simp (w .0 .taken) at e) ∙ l .inv .1))
-          (λ w. rw (w .1, w .2) (sym (simp (w .0 .left) at e) ∙ l .inv .1))
-          (c .if1 .came),
-    )
-
-cast-result : tie.Need-cast-result Inv-loop μ-loop
-cast-result c = omega arith
-
-returns : tie.Need-returns Inv-loop μ-loop
-returns c =
-    let l = c .before .loop in
-    let a = c .before .before .before .before .args in
-    let o = c .before .before .point in
-    let whole = sym (support-stop binary32 (a .direction) (o .result) (a .points .now) (l .i) (l .best-index) (l .best-value) (c .loop-test .left))
-    ∙ l .inv .1 in
-    rw (← o .ensures, whole)
+returns : tie.Need-returns
+returns c = rw (c .support-pair .ensures)
 
 pub support-index-spec : {M : Type 1} → statement M
-support-index-spec =
-    tie.close
-    (tie.spec
-    Inv-loop
-    μ-loop
-    point-requires
-    loop-holds
-    mul-value
-    mul-value-2
-    shared-slice-read-value
-    mul-value-3
-    add-value
-    mul-value-4
-    shared-slice-read-value-2
-    add-i
-    loop-less
-    loop-again
-    cast-result
-    returns)
+support-index-spec = tie.close (tie.spec support-pair-requires returns)

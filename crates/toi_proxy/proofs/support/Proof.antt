@@ -36,7 +36,7 @@ use denote.Triple.Table.{entered, cited}
 use denote.Triple.Walked.{says, Stays, stay-none, walkOf, goes-none, Walks, ends-at, walked, walk-meets}
 use denote.Exit.{yes}
 use denote.Triple.Clauses.{ensured, lasts}
-use Rattle.model.specs.Support.{supportAnswer}
+use Rattle.model.specs.Second.{supportAnswer}
 use Rattle.model.specs.declared.Vector.{Vector}
 use Rattle.model.specs.declared.SupportAnswer.{SupportAnswer}
 use Rattle.model.proofs.Vector as Vec

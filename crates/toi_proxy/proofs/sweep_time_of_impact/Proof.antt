@@ -27,7 +27,6 @@ use denote.Builtin.{f32}
 use denote.Ref.{RefT, NamedLft, now}
 use denote.Slice.{ShrSlice}
 use denote.Steps.{owned, peeks, heard, nothing}
-use denote.Enum.Laws as EL
 use denote.Struct.Laws as LL
 use denote.Triple.Statement.{Contract, Triple}
 use denote.Triple.Call.{calls-at}
@@ -37,13 +36,13 @@ use denote.Triple.Table.{entered, cited}
 use denote.Triple.Walked.{says, Stays, stay-none, walkOf, goes-none, Walks, ends-at, walked, walk-meets}
 use denote.Exit.{yes}
 use denote.Triple.Clauses.{ensured, lasts}
-use Rattle.model.specs.SweepToi.{sweepTimeOfImpact}
+use Rattle.model.specs.Corners.{sweep}
 use Rattle.model.specs.declared.Sweep.{Sweep}
-use Rattle.model.specs.declared.SweepAnswer.{SweepAnswer}
+use Rattle.model.specs.declared.Swept.{Swept}
 use Rattle.model.proofs.Sweep as Sweep
 use Rattle.model.proofs.Sweep.Laws as Sweep′
-use Rattle.model.proofs.SweepAnswer as Answer
-use Rattle.model.proofs.SweepAnswer.Laws as Answer′
+use Rattle.model.proofs.Swept as Answer
+use Rattle.model.proofs.Swept.Laws as Answer′
 use Rattle.sweep_toi.proofs.sweep_time_of_impact as core
 use Rattle.sweep_toi.proofs.sweep_time_of_impact.Symbol as core-def
 use Rattle.sweep_toi.proofs.sweep_time_of_impact.Symbol.{name as #core}
@@ -96,8 +95,8 @@ module _ {M : Type 1} (𝓤 : URA M) (H : Heap 𝓤) (A : Atoms 𝓤) (W : Given
   abbrev β : NamedLft
   β = lftB κs
 
-  abbrev answer : SweepAnswer
-  answer = sweepTimeOfImpact binary32 (now (a .points)) (a .radius) wa (now (b .points)) (b .radius) wb last slop
+  abbrev answer : Swept
+  answer = sweep binary32 (now (a .points)) (a .radius) wa (now (b .points)) (b .radius) wb last slop
 
   abbrev args : ToiProxy × (Sweep × (ToiProxy × (Sweep × (Float × (Float × Unit {0})))))
   args = (a, (wa, (b, (wb, (last, (slop, tt))))))
@@ -162,10 +161,10 @@ module _ {M : Type 1} (𝓤 : URA M) (H : Heap 𝓤) (A : Atoms 𝓤) (W : Given
       move ! (3 ∷ 0 ∷ []) $ use2 W (raw (Core 𝓤 H A mem run .pre to)) asked $ move ! (1 ∷ 2 ∷ []) $ join ! $ move ! (1 ∷ []) $ frame ! $ done !
 
   -- of the callee's `ensured`, the clause alone
-  said : (r : SweepAnswer) → ent 𝓤 (ensured 𝓤 H A core.ended (core.clauses 𝓤 H A mem run) κs given tt r) (fact 𝓤 (r ≡ answer))
+  said : (r : Swept) → ent 𝓤 (ensured 𝓤 H A core.ended (core.clauses 𝓤 H A mem run) κs given tt r) (fact 𝓤 (r ≡ answer))
   said r = exE 𝓤 _ (λ ws. snd∗ 𝓤 (sem 𝓤 H A (lasts core.ended κs given ws)) (fact 𝓤 (r ≡ answer)))
 
-  exits : (r : SweepAnswer) (u : Val) → r ≡ answer → ent 𝓤 (⋆ 𝓤 H A (‵ (Answer.the-row .own r (u ∷ [])) ∷ tokens ∷ (‵ (Own α a) ⊛ ‵ (Own β b)) ∷ [])) (Post u)
+  exits : (r : Swept) (u : Val) → r ≡ answer → ent 𝓤 (⋆ 𝓤 H A (‵ (Answer.the-row .own r (u ∷ [])) ∷ tokens ∷ (‵ (Own α a) ⊛ ‵ (Own β b)) ∷ [])) (Post u)
   exits r u e =
       qed W (‵ (Answer.the-row .own r (u ∷ [])) ∷ tokens ∷ (‵ (Own α a) ⊛ ‵ (Own β b)) ∷ []) ∵
       suffices ! _ (ends-at 𝓤 H A f.ended stayed (f.clauses 𝓤 H A mem run) W (
@@ -211,11 +210,11 @@ module _ {M : Type 1} (𝓤 : URA M) (H : Heap 𝓤) (A : Atoms 𝓤) (W : Given
         calls-at ! fm (Core 𝓤 H A mem run) known to
         (and-then ! (load ! (from ! (stop !)) (look ! 8 refl)) (and-then ! (load ! (from ! (stop !)) (look ! 6 refl)) (and-then ! (load ! (from ! (stop !)) (look ! 18 refl)) (and-then ! (load ! (from ! (stop !)) (look ! 4 refl))
         (and-then ! (load ! (from ! (stop !)) (look ! 2 refl)) (and-then ! (load ! (from ! (stop !)) (look ! 14 refl)) (and-then ! (load ! (from ! (stop !)) (look ! 12 refl)) (and-then ! (load ! (from ! (stop !)) (look ! 10 refl)) (no-more !))))))))) (λ u.
-        use1 W (later (some (λ (r : SweepAnswer). (tokens ⊛ ‵ (Answer.the-row .own r (u ∷ []))) ⊛ raw (ensured 𝓤 H A core.ended (core.clauses 𝓤 H A mem run) κs given tt r)))) (id⊢ 𝓤 _) $ await ! tt $ pick ! (λ r.
+        use1 W (later (some (λ (r : Swept). (tokens ⊛ ‵ (Answer.the-row .own r (u ∷ []))) ⊛ raw (ensured 𝓤 H A core.ended (core.clauses 𝓤 H A mem run) κs given tt r)))) (id⊢ 𝓤 _) $ await ! tt $ pick ! (λ r.
         split ! $ move ! (1 ∷ []) $ use1 W (raw (fact 𝓤 (r ≡ answer))) (said r) $ heard ! (r ≡ answer) (λ e. split ! $ move ! (1 ∷ []) $
         -- [the result; the tokens; what the proxies own; _10; …; _1; …; room for _0; …]
         peeks ! Answer.the-row (Is Answer.the-row) (shows 𝓤 H A Answer.the-row) r (u ∷ []) (λ ir.
-        land ! (from ! (stop !)) (init ! 23 refl (EL.lawful Answer.the-type Answer′.the-laws 𝓤 H A W tt .typed r _ ir .0)) $
+        land ! (from ! (stop !)) (init ! 23 refl (LL.lawful Answer.the-type Answer′.the-laws 𝓤 H A W .typed r _ ir .0)) $
         returns ! (look ! 23 refl) $ forget ! 3 refl $ forget ! 5 refl $ forget ! 7 refl $ forget ! 9 refl $ forget ! 11 refl $ forget ! 13 refl $ forget ! 15 refl $ forget ! 17 refl $ forget ! 19 refl $ forget ! 21 refl $ forget ! 23 refl $
         move ! (23 ∷ 24 ∷ []) $ free1 ! $ move ! (21 ∷ 22 ∷ []) $ free1 ! $ move ! (19 ∷ 20 ∷ []) $ free1 ! $ move ! (17 ∷ 18 ∷ []) $ free1 ! $ move !
         (15 ∷ 16 ∷ []) $ free1 ! $ move ! (13 ∷ 14 ∷ []) $ free1 ! $ move ! (11 ∷ 12 ∷ []) $ free1 ! $

@@ -4,7 +4,7 @@ use native.Mathlib.Omega.{arith}
 use Prim.Native.Nat.{_≤_}
 use lib.ListN.{length}
 use Rattle.lines.proofs.Pasted.{put-then}
-use Rattle.lines.proofs.Pieces.{length-number, length-floats, worked-is, ends}
+use Rattle.lines.proofs.Pieces.{length-number, length-three, length-floats, worked-is, ends}
 use borrow.Author.Needs.{needs}
 use Rattle.lines.proofs.write.put_worked.Statement.{statement}
 use Rattle.lines.proofs.write.put_worked.Tie as tie
@@ -73,30 +73,56 @@ put-three-requires c κs =
       r .put .kept .0,
       ends (s .put-contact .ensures) (length-floats _),
       s .put-contact .kept .0,
-      p .before .before .before .before .before .pre,
+      p .before .before .before .before .before .before .pre,
+    )
+
+put-corners-requires : tie.Need-put-corners-requires
+put-corners-requires c κs =
+    let t = c .before .before .before in
+    let s = t .before .before .before .before .before .before .before in
+    let r = s .before .before .before .before in
+    let q = r .before .before .before .before .before in
+    let p = q .before .before .before .before in
+    omega (
+      arith,
+      ends (p .put-number .ensures) (length-number _ _),
+      p .put-number .kept .0,
+      ends (q .put-number2 .ensures) (length-number _ _),
+      q .put-number2 .kept .0,
+      r .put .ensures .place,
+      r .put .kept .0,
+      ends (s .put-contact .ensures) (length-floats _),
+      s .put-contact .kept .0,
+      ends (t .put-three .ensures) (length-three _ _ _ _),
+      t .put-three .kept .0,
+      p .before .before .before .before .before .before .pre,
     )
 
 same-length : tie.Need-same-length
 same-length c =
-    let t = c .before .before in
+    let u = c .before .before in
+    let t = u .before .before .before .before in
     let s = t .before .before .before .before .before .before .before in
     let r = s .before .before .before .before in
     let q = r .before .before .before .before .before in
     let p = q .before .before .before .before in
-    t .put-three .kept .0 ∙ s .put-contact .kept .0 ∙ r .put .kept .0 ∙ q .put-number2 .kept .0 ∙ p .put-number .kept .0
+    let last = u .put-corners .kept .0 ∙ t .put-three .kept .0 in
+    last ∙ s .put-contact .kept .0 ∙ r .put .kept .0 ∙ q .put-number2 .kept .0 ∙ p .put-number .kept .0
 
 returns : tie.Need-returns
 returns c =
-    let t = c .before .before in
+    let u = c .before .before in
+    let t = u .before .before .before .before in
     let s = t .before .before .before .before .before .before .before in
     let r = s .before .before .before .before in
     let q = r .before .before .before .before .before in
     let p = q .before .before .before .before in
-    let start = p .before .before .before .before .before in
+    let start = p .before .before .before .before .before .before in
     let inside : start .args .at ≤ length (start .args .out .now) = omega (arith, start .pre) in
     let numbers = put-then inside (p .put-number .ensures) (q .put-number2 .ensures) in
     let values = put-then inside (put-then inside numbers (r .put .ensures)) (s .put-contact .ensures) in
-    rw (worked-is, ← p .before .before .before .letter-of .ensures) (put-then inside values (t .put-three .ensures))
+    let counts = put-then inside values (t .put-three .ensures) in
+    rw (worked-is, ← p .before .before .before .before .letter-of .ensures) (put-then inside counts (u .put-corners .ensures))
 
 pub put-worked-spec : {M : Type 1} → statement M
 put-worked-spec =
@@ -112,5 +138,6 @@ put-worked-spec =
     cast-put-three-2
     cast-put-three-3
     put-three-requires
+    put-corners-requires
     same-length
     returns)

@@ -5,10 +5,10 @@ use Rattle.replay.proofs.blocks.answer.Statement.{statement}
 use Rattle.replay.proofs.blocks.answer.Tie as tie
 
 abbrev Inv-loop : tie.InvT-loop
-Inv-loop row n words₀ start end answer text i₀ words i = i ≤ 31
+Inv-loop row n words₀ start end answer text i₀ words i = i ≤ 39
 
 abbrev μ-loop : tie.MeasureT-loop
-μ-loop row n words₀ start end answer text i₀ words i = 31 - i
+μ-loop row n words₀ start end answer text i₀ words i = 39 - i
 
 returns : tie.Need-returns Inv-loop μ-loop
 returns c = search needs

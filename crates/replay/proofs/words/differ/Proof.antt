@@ -5,7 +5,7 @@ use Rattle.replay.proofs.words.differ.Statement.{statement}
 use Rattle.replay.proofs.words.differ.Tie as tie
 
 abbrev Inv-loop : tie.InvT-loop
-Inv-loop words n row from spoil same₀ i₀ same i = i ≤ 32
+Inv-loop words n row from spoil same₀ i₀ same i = i ≤ 40
 
 abbrev μ-loop : tie.MeasureT-loop
 μ-loop words n row from spoil same₀ i₀ same i = n - i

@@ -9,11 +9,14 @@ enum-told c = search needs
 inv-rotate-vec-requires : tie.Need-inv-rotate-vec-requires
 inv-rotate-vec-requires c κs = search needs
 
-support-index-requires : tie.Need-support-index-requires
-support-index-requires c κs = search needs
+support-pair-requires : tie.Need-support-pair-requires
+support-pair-requires c κs = search needs
 
 enum-told-2 : tie.Need-enum-told-2
 enum-told-2 c = search needs
+
+no-corner-requires : tie.Need-no-corner-requires
+no-corner-requires c κs = search needs
 
 enum-told-3 : tie.Need-enum-told-3
 enum-told-3 c = search needs
@@ -27,21 +30,21 @@ neg-requires c κs = search needs
 inv-rotate-vec-requires-2 : tie.Need-inv-rotate-vec-requires-2
 inv-rotate-vec-requires-2 c κs = search needs
 
-support-index-requires-2 : tie.Need-support-index-requires-2
-support-index-requires-2 c κs = search needs
+support-pair-requires-2 : tie.Need-support-pair-requires-2
+support-pair-requires-2 c κs = search needs
 
 returns : tie.Need-returns
-returns c = simp (c .before .before .enum-told .given .1, c .support-index .ensures, c .before .inv-rotate-vec .ensures)
+returns c = simp (c .before .before .enum-told .given .1, c .support-pair .ensures, c .before .inv-rotate-vec .ensures)
 
 returns-2 : tie.Need-returns-2
-returns-2 c = search needs
+returns-2 c = simp (c .before .enum-told2 .given .1, c .no-corner .ensures)
 
 returns-3 : tie.Need-returns-3
 returns-3 c =
     let n = c .before .before in
     simp (
       n .before .before .enum-told3 .given .1,
-      c .support-index2 .ensures,
+      c .support-pair2 .ensures,
       c .before .inv-rotate-vec2 .ensures,
       n .neg .ensures,
       n .before .rotate-vec .ensures,
@@ -53,13 +56,14 @@ deepest-a-spec =
     (tie.spec
     enum-told
     inv-rotate-vec-requires
-    support-index-requires
+    support-pair-requires
     enum-told-2
+    no-corner-requires
     enum-told-3
     rotate-vec-requires
     neg-requires
     inv-rotate-vec-requires-2
-    support-index-requires-2
+    support-pair-requires-2
     returns
     returns-2
     returns-3)

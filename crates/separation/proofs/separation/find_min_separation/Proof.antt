@@ -1,5 +1,5 @@
 -- `separation::find_min_separation` meets its contract, by what its callees ensure. Assumes nothing.
-use Rattle.separation.proofs.Laws.{least-at}
+use Rattle.separation.proofs.Laws.{found-at}
 use borrow.Author.Needs.{needs}
 use Rattle.separation.proofs.separation.find_min_separation.Statement.{statement}
 use Rattle.separation.proofs.separation.find_min_separation.Tie as tie
@@ -24,7 +24,7 @@ returns c =
     let i = c .before .before in
     let x = i .before in
     rw (c .separation-of .ensures)
-    (least-at _ _ _ _ _ _ _ (x .before .transform-at .ensures) (x .transform-at2 .ensures) _ _ (i .deepest-a .ensures) (c .before .deepest-b .ensures))
+    (found-at _ _ _ _ _ _ _ (x .before .transform-at .ensures) (x .transform-at2 .ensures) _ _ (i .deepest-a .ensures) (c .before .deepest-b .ensures))
 
 pub find-min-separation-spec : {M : Type 1} → statement M
 find-min-separation-spec =

@@ -1,80 +1,83 @@
--- `sweep_toi::advance` meets its contract. Each loop's invariant: what is left at its head gives the whole answer, and the counts have room for the
--- turns that are left. Assumes nothing.
+-- `sweep_toi::advance` meets its contract. Each loop's invariant: what is left at its head gives the whole answer, with the corners of its last search,
+-- and the counts have room for the turns that are left. A push-back searches before anything else, so that the corners before it do not matter.
+-- Assumes nothing.
 use Prim.Native.Nat.{_<_, _+_, _-_}
 use native.Mathlib.Omega.{arith}
 use mathlib.Core.Path.{_≡_, refl, _∙_}
 use mathlib.Core.Logic.{⊎-elim}
 use lib.Ieee.{binary32}
-use Rattle.model.specs.SweepToi.{stepped, advance}
+use Rattle.model.specs.SweepToi.{stepped}
+use Rattle.model.specs.Corners.{noSearch, advanced}
 use Rattle.model.proofs.SweepToi.{Ready, Room, nothing-counted, room-after-call, room-is-bounded, searched-is-bounded, room-after-steps}
 use Rattle.sweep_toi.proofs.Laws.{calling, pushing, searching, at-the-start, Tried, root-lands, root-above, root-below, root-runs-out}
 use Rattle.sweep_toi.proofs.Laws.{Searched, push-separates, push-moves, push-fails, push-hits, push-searches}
-use Rattle.sweep_toi.proofs.Laws.{Called, call-overlaps, call-hits, call-goes-on, Resumed, one-call-made, all-pushed, last-call, next-ready, next-call}
+use Rattle.sweep_toi.proofs.Laws.{Called, call-overlaps, call-hits, call-goes-on, Resumed, one-call-made, whatever-before, all-pushed, last-call, next-ready, next-call}
 use borrow.Author.Needs.{needs}
 use Rattle.sweep_toi.proofs.sweep_toi.advance.Statement.{statement}
 use Rattle.sweep_toi.proofs.sweep_toi.advance.Tie as tie
 
 abbrev Inv-loop : tie.InvT-loop
-Inv-loop task points-a points-b _ _ t1 _ counts closest fcn t2 push-backs deepest _ _ _ _ _ s2 s1 a1 a2 steps =
+Inv-loop task points-a points-b _ _ t1 _ counts corners closest fcn t2 push-backs deepest _ _ _ _ _ s2 s1 a1 a2 steps =
     (steps < 50)
-    × (searching binary32 task points-a points-b fcn closest t1 t2 push-backs counts deepest a1 a2 s1 s2 steps
-    ≡ advance binary32 task points-a points-b)
+    × (searching binary32 task points-a points-b fcn closest t1 t2 push-backs counts corners deepest a1 a2 s1 s2 steps
+    ≡ advanced binary32 task points-a points-b)
 
 abbrev μ-loop : tie.MeasureT-loop
-μ-loop _ _ _ _ _ _ _ _ _ _ _ _ _ _ _ _ _ _ _ _ _ _ steps = 50 - steps
+μ-loop _ _ _ _ _ _ _ _ _ _ _ _ _ _ _ _ _ _ _ _ _ _ _ steps = 50 - steps
 
 abbrev Inv-push-back : tie.InvT-push-back
 Inv-push-back task points-a points-b _ _ _ _ counts₀ closest fcn _ _ t1 counts t2 push-backs =
     (push-backs < 8)
     × Room (8 - push-backs) counts
     × (counts .«distance_calls» ≡ counts₀ .«distance_calls»)
-    × (pushing binary32 task points-a points-b fcn closest t1 t2 push-backs counts ≡ advance binary32 task points-a points-b)
+    × (pushing binary32 task points-a points-b fcn closest t1 t2 push-backs counts noSearch ≡ advanced binary32 task points-a points-b)
 
 abbrev μ-push-back : tie.MeasureT-push-back
 μ-push-back _ _ _ _ _ _ _ _ _ _ _ _ _ _ _ push-backs = 8 - push-backs
 
 abbrev Inv-advance : tie.InvT-advance
-Inv-advance task points-a points-b _ _ _ _ _ t1 cache counts =
-    Ready (19 - counts .«distance_calls») counts × (calling binary32 task points-a points-b t1 cache counts ≡ advance binary32 task points-a points-b)
+Inv-advance task points-a points-b _ _ _ _ _ _ t1 cache counts corners =
+    Ready (19 - counts .«distance_calls») counts × (calling binary32 task points-a points-b t1 cache counts corners ≡ advanced binary32 task points-a points-b)
 
 abbrev μ-advance : tie.MeasureT-advance
-μ-advance _ _ _ _ _ _ _ _ _ _ counts = 20 - counts .«distance_calls»
+μ-advance _ _ _ _ _ _ _ _ _ _ _ counts _ = 20 - counts .«distance_calls»
 
 -- a distance call, up to its count
 call : (c : tie.After-called Inv-loop μ-loop Inv-push-back μ-push-back Inv-advance μ-advance) →
     let l = c .before .before .before in
-    let e = l .before .before .before in
+    let e = l .before .before .before .before in
     let a = e .args in
     Called binary32 (a .task) (a .points-a .now) (a .points-b .now)
-    (l .advance .t1) (l .advance .cache) (l .advance .counts) (c .before .before .closest-at .result) (c .called .result)
+    (l .advance .t1) (l .advance .cache) (l .advance .counts) (l .advance .corners) (c .before .before .closest-at .result) (c .called .result)
 call c = record { there = c .before .before .closest-at .ensures; counted = c .called .ensures; rest = c .before .before .before .advance .inv .1 }
 
 -- a push-back, up to its count
 least : (c : tie.After-searched Inv-loop μ-loop Inv-push-back μ-push-back Inv-advance μ-advance) →
-    let q = c .before .before in
+    let q = c .before .before .before .before in
     let h = q .before .before .before .before .before .before .before .before in
-    let e = h .before .before .before .before in
+    let e = h .before .before .before .before .before in
     let a = e .args in
     let p = q .push-back in
     Searched binary32 (a .task) (a .points-a .now) (a .points-b .now) (q .before .new-separation .result) (h .closest-at .result)
-    (p .t1) (p .t2) (p .push-back-iterations) (p .counts) (c .before .find-min-separation .result) (c .searched .result)
+    (p .t1) (p .t2) (p .push-back-iterations) (p .counts) noSearch (c .before .before .before .find-min-separation .result) (c .searched .result)
 least c =
-    let q = c .before .before in
+    let q = c .before .before .before .before in
     let p = q .push-back in
-    record { left = p .inv .0; least = c .before .find-min-separation .ensures; counted = c .searched .ensures; rest = p .inv .3 }
+    record { left = p .inv .0; least = c .before .before .before .find-min-separation .ensures; counted = c .searched .ensures; rest = p .inv .3 }
 
 -- a root step, up to its test
 tried : (c : tie.After-abs Inv-loop μ-loop Inv-push-back μ-push-back Inv-advance μ-advance) →
     let i = c .before .before .before in
     let s = i .before .before .before .before .before .before in
-    let q = s .before .before in
+    let v = s .before .before .before in
+    let q = v .before in
     let h = q .before .before .before .before .before .before .before .before in
-    let e = h .before .before .before .before in
+    let e = h .before .before .before .before .before in
     let a = e .args in
     let p = q .push-back in
     let l = i .loop in
     Tried binary32 (a .task) (a .points-a .now) (a .points-b .now) (q .before .new-separation .result) (h .closest-at .result)
-    (p .t1) (p .t2) (p .push-back-iterations) (s .searched .result) (s .before .find-min-separation .result)
+    (p .t1) (p .t2) (p .push-back-iterations) (s .searched .result) (v .find-min-separation .result .corners) (v .find-min-separation .result .least)
     (l .a1) (l .a2) (l .s1) (l .s2) (l .root-iteration-count) (c .before .before .tried .result) (c .before .evaluate2 .result) (c .abs .result)
 tried c =
     let i = c .before .before .before in
@@ -85,15 +88,16 @@ tried c =
 landed : (c : tie.Joined7 Inv-loop μ-loop Inv-push-back μ-push-back Inv-advance μ-advance) →
     let i = c .before .before .before .before in
     let s = i .before .before .before .before .before .before in
-    let q = s .before .before in
+    let v = s .before .before .before in
+    let q = v .before in
     let h = q .before .before .before .before .before .before .before .before in
-    let e = h .before .before .before .before in
+    let e = h .before .before .before .before .before in
     let a = e .args in
     let p = q .push-back in
     let o = stepped (s .searched .result) (i .loop .root-iteration-count + 1) in
     pushing binary32 (a .task) (a .points-a .now) (a .points-b .now) (q .before .new-separation .result) (h .closest-at .result)
-    (p .t1) (c .if7 .t2) (p .push-back-iterations + 1) o
-    ≡ advance binary32 (a .task) (a .points-a .now) (a .points-b .now)
+    (p .t1) (c .if7 .t2) (p .push-back-iterations + 1) o (v .find-min-separation .result .corners)
+    ≡ advanced binary32 (a .task) (a .points-a .now) (a .points-b .now)
 landed c =
     ⊎-elim
     (λ w. rw (w .5) (root-lands (tried (c .before)) (w .0 .taken)))
@@ -104,25 +108,27 @@ landed c =
 roomy : (c : tie.Joined7 Inv-loop μ-loop Inv-push-back μ-push-back Inv-advance μ-advance) →
     let i = c .before .before .before .before in
     let s = i .before .before .before .before .before .before in
-    let q = s .before .before in
+    let q = s .before .before .before .before in
     Room (8 - (q .push-back .push-back-iterations + 1)) (stepped (s .searched .result) (i .loop .root-iteration-count + 1))
 roomy c =
     let i = c .before .before .before .before in
     let s = i .before .before .before .before .before .before in
-    let q = s .before .before in
+    let q = s .before .before .before .before in
     let p = q .push-back in
     rw (s .searched .ensures) (room-after-steps _ _ (p .inv .1) (omega (arith, p .inv .0)) (omega (arith, i .loop .inv .0)))
 
 -- where the push-backs are left with no answer
 resumed : (c : tie.Joined4 Inv-loop μ-loop Inv-push-back μ-push-back Inv-advance μ-advance) →
-    let h = c .before .before .before .before .before .before .before .before .before .before .before .before in
+    let v = c .before .before .before .before .before in
+    let h = v .before .before .before .before .before .before .before .before .before in
     let l = h .before in
-    let e = l .before .before .before in
+    let e = l .before .before .before .before in
     let a = e .args in
     Resumed binary32 (a .task) (a .points-a .now) (a .points-b .now) (h .closest-at .result) (c .if4 .t1) (l .advance .counts) (c .if4 .counts)
+    (v .find-min-separation .result .corners)
 resumed c =
     let s = c .before .before in
-    let q = s .before .before in
+    let q = s .before .before .before .before in
     let k = q .before .before .before .before .before .before in
     let p = q .push-back in
     let calls = one-call-made (k .before .before .before .advance .counts) (p .counts) (s .searched .ensures) (p .inv .2) (k .called .ensures) in
@@ -144,12 +150,15 @@ resumed c =
     record {
       one-call = rw (w .12, o) calls;
       bounded = rw (w .12, o) (room-is-bounded (roomy b7));
-      rest = rw (w .11, w .12, o) (all-pushed binary32 _ _ _ _ _ _ _ _ _ (w .10 .taken) (landed b7));
+      rest = rw (w .11, w .12, o) (all-pushed binary32 _ _ _ _ _ _ _ _ _ _ (w .10 .taken) (landed b7));
     })
     (c .if4 .came)
 
+no-search-requires : tie.Need-no-search-requires Inv-loop μ-loop Inv-push-back μ-push-back Inv-advance μ-advance
+no-search-requires c κs = search needs
+
 advance-holds : tie.Need-advance-holds Inv-loop μ-loop Inv-push-back μ-push-back Inv-advance μ-advance
-advance-holds c = (nothing-counted, at-the-start binary32 _ _ _)
+advance-holds c = (nothing-counted, rw (c .no-search .ensures) (at-the-start binary32 _ _ _))
 
 closest-at-requires : tie.Need-closest-at-requires Inv-loop μ-loop Inv-push-back μ-push-back Inv-advance μ-advance
 closest-at-requires c κs = search needs
@@ -172,7 +181,8 @@ push-back-holds c =
       omega arith,
       rw (k .called .ensures) (room-after-call (k .before .before .before .advance .inv .0)),
       refl,
-      call-goes-on (call k) (c .before .before .before .if1 .left) (c .before .if2 .left) _ (c .new-separation .ensures),
+      whatever-before binary32 _ _ _ _ _ _ _ _ _ noSearch _ (omega arith)
+          ∙ call-goes-on (call k) (c .before .before .before .if1 .left) (c .before .if2 .left) _ (c .new-separation .ensures),
     )
 
 find-min-separation-requires : tie.Need-find-min-separation-requires Inv-loop μ-loop Inv-push-back μ-push-back Inv-advance μ-advance
@@ -180,7 +190,7 @@ find-min-separation-requires c κs = search needs
 
 searched-requires : tie.Need-searched-requires Inv-loop μ-loop Inv-push-back μ-push-back Inv-advance μ-advance
 searched-requires c κs =
-    let q = c .before in
+    let q = c .before .before .before in
     omega (arith, q .push-back .inv .0, q .push-back .inv .1 .few-calls, q .push-back .inv .1 .few-searches)
 
 separated-requires : tie.Need-separated-requires Inv-loop μ-loop Inv-push-back μ-push-back Inv-advance μ-advance
@@ -242,8 +252,12 @@ push-back-again : tie.Need-push-back-again Inv-loop μ-loop Inv-push-back μ-pus
 push-back-again c =
     let j = c .before .before in
     let s = j .before .before .before .before .before .before .before .before .before .before in
-    let o = c .before .stepped .ensures in
-    (omega arith, rw o (roomy j), rw (o, s .searched .ensures) (s .before .before .push-back .inv .2), rw o (landed j))
+    let o = c .before .stepped .ensures in (
+      omega arith,
+      rw o (roomy j),
+      rw (o, s .searched .ensures) (s .before .before .before .before .push-back .inv .2),
+      rw o (whatever-before binary32 _ _ _ _ _ _ _ _ _ noSearch _ (omega arith) ∙ landed j),
+    )
 
 failed-at-requires : tie.Need-failed-at-requires Inv-loop μ-loop Inv-push-back μ-push-back Inv-advance μ-advance
 failed-at-requires c κs = search needs
@@ -298,6 +312,7 @@ advance-spec =
     μ-push-back
     Inv-advance
     μ-advance
+    no-search-requires
     advance-holds
     closest-at-requires
     called-requires

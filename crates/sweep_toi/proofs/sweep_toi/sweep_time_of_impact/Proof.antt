@@ -18,10 +18,14 @@ enum-told-2 c = search needs
 refusal-requires : tie.Need-refusal-requires
 refusal-requires c κs = search needs
 
+refused-requires : tie.Need-refused-requires
+refused-requires c κs = search needs
+
 returns : tie.Need-returns
 returns c =
-    let pair = c .before .before .before in
-    pair-refused binary32 _ _ _ _ _ _ _ _ _ (pair .check-pair .ensures) _ (c .before .enum-told2 .given .1) _ (c .refusal .ensures)
+    let pair = c .before .before .before .before in
+    c .refused .ensures
+    ∙ pair-refused binary32 _ _ _ _ _ _ _ _ _ (pair .check-pair .ensures) _ (c .before .before .enum-told2 .given .1) _ (c .before .refusal .ensures)
 
 check-sweeps-requires : tie.Need-check-sweeps-requires
 check-sweeps-requires c κs = search needs
@@ -35,13 +39,17 @@ enum-told-4 c = search needs
 refusal-requires-2 : tie.Need-refusal-requires-2
 refusal-requires-2 c κs = search needs
 
+refused-requires-2 : tie.Need-refused-requires-2
+refused-requires-2 c κs = search needs
+
 returns-2 : tie.Need-returns-2
 returns-2 c =
-    let sweeps = c .before .before .before in
+    let sweeps = c .before .before .before .before in
     let pair = sweeps .before .before .before in
-    sweeps-refused binary32 _ _ _ _ _ _ _ _
+    c .refused2 .ensures
+    ∙ sweeps-refused binary32 _ _ _ _ _ _ _ _
     _ (pair .check-pair .ensures) (sweeps .before .enum-told .given .1)
-    _ (sweeps .check-sweeps .ensures) _ (c .before .enum-told4 .given .1) _ (c .refusal2 .ensures)
+    _ (sweeps .check-sweeps .ensures) _ (c .before .before .enum-told4 .given .1) _ (c .before .refusal2 .ensures)
 
 check-fraction-requires : tie.Need-check-fraction-requires
 check-fraction-requires c κs = search needs
@@ -55,15 +63,19 @@ enum-told-6 c = search needs
 refusal-requires-3 : tie.Need-refusal-requires-3
 refusal-requires-3 c κs = search needs
 
+refused-requires-3 : tie.Need-refused-requires-3
+refused-requires-3 c κs = search needs
+
 returns-3 : tie.Need-returns-3
 returns-3 c =
-    let fraction = c .before .before .before in
+    let fraction = c .before .before .before .before in
     let sweeps = fraction .before .before .before in
     let pair = sweeps .before .before .before in
-    fraction-refused binary32 _ _ _ _ _ _ _ _
+    c .refused3 .ensures
+    ∙ fraction-refused binary32 _ _ _ _ _ _ _ _
     _ (pair .check-pair .ensures) (sweeps .before .enum-told .given .1)
     _ (sweeps .check-sweeps .ensures) (fraction .before .enum-told3 .given .1)
-    _ (fraction .check-fraction .ensures) _ (c .before .enum-told6 .given .1) _ (c .refusal3 .ensures)
+    _ (fraction .check-fraction .ensures) _ (c .before .before .enum-told6 .given .1) _ (c .before .refusal3 .ensures)
 
 check-slop-requires : tie.Need-check-slop-requires
 check-slop-requires c κs = search needs
@@ -77,17 +89,21 @@ enum-told-8 c = search needs
 refusal-requires-4 : tie.Need-refusal-requires-4
 refusal-requires-4 c κs = search needs
 
+refused-requires-4 : tie.Need-refused-requires-4
+refused-requires-4 c κs = search needs
+
 returns-4 : tie.Need-returns-4
 returns-4 c =
-    let slop = c .before .before .before in
+    let slop = c .before .before .before .before in
     let fraction = slop .before .before .before in
     let sweeps = fraction .before .before .before in
     let pair = sweeps .before .before .before in
-    slop-refused binary32 _ _ _ _ _ _ _ _
+    c .refused4 .ensures
+    ∙ slop-refused binary32 _ _ _ _ _ _ _ _
     _ (pair .check-pair .ensures) (sweeps .before .enum-told .given .1)
     _ (sweeps .check-sweeps .ensures) (fraction .before .enum-told3 .given .1)
     _ (fraction .check-fraction .ensures) (slop .before .enum-told5 .given .1)
-    _ (slop .check-slop .ensures) _ (c .before .enum-told8 .given .1) _ (c .refusal4 .ensures)
+    _ (slop .check-slop .ensures) _ (c .before .before .enum-told8 .given .1) _ (c .before .refusal4 .ensures)
 
 sweep-task-requires : tie.Need-sweep-task-requires
 sweep-task-requires c κs = search needs
@@ -118,21 +134,25 @@ sweep-time-of-impact-spec =
     enum-told
     enum-told-2
     refusal-requires
+    refused-requires
     returns
     check-sweeps-requires
     enum-told-3
     enum-told-4
     refusal-requires-2
+    refused-requires-2
     returns-2
     check-fraction-requires
     enum-told-5
     enum-told-6
     refusal-requires-3
+    refused-requires-3
     returns-3
     check-slop-requires
     enum-told-7
     enum-told-8
     refusal-requires-4
+    refused-requires-4
     returns-4
     sweep-task-requires
     advance-requires

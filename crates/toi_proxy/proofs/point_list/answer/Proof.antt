@@ -12,8 +12,11 @@ returns-2 c = simp (c .before .if1 .left, c .if2 .taken)
 cast-t7 : tie.Need-cast-t7
 cast-t7 c = search needs
 
+cast-t9 : tie.Need-cast-t9
+cast-t9 c = search needs
+
 returns-3 : tie.Need-returns-3
-returns-3 c = simp (c .before .before .if1 .left, c .before .if2 .left)
+returns-3 c = simp (c .before .before .before .if1 .left, c .before .before .if2 .left)
 
 pub answer-spec : {M : Type 1} → statement M
-answer-spec = tie.close (tie.spec returns returns-2 cast-t7 returns-3)
+answer-spec = tie.close (tie.spec returns returns-2 cast-t7 cast-t9 returns-3)

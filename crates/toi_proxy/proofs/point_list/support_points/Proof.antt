@@ -46,7 +46,7 @@ use denote.Triple.Spec.{Meets, tripleOf}
 use denote.Triple.Table.{entered, cited}
 use denote.Triple.Walked.{says, Stays, stay-none-slice, stay-none, walkOf, goes-none-slice, goes-none, Walks, ends-at, walked, walk-meets}
 use denote.Exit.{yes}
-use Rattle.model.specs.Support.{supportAnswer}
+use Rattle.model.specs.Second.{supportAnswer}
 use Rattle.model.specs.declared.Vector.{Vector}
 use Rattle.model.specs.declared.SupportAnswer.{SupportAnswer}
 use Rattle.model.proofs.Vector as P
@@ -237,7 +237,7 @@ module _ {M : Type 1} (𝓤 : URA M) (H : Heap 𝓤) (A : Atoms 𝓤) (W : Given
   is-start : Is S.the-row (start binary32) (stateVal (start binary32) ∷ [])
   is-start =
       let zero-fits = is-true _ (ofBits-fits binary32 0) in
-      LL.owes S.the-type S′.the-laws (start binary32) ((refl, zero-fits), ((refl, zero-fits), (refl, ((refl, lit< tt), ((refl, zero-fits), tt)))))
+      LL.owes S.the-type S′.the-laws (start binary32) ((refl, zero-fits), ((refl, zero-fits), (refl, ((refl, lit< tt), ((refl, lit< tt), ((refl, zero-fits), tt))))))
 
   module _ (𝓣 : Tables 𝓤 H) (fm : FmC 𝓤 H (W .laws) (𝓣 .C)) (known-reads : Triple 𝓤 (𝓣 .C #point-at) (Reads 𝓤 H A mem run))
       (known-take : Triple 𝓤 (𝓣 .C #take) (Takes 𝓤 H A mem run)) (known-answer : Triple 𝓤 (𝓣 .C #answer) (Answers 𝓤 H A mem run)) where
@@ -337,9 +337,9 @@ module _ {M : Type 1} (𝓤 : URA M) (H : Heap 𝓤) (A : Atoms 𝓤) (W : Given
         ∷ ‵ (froom word l₄ 0) ∷ ‵ (fdies word l₄) ∷ ‵ (froom S′.mir l₃ 0) ∷ ‵ (fdies S′.mir l₃)
         ∷ ‵ (fat fullShare P′.mir l₂ 0 (pointVal w)) ∷ ‵ (fdies P′.mir l₂) ∷ ‵ (fat fullShare list l₁ 0 listVal) ∷ ‵ (fdies list l₁)
         ∷ ‵ (froom R′.mir l₀ 0) ∷ ‵ (fdies R′.mir l₀) ∷ token ∷ [])
-        (runs C Λ (En l₀ l₁ l₂ l₃ l₄ l₅ l₆ l₇) (seq (assign (place 3 []) (aggregate (float binary32 0 ∷ float binary32 0 ∷ opdFalse ∷ int w64 0 ∷ float binary32 0 ∷ []))) (seq (assign (place 4 []) (rvOpd (int w64 0))) (seq (block (loop turn)) rest))) (atRet (En l₀ l₁ l₂ l₃ l₄ l₅ l₆ l₇) Post))
+        (runs C Λ (En l₀ l₁ l₂ l₃ l₄ l₅ l₆ l₇) (seq (assign (place 3 []) (aggregate (float binary32 0 ∷ float binary32 0 ∷ opdFalse ∷ int w64 0 ∷ int w64 0 ∷ float binary32 0 ∷ []))) (seq (assign (place 4 []) (rvOpd (int w64 0))) (seq (block (loop turn)) rest))) (atRet (En l₀ l₁ l₂ l₃ l₄ l₅ l₆ l₇) Post))
     begin l₀ l₁ l₂ l₃ l₄ l₅ l₆ l₇ =
-        assigns ! (agg ! (and-then ! (float-lit ! tt) (and-then ! (float-lit ! tt) (and-then ! (false-lit !) (and-then ! (lit ! tt) (and-then ! (float-lit ! tt) (no-more !))))))) (from ! (stop !)) (init ! 9 refl (LL.lawful S.the-type S′.the-laws 𝓤 H A W .typed (start binary32) _ is-start .0)) $
+        assigns ! (agg ! (and-then ! (float-lit ! tt) (and-then ! (float-lit ! tt) (and-then ! (false-lit !) (and-then ! (lit ! tt) (and-then ! (lit ! tt) (and-then ! (float-lit ! tt) (no-more !)))))))) (from ! (stop !)) (init ! 9 refl (LL.lawful S.the-type S′.the-laws 𝓤 H A W .typed (start binary32) _ is-start .0)) $
         assigns ! (of-opd ! (lit ! tt)) (from ! (stop !)) (init ! 7 refl (tt, record { fits = lit< tt })) $
         keep ! (1 ∷ 2 ∷ 3 ∷ 4 ∷ 5 ∷ 6 ∷ 7 ∷ 8 ∷ 9 ∷ 10 ∷ 11 ∷ 12 ∷ 13 ∷ 14 ∷ 15 ∷ 16 ∷ 17 ∷ 0 ∷ []) $ first ! $ blocks ! $
         loops ! 𝓣 Nearer Nearer-wf (At l₀ l₁ l₂ l₃ l₄ l₅ l₆ l₇) (turns l₀ l₁ l₂ l₃ l₄ l₅ l₆ l₇) (0, start binary32, zero-le, is-start, refl)

@@ -1,7 +1,7 @@
--- `work::told` meets its contract, case by case. Assumes nothing.
+-- `work::told_by` meets its contract, case by case. Assumes nothing.
 use borrow.Author.Needs.{needs}
-use Rattle.work.proofs.told.Statement.{statement}
-use Rattle.work.proofs.told.Tie as tie
+use Rattle.work.proofs.told_by.Statement.{statement}
+use Rattle.work.proofs.told_by.Tie as tie
 
 enum-known-answer : tie.Need-enum-known-answer
 enum-known-answer c = search needs
@@ -45,8 +45,8 @@ returns-4 c = simp (c .worked4 .ensures, c .before .before .answer4 .given .1)
 returns-5 : tie.Need-returns-5
 returns-5 c = simp (c .before .answer5 .given .1)
 
-pub told-spec : {M : Type 1} → statement M
-told-spec =
+pub told-by-spec : {M : Type 1} → statement M
+told-by-spec =
     tie.close
     (tie.spec
     enum-known-answer
