@@ -88,7 +88,8 @@ pub fn rows(seed: u64, count: usize) {
             let bad = good < all && i % 8 >= 6 && r.below(3) == 0;
             (if bad { good as u64 + r.below((all - good) as u64) } else { r.below(good as u64) }) as usize
         };
-        let mut k = Call { a: below(GOOD.outlines, 128), b: below(GOOD.outlines, 128), pose: below(GOOD.poses, 64), cache: below(64, 64), pair: 0, radii: below(GOOD.radii, 32), use_radii: i % 2 == 1 };
+        let (a, b, pose, cache) = (below(GOOD.outlines, 128), below(GOOD.outlines, 128), below(GOOD.poses, 64), below(64, 64));
+        let mut k = Call { a, b, pose, cache, pair: 0, radii: below(GOOD.radii, 32), use_radii: i % 2 == 1 };
         if i % 100 == 5 && !found.is_empty() {
             k = Call { radii: k.radii, use_radii: k.use_radii, ..slow(&p, found[i / 100 % found.len()]) };
         }

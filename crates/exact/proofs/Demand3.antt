@@ -52,7 +52,8 @@ of-three (x ∷ y ∷ z ∷ w ∷ l) h = absurd (clash (length l) h)
 
 module _ (f : Format) {bound : ℕ} (room : Room f bound) {p : Pose} {a b : List Float} (paper : SquaredPaper bound p a b) (domain : InDomain paper) where
   -- its entries before the count are the slots' corners
-  spans-written : {la lb : List ℕ} (pair n : ℕ) → Three la → Three lb → {s : List SimplexVertex} {m : ℕ} → Slots f room paper domain s m → Spanned f room paper domain s m
+  spans-written : {la lb : List ℕ} (pair n : ℕ) → Three la → Three lb → {s : List SimplexVertex} {m : ℕ}
+      → Slots f room paper domain s m → Spanned f room paper domain s m
       → SpansNearestPlace (outlineA paper) (posedB paper) (written pair (cache 0 n la lb) s m)
   unfolding replaced
   spans-written pair n these these (one x) S = record {
@@ -79,7 +80,8 @@ module _ (f : Format) {bound : ℕ} (room : Room f bound) {p : Pose} {a b : List
       → Exact (outlineA paper) (posedB paper) (r .ending) (cacheBy (r .ending) pair c r)
   exact-end pair c arrays r h n = go (r .ending) h n
     where
-      go : (e : Ending) → RightEnd f room paper domain e (r .simplex) (r .count) → (e ≡ RoundLimit → ⊥) → Exact (outlineA paper) (posedB paper) e (cacheBy e pair c r)
+      go : (e : Ending) → RightEnd f room paper domain e (r .simplex) (r .count) → (e ≡ RoundLimit → ⊥)
+          → Exact (outlineA paper) (posedB paper) e (cacheBy e pair c r)
       go Touching h n = record { touchingShares = λ e. h; sharingTouches = λ s. refl; otherwiseNearest = λ k. absurd (k refl) }
       go Settled h n = record {
         touchingShares = λ e. absurd (not-both e);

@@ -178,7 +178,8 @@ stale-nearest f =
 
 pub apart-share-nothing : SharesPoint (outlineA (paperApart binary32)) (posedB (paperApart binary32)) → ⊥
 apart-share-nothing h =
-    settled-is-not-touching (tells binary32 apart (apart-on-paper binary32) none (three refl refl) Settled (computed .apartEnds) settled-is-not-limit .sharingTouches h)
+    settled-is-not-touching
+    (tells binary32 apart (apart-on-paper binary32) none (three refl refl) Settled (computed .apartEnds) settled-is-not-limit .sharingTouches h)
 
 pub joined-share : SharesPoint (outlineA paperJoined) (posedB paperJoined)
 joined-share = tells binary32 joined joined-on-paper none (three refl refl) Touching (computed .joinedEnds) touching-is-not-limit .touchingShares refl

@@ -64,7 +64,8 @@ pub limit-never-reached : (f : Format) (bound : ℕ) → Room f bound → Enough
 unfolding proxyDistance measure
 limit-never-reached f bound room enough p a ra b rb radii pair c paper o answered = go (distanceRefusal f p a ra b rb pair c) (λ h. h) answered
   where
-    go : (n : ℕ) → (n ≡ 0 → distanceRefusal f p a ra b rb pair c ≡ 0) → distanceBy f p a ra b rb radii pair c n .answer ≡ Measured o → o .ending ≡ RoundLimit → ⊥
+    go : (n : ℕ) → (n ≡ 0 → distanceRefusal f p a ra b rb pair c ≡ 0) → distanceBy f p a ra b rb radii pair c n .answer ≡ Measured o
+        → o .ending ≡ RoundLimit → ⊥
     go zero none is limit =
         let r = rounds f a b p c in
         let told : measure f p a ra b rb radii pair c .output ≡ o = cc in

@@ -25,8 +25,8 @@ use Rattle.model.specs.Ground as Ground
 use Rattle.model.specs.Domain.{pairRefusal, poseRefusal, ofOtherPair, cacheRefusal, orElse}
 use Rattle.model.specs.Distance.{cache, cacheBy, startSimplex, rounds, measure, inputsRefusal, distanceRefusal, distanceBy, proxyDistance}
 use Rattle.model.specs.Separation.{newSeparation}
-use Rattle.model.specs.SweepToi.{sweepPair, noCorners, noCounts, called, overlapped, hit, failedAt, PushEnd, ended, moved, onward, high, closestAt, pushFrom}
-use Rattle.model.specs.SweepToi.{advanceBy, advanceFrom, sweepTask, sweepRefusal, sweepBy, sweepTimeOfImpact}
+use Rattle.model.specs.SweepToi.{sweepPair, noCorners, noCounts, called, overlapped, hit, PushEnd, ended, moved, onward, high}
+use Rattle.model.specs.SweepToi.{closestAt, pushFrom, advanceBy, advanceFrom, sweepTask, sweepRefusal, sweepBy, sweepTimeOfImpact}
 use Rattle.model.specs.PairNumber.{corners, unnumbered, unnumberedBy, unnumberedDistance, checkedFrom, checkedBy, checkedSweep}
 use Rattle.model.proofs.Domain.{first-most, pair-at-most-4, pose-at-most-6}
 use Rattle.model.proofs.SweepToi.{Counted, sweep-counts-bounded}
