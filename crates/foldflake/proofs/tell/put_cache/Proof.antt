@@ -32,7 +32,7 @@ array-read-words-3 : tie.Need-array-read-words-3
 array-read-words-3 c = search needs
 
 slice-write-words-5 : tie.Need-slice-write-words-5
-slice-write-words-5 c = search needs
+slice-write-words-5 c = simp length-set (omega arith)
 
 array-read-words-4 : tie.Need-array-read-words-4
 array-read-words-4 c = search needs
