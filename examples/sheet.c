@@ -16,9 +16,9 @@ static int status(const char *line) {
 static int small_calls(void) {
   const float square[8] = {-1, -1, 1, -1, 1, 1, -1, 1};
   const float apart[6] = {1, 0, 4, 0, 0, 0};
-  uint32_t cache[7] = {0};
+  uint32_t cache[8] = {0};
   float measured[7];
-  uint32_t answer = foldflake_distance(square, 8, square, 8, apart, 6, 0, cache, 7, measured, 7);
+  uint32_t answer = foldflake_distance(square, 8, square, 8, apart, 6, 0, 41, cache, 8, measured, 7);
   if (FOLDFLAKE_ENDING(answer) != FOLDFLAKE_DISTANCE_SETTLED) return 0;
   fprintf(stderr, "distance: rounds %u, distance %g\n", FOLDFLAKE_ROUNDS(answer), measured[6]);
 

@@ -5,9 +5,9 @@
 
      const float square[8] = {-1, -1, 1, -1, 1, 1, -1, 1};
      const float numbers[6] = {1, 0, 4, 0, 0, 0};           B unturned, moved by (4, 0), no radii
-     uint32_t cache[7] = {0};
+     uint32_t cache[8] = {0};                               to be kept with this pair, number 41
      float out[7];
-     uint32_t answer = foldflake_distance(square, 8, square, 8, numbers, 6, 0, cache, 7, out, 7);
+     uint32_t answer = foldflake_distance(square, 8, square, 8, numbers, 6, 0, 41, cache, 8, out, 7);
      if (FOLDFLAKE_ENDING(answer) == FOLDFLAKE_DISTANCE_SETTLED) printf("%g apart\n", out[6]);
 
    A list that is written may not overlap another. That apart, every call has an answer, whatever the lists hold.
@@ -65,12 +65,14 @@ uint32_t foldflake_sweep(const float *points_a, size_t numbers_in_a, const float
 
 /* The distance of two outlines in the frame of A.
    numbers, 6: the rotation c s and the translation x y of B, radius of A, of B; the radii count where use_radii is not 0.
-   cache, 7: how many corner pairs, then three indices of A and three of B (of points, from 0); all 0 for a first call.
+   pair: any number that the caller has for these two outlines, always the same one.
+   cache, 8: the number of its pair, how many corner pairs, then three indices of A and three of B (of points, from 0); all 0 for a first call. A
+   call that settles or runs out of rounds writes the number and the corner pairs; one that touches leaves all as it was.
    out, 7: point of A x y, point of B x y, normal x y, distance.
-   The answer is a refusal, 1 to 6; or FOLDFLAKE_DISTANCE_.. plus 256 times the rounds; or FOLDFLAKE_WRONG_LENGTH, also for a count in the cache
-   above 255. On a refusal or a wrong length cache and out are as they were. */
+   The answer is a refusal, 1 to 6, or 12 where the cache has corner pairs under another number; or FOLDFLAKE_DISTANCE_.. plus 256 times the rounds;
+   or first of all FOLDFLAKE_WRONG_LENGTH, also for a count in the cache above 255. On a refusal or a wrong length cache and out are as they were. */
 uint32_t foldflake_distance(const float *points_a, size_t numbers_in_a, const float *points_b, size_t numbers_in_b, const float *numbers,
-                            size_t numbers_len, uint32_t use_radii, uint32_t *cache, size_t cache_len, float *out, size_t out_len);
+                            size_t numbers_len, uint32_t use_radii, uint32_t pair, uint32_t *cache, size_t cache_len, float *out, size_t out_len);
 
 /* Outlines without typing corners. The corners go to the front of out, x y each, and the rest of out stays as it was.
 

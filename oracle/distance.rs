@@ -1,4 +1,4 @@
-//! Stored distance calls: a pool, then rows of 18 words (see docs/REPLAYS.md).
+//! Stored distance calls: a pool, then rows of 20 words (see docs/REPLAYS.md).
 use crate::counts;
 use crate::domain;
 use crate::ground::bits;
@@ -15,19 +15,23 @@ pub struct Call {
     pub b: usize,
     pub pose: usize,
     pub cache: usize,
+    pub pair: u32,
     pub radii: usize,
     pub use_radii: bool,
 }
 
 /// The number of refusal or 16 + the ending, the rounds, seven floats, and the cache afterwards.
-pub fn answer(p: &Pool, k: Call) -> [u32; 16] {
-    let (a, b, pose, mut cache, (ra, rb)) = (&p.outlines[k.a], &p.outlines[k.b], p.poses[k.pose], p.caches[k.cache], p.radii[k.radii]);
-    let mut w = [0; 16];
-    w[0] = domain::or(domain::pair(a, b, ra, rb), || domain::pose(&pose));
+pub fn answer(p: &Pool, k: Call) -> [u32; 17] {
+    let (a, b, pose, mut kept, (ra, rb)) = (&p.outlines[k.a], &p.outlines[k.b], p.poses[k.pose], p.caches[k.cache], p.radii[k.radii]);
+    let mut w = [0; 17];
+    w[0] = domain::or(domain::or(domain::pair(a, b, ra, rb), || domain::pose(&pose)), || domain::cache(kept.cache.count, kept.pair, k.pair));
     if w[0] == 0 {
         let (pa, pb) = (points(a), points(b));
-        let o = proxy_distance(&pose, &ToiProxy::from_points(&pa, ra), &ToiProxy::from_points(&pb, rb), k.use_radii, &mut cache);
+        let o = proxy_distance(&pose, &ToiProxy::from_points(&pa, ra), &ToiProxy::from_points(&pb, rb), k.use_radii, &mut kept.cache);
         w[0] = 16 + counts::last_ending();
+        if counts::last_ending() != counts::TOUCHING {
+            kept.pair = k.pair;
+        }
         w[1] = o.iterations;
         let v = |v: Vector| [v.x, v.y];
         let floats = [v(o.point_a), v(o.point_b), v(o.normal)].concat().into_iter().chain([o.distance]);
@@ -35,7 +39,7 @@ pub fn answer(p: &Pool, k: Call) -> [u32; 16] {
             w[2 + i] = bits(x);
         }
     }
-    w[9..].copy_from_slice(&cache_words(&cache));
+    w[9..].copy_from_slice(&cache_words(&kept));
     w
 }
 
@@ -55,8 +59,8 @@ fn slow_call(r: &mut Random, p: &mut Pool, k: usize) -> bool {
         let off = r.pick(&[0.0f32, 1e-6, 1e-3, 1.0]) * size;
         p.poses[k] = Pose::from_parts(Vector::new(off * r.unit(), off * r.unit()), pool::angle(r));
         let mut index = |n: u64| [r.below(n) as u32, r.below(n) as u32, r.below(n) as u32];
-        p.caches[k] = SimplexCache { index_a: index(na), index_b: index(nb), count: (k % 4) as u8 };
-        if answer(p, slow(k))[0] == 16 + counts::ROUND_LIMIT {
+        p.caches[k].cache = SimplexCache { index_a: index(na), index_b: index(nb), count: (k % 4) as u8 };
+        if answer(p, slow(p, k))[0] == 16 + counts::ROUND_LIMIT {
             return true;
         }
     }
@@ -67,8 +71,8 @@ fn slot(k: usize) -> usize {
     GOOD.outlines - 20 + 2 * k
 }
 
-fn slow(k: usize) -> Call {
-    Call { a: slot(k), b: slot(k) + 1, pose: k, cache: k, radii: 0, use_radii: false }
+fn slow(p: &Pool, k: usize) -> Call {
+    Call { a: slot(k), b: slot(k) + 1, pose: k, cache: k, pair: p.caches[k].pair, radii: 0, use_radii: false }
 }
 
 pub fn rows(seed: u64, count: usize) {
@@ -84,15 +88,18 @@ pub fn rows(seed: u64, count: usize) {
             let bad = good < all && i % 8 >= 6 && r.below(3) == 0;
             (if bad { good as u64 + r.below((all - good) as u64) } else { r.below(good as u64) }) as usize
         };
-        let mut k = Call { a: below(GOOD.outlines, 128), b: below(GOOD.outlines, 128), pose: below(GOOD.poses, 64), cache: below(64, 64), radii: below(GOOD.radii, 32), use_radii: i % 2 == 1 };
+        let (a, b, pose, cache) = (below(GOOD.outlines, 128), below(GOOD.outlines, 128), below(GOOD.poses, 64), below(64, 64));
+        let mut k = Call { a, b, pose, cache, pair: 0, radii: below(GOOD.radii, 32), use_radii: i % 2 == 1 };
         if i % 100 == 5 && !found.is_empty() {
-            k = Call { radii: k.radii, use_radii: k.use_radii, ..slow(found[i / 100 % found.len()]) };
+            k = Call { radii: k.radii, use_radii: k.use_radii, ..slow(&p, found[i / 100 % found.len()]) };
         }
+        // the cache's own number, but in a fifth of the rows one that differs in a single bit
+        k.pair = p.caches[k.cache].pair ^ if i % 5 == 3 { 1 << (i / 5 % 32) } else { 0 };
         let w = answer(&p, k);
         seen[w[0] as usize] += 1;
-        let input = [k.a as u32 | (k.b as u32) << 8 | (k.pose as u32) << 16 | (k.cache as u32) << 24, k.radii as u32 | (k.use_radii as u32) << 8];
+        let input = [k.a as u32 | (k.b as u32) << 8 | (k.pose as u32) << 16 | (k.cache as u32) << 24, k.radii as u32 | (k.use_radii as u32) << 8, k.pair];
         out.row(&[&input[..], &w[..]].concat());
     }
     out.end();
-    eprintln!("refused 1 to 6: {:?}; touching {}, settled {}, round limit {}", &seen[1..7], seen[16], seen[17], seen[18]);
+    eprintln!("refused 1 to 6: {:?}, by 12: {}; touching {}, settled {}, round limit {}", &seen[1..7], seen[12], seen[16], seen[17], seen[18]);
 }

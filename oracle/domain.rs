@@ -45,6 +45,11 @@ pub fn pose(p: &Pose) -> u32 {
     first(&[(5, bad_rotation(p.rotation)), (6, bad_vector(p.translation))])
 }
 
+/// Number 12: a cache of so many corner pairs has the caller's number, unless it is empty.
+pub fn cache(count: u8, number: u32, callers: u32) -> u32 {
+    first(&[(12, count != 0 && number != callers)])
+}
+
 /// Numbers 5 to 8 of a sweep.
 pub fn sweep(a: &Sweep, b: &Sweep, max_fraction: f32, slop: f32) -> u32 {
     let centres = |w: &Sweep| bad_vector(w.local_center) || bad_vector(w.c1) || bad_vector(w.c2);

@@ -82,10 +82,17 @@ fn bad_numbers(good: f32) -> [f32; 6] {
     [f32::NAN, f32::INFINITY, f32::NEG_INFINITY, ABOVE_LIMIT, -ABOVE_LIMIT, good]
 }
 
+/// A cache with the number of its pair, which the published text does not know.
+#[derive(Copy, Clone)]
+pub struct Numbered {
+    pub pair: u32,
+    pub cache: SimplexCache,
+}
+
 pub struct Pool {
     pub outlines: Vec<Outline>,
     pub poses: Vec<Pose>,
-    pub caches: Vec<SimplexCache>,
+    pub caches: Vec<Numbered>,
     pub radii: Vec<(f32, f32)>,
     pub moves: Vec<Sweep>,
     pub fractions: Vec<f32>,
@@ -95,27 +102,27 @@ pub struct Pool {
 impl Pool {
     /// Where each outline starts among these words and how many numbers it has, poses, caches, radii, moves, fractions, slops, and the outlines.
     pub fn words(&self) -> Vec<u32> {
-        let mut w = vec![0; 2352];
+        let mut w = vec![0; 2416];
         for (i, s) in self.outlines.iter().enumerate() {
             w[2 * i] = w.len() as u32;
             w[2 * i + 1] = s.len() as u32;
             w.extend(s.iter().map(|x| x.to_bits()));
         }
         for (i, c) in self.caches.iter().enumerate() {
-            w[512 + 7 * i..519 + 7 * i].copy_from_slice(&cache_words(c));
+            w[512 + 8 * i..520 + 8 * i].copy_from_slice(&cache_words(c));
         }
         let mut put = |at: usize, numbers: &[f32]| numbers.iter().enumerate().for_each(|(k, x)| w[at + k] = x.to_bits());
         for (i, p) in self.poses.iter().enumerate() {
             put(256 + 4 * i, &[p.rotation.c, p.rotation.s, p.translation.x, p.translation.y]);
         }
         for (i, x) in self.radii.iter().enumerate() {
-            put(960 + 2 * i, &[x.0, x.1]);
+            put(1024 + 2 * i, &[x.0, x.1]);
         }
         for (i, m) in self.moves.iter().enumerate() {
-            put(1024 + 10 * i, &move_numbers(m));
+            put(1088 + 10 * i, &move_numbers(m));
         }
-        put(2304, &self.fractions);
-        put(2320, &self.slops);
+        put(2368, &self.fractions);
+        put(2384, &self.slops);
         w
     }
 }
@@ -124,8 +131,9 @@ pub fn move_numbers(m: &Sweep) -> [f32; 10] {
     [m.local_center.x, m.local_center.y, m.c1.x, m.c1.y, m.c2.x, m.c2.y, m.q1.c, m.q1.s, m.q2.c, m.q2.s]
 }
 
-pub fn cache_words(c: &SimplexCache) -> [u32; 7] {
-    [c.count as u32, c.index_a[0], c.index_a[1], c.index_a[2], c.index_b[0], c.index_b[1], c.index_b[2]]
+pub fn cache_words(n: &Numbered) -> [u32; 8] {
+    let c = &n.cache;
+    [n.pair, c.count as u32, c.index_a[0], c.index_a[1], c.index_a[2], c.index_b[0], c.index_b[1], c.index_b[2]]
 }
 
 /// How many of each kind are in the domain, of 128 outlines, 64 poses, 32 radii, 128 moves, 16 fractions and 32 slops.
@@ -158,6 +166,11 @@ pub fn movement(r: &mut Random) -> Sweep {
         q1,
         q2: if turns { angle(r) } else { q1 },
     }
+}
+
+/// The number of cache i's pair: 0, the largest, and any others, so that no other random number moves.
+fn pair_number(i: u32) -> u32 {
+    match i % 9 { 4 => 0, 8 => u32::MAX, _ => i.wrapping_mul(0x9e37_79b9) }
 }
 
 pub fn pool(r: &mut Random) -> Pool {
@@ -205,7 +218,7 @@ pub fn pool(r: &mut Random) -> Pool {
                 c.index_b[k] = r.below(most) as u32;
             }
             if i % 13 == 12 { c.index_b[(i % 3) as usize] = u32::MAX; }
-            c
+            Numbered { pair: pair_number(i), cache: c }
         })
         .collect();
 

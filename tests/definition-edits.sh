@@ -51,7 +51,7 @@ try e23-keeps-2-3 Simplex.antt refused \
 try support-takes-last Support.antt refused \
   '(cond (lt value v) i best) (cond (lt value v) v value)' '(cond (lt v value) best i) (cond (lt v value) value v)'
 try cache-on-touching Distance.antt refused \
-  'cacheBy Touching c r = c' 'cacheBy Touching c r = written c (r .simplex) (r .count)'
+  'cacheBy Touching pair c r = c' 'cacheBy Touching pair c r = written pair c (r .simplex) (r .count)'
 try nineteen-rounds Distance.antt passes \
   'maxIterations = 20' 'maxIterations = 19'
 try eighteen-rounds Distance.antt refused \
@@ -61,5 +61,5 @@ try region-strictly Simplex.antt refused \
 try support-along-d Distance.antt refused \
   'support f outlineB (inverseRotate f (pose .rotation) (negate d))' 'support f outlineB (inverseRotate f (pose .rotation) d)'
 try settled-writes-one Distance.antt refused \
-  'cacheBy Settled c r = written c (r .simplex) (r .count)' 'cacheBy Settled c r = written c (r .simplex) 1'
+  'cacheBy Settled pair c r = written pair c (r .simplex) (r .count)' 'cacheBy Settled pair c r = written pair c (r .simplex) 1'
 exit $bad

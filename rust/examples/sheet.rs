@@ -75,7 +75,7 @@ fn fill(input: &mut impl Read, block: &mut [u8; 512]) -> io::Result<usize> {
 fn small_calls() -> Result<(), Refusal> {
     let square = [-1.0, -1.0, 1.0, -1.0, 1.0, 1.0, -1.0, 1.0];
     let mut cache = Cache::default();
-    let measured = distance([1.0, 0.0], [4.0, 0.0], &square, 0.0, &square, 0.0, false, &mut cache)?;
+    let measured = distance([1.0, 0.0], [4.0, 0.0], &square, 0.0, &square, 0.0, false, 41, &mut cache)?;
     eprintln!("distance: {measured:?}");
     let upright = [1.0, 0.0];
     let goes = Move { local_center: [0.0; 2], first: [0.0; 2], last: [4.0, 0.0], first_rotation: upright, last_rotation: upright };

@@ -48,6 +48,7 @@ mod entry {
             numbers: *const f32,
             numbers_len: usize,
             use_radii: u32,
+            pair: u32,
             cache: *mut u32,
             cache_len: usize,
             out: *mut f32,
@@ -71,11 +72,12 @@ mod entry {
 /// | 6 | a translation or a centre is as in 3 |
 /// | 7 | the max fraction is not in 0 to 1 |
 /// | 8 | the slop is not above 0, above 1,048,576, or NaN |
+/// | 12 | the cache is of another pair: it has corner pairs, and not under the caller's number |
 /// | 15 | the lent list has no room for all corners |
 ///
 /// ```
 /// use foldflake::{distance, Cache, Refusal};
-/// let refusal = distance([1.0, 0.0], [0.0, 0.0], &[], 0.0, &[0.0, 0.0], 0.0, false, &mut Cache::default()).unwrap_err();
+/// let refusal = distance([1.0, 0.0], [0.0, 0.0], &[], 0.0, &[0.0, 0.0], 0.0, false, 41, &mut Cache::default()).unwrap_err();
 /// assert_eq!(refusal, Refusal(1));
 /// assert_eq!(refusal.to_string(), "refused by 1: outline A is empty, of odd length, or above 64 points");
 /// ```
@@ -96,6 +98,7 @@ impl fmt::Display for Refusal {
             6 => "a translation or a centre is not finite or above 1048576 in size",
             7 => "the max fraction is not in 0 to 1",
             8 => "the slop is not above 0, above 1048576, or not a number",
+            12 => "the cache is of another pair",
             15 => "the lent list has no room for all corners",
             _ => "no reason is known",
         };
@@ -226,18 +229,23 @@ pub enum Sweep {
     Failed(Contact, Counts, Corners),
 }
 
-/// The corner pairs from which the next distance call starts; `Cache::default()` for a first call.
+/// The corner pairs from which the next distance call starts, under the number of the two outlines' pair; `Cache::default()` for a first call.
 ///
-/// A count above 3, or an index that a list does not have, counts as an empty cache.
+/// A count above 3, or an index that a list does not have, counts as an empty cache. One that is not empty and has another number than the caller's is
+/// refused by 12.
 ///
 /// ```
-/// use foldflake::{distance, Cache};
+/// use foldflake::{distance, Cache, Refusal};
+/// let call = |pair, cache: &mut Cache| distance([1.0, 0.0], [3.0, 4.0], &[0.0, 0.0], 0.0, &[0.0, 0.0], 0.0, false, pair, cache);
 /// let mut cache = Cache::default();
-/// distance([1.0, 0.0], [3.0, 4.0], &[0.0, 0.0], 0.0, &[0.0, 0.0], 0.0, false, &mut cache).unwrap();
-/// assert_eq!(cache, Cache { count: 1, index_a: [0; 3], index_b: [0; 3] });
+/// call(41, &mut cache).unwrap();
+/// assert_eq!(cache, Cache { pair: 41, count: 1, index_a: [0; 3], index_b: [0; 3] });
+/// assert_eq!(call(42, &mut cache), Err(Refusal(12)));
 /// ```
 #[derive(Clone, Copy, Debug, Default, PartialEq, Eq)]
 pub struct Cache {
+    /// The number of the pair, as its caller gave it.
+    pub pair: u32,
     /// How many of the pairs count.
     pub count: u8,
     /// The corners of A, by their index.
@@ -251,7 +259,7 @@ pub struct Cache {
 /// ```
 /// use foldflake::{distance, Cache, Ending};
 /// let point = [0.0, 0.0];
-/// let at = |x| distance([1.0, 0.0], [x, 0.0], &point, 0.0, &point, 0.0, false, &mut Cache::default()).unwrap();
+/// let at = |x| distance([1.0, 0.0], [x, 0.0], &point, 0.0, &point, 0.0, false, 41, &mut Cache::default()).unwrap();
 /// assert_eq!(at(0.0).ending, Ending::Touching);
 /// assert_eq!(at(2.0).ending, Ending::Settled);
 /// ```
@@ -270,7 +278,7 @@ pub enum Ending {
 /// ```
 /// use foldflake::{distance, Cache};
 /// let point = [0.0, 0.0];
-/// let measured = distance([1.0, 0.0], [3.0, 4.0], &point, 1.0, &point, 0.5, true, &mut Cache::default()).unwrap();
+/// let measured = distance([1.0, 0.0], [3.0, 4.0], &point, 1.0, &point, 0.5, true, 41, &mut Cache::default()).unwrap();
 /// assert_eq!(measured.distance, 3.5);
 /// assert_eq!(measured.rounds, 1);
 /// ```
@@ -376,13 +384,14 @@ pub fn sweep(
 }
 
 /// The distance of two outlines, B turned by `rotation` (cosine, sine) and moved by `translation` in the frame of A. The radii count where
-/// `use_radii` says so, and are checked in any case. A refusal leaves the cache as it came.
+/// `use_radii` says so, and are checked in any case. `pair` is the caller's number for the two outlines, under which the cache is written. A refusal and
+/// a call that touches leave the cache as it came.
 ///
 /// ```
 /// use foldflake::{distance, Cache};
 /// let square = [-1.0, -1.0, 1.0, -1.0, 1.0, 1.0, -1.0, 1.0];
 /// let mut cache = Cache::default();
-/// let measured = distance([1.0, 0.0], [4.0, 0.0], &square, 0.0, &square, 0.0, false, &mut cache)?;
+/// let measured = distance([1.0, 0.0], [4.0, 0.0], &square, 0.0, &square, 0.0, false, 41, &mut cache)?;
 /// assert_eq!((measured.distance, measured.normal), (2.0, [1.0, 0.0]));
 /// # Ok::<(), foldflake::Refusal>(())
 /// ```
@@ -395,11 +404,12 @@ pub fn distance(
     points_b: &[f32],
     radius_b: f32,
     use_radii: bool,
+    pair: u32,
     cache: &mut Cache,
 ) -> Result<Distance, Refusal> {
     let numbers = [rotation[0], rotation[1], translation[0], translation[1], radius_a, radius_b];
     let (a, b) = (cache.index_a, cache.index_b);
-    let mut words = [cache.count as u32, a[0], a[1], a[2], b[0], b[1], b[2]];
+    let mut words = [cache.pair, cache.count as u32, a[0], a[1], a[2], b[0], b[1], b[2]];
     let mut out = [0f32; 7];
     // Safety: each list has the length handed over, and the two that are written are ours alone.
     let answer = unsafe {
@@ -411,6 +421,7 @@ pub fn distance(
             numbers.as_ptr(),
             numbers.len(),
             use_radii as u32,
+            pair,
             words.as_mut_ptr(),
             words.len(),
             out.as_mut_ptr(),
@@ -423,7 +434,7 @@ pub fn distance(
         18 => Ending::RoundLimit,
         number => return Err(Refusal(number)),
     };
-    *cache = Cache { count: words[0] as u8, index_a: [words[1], words[2], words[3]], index_b: [words[4], words[5], words[6]] };
+    *cache = Cache { pair: words[0], count: words[1] as u8, index_a: [words[2], words[3], words[4]], index_b: [words[5], words[6], words[7]] };
     Ok(Distance {
         point_a: [out[0], out[1]],
         point_b: [out[2], out[3]],
@@ -463,7 +474,7 @@ pub fn plate(half_sizes: [f32; 2], list: &mut [f32]) -> Result<&[f32], Refusal> 
 /// let mut list = [0.0; 4];
 /// let rail = bar([-3.0, 2.0], [3.0, 2.0], &mut list)?;
 /// assert_eq!(rail, [-3.0, 2.0, 3.0, 2.0]);
-/// let measured = distance([1.0, 0.0], [0.0, 0.0], &[0.0, 0.0], 0.0, rail, 0.0, false, &mut Cache::default())?;
+/// let measured = distance([1.0, 0.0], [0.0, 0.0], &[0.0, 0.0], 0.0, rail, 0.0, false, 41, &mut Cache::default())?;
 /// assert_eq!(measured.distance, 2.0);
 /// # Ok::<(), foldflake::Refusal>(())
 /// ```

@@ -111,17 +111,25 @@ fn separated_does_not_clear_a_turn() {
 
 #[test]
 fn a_distance_call_and_its_cache() {
-    let mut cache = Cache::default();
-    let measured = distance([1.0, 0.0], [4.0, 0.0], &SQUARE, 0.0, &SQUARE, 0.0, false, &mut cache).unwrap();
+    let mut cache = Cache { pair: 7, ..Cache::default() };
+    let at = |x, y, pair, cache: &mut Cache| distance([1.0, 0.0], [x, y], &SQUARE, 0.0, &SQUARE, 0.0, false, pair, cache);
+    assert_eq!(at(0.5, 0.5, 41, &mut cache).unwrap().ending, Ending::Touching);
+    assert_eq!(cache, Cache { pair: 7, ..Cache::default() }, "an empty cache has no pair, and touching leaves its number");
+    let measured = at(4.0, 0.0, 41, &mut cache).unwrap();
     assert_eq!((measured.distance, measured.normal, measured.ending), (2.0, [1.0, 0.0], Ending::Settled));
     assert!((1..=3).contains(&cache.count));
+    assert_eq!(cache.pair, 41, "a written cache has the caller's number");
     let kept = cache;
-    assert_eq!(distance([1.0, 0.0], [0.5, 0.5], &SQUARE, 0.0, &SQUARE, 0.0, false, &mut cache).unwrap().ending, Ending::Touching);
+    assert_eq!(at(0.5, 0.5, 41, &mut cache).unwrap().ending, Ending::Touching);
     assert_eq!(cache, kept, "touching leaves the cache");
-    assert_eq!(distance([1.0, 0.0], [f32::INFINITY, 0.0], &SQUARE, 0.0, &SQUARE, 0.0, false, &mut cache), Err(Refusal(6)));
+    assert_eq!(at(f32::INFINITY, 0.0, 41, &mut cache), Err(Refusal(6)));
+    assert_eq!(at(f32::INFINITY, 0.0, 42, &mut cache), Err(Refusal(6)), "6 comes before 12");
+    assert_eq!(at(4.0, 0.0, 42, &mut cache), Err(Refusal(12)));
     assert_eq!(cache, kept, "a refusal leaves the cache");
-    let mut wild = Cache { count: 255, index_a: [u32::MAX; 3], index_b: [7, 8, 9] };
-    assert_eq!(distance([1.0, 0.0], [3.0, 4.0], &POINT, 0.0, &POINT, 0.0, false, &mut wild).unwrap().distance, 5.0);
+    let mut wild = Cache { pair: 41, count: 255, index_a: [u32::MAX; 3], index_b: [7, 8, 9] };
+    let far = |pair, wild: &mut Cache| distance([1.0, 0.0], [3.0, 4.0], &POINT, 0.0, &POINT, 0.0, false, pair, wild);
+    assert_eq!(far(42, &mut wild), Err(Refusal(12)), "be it valid or not");
+    assert_eq!(far(41, &mut wild).unwrap().distance, 5.0);
 }
 
 fn bits(numbers: &[f32]) -> Vec<u32> {
@@ -139,7 +147,7 @@ fn every_corner_of_a_plate() {
             assert_eq!(bits(&corners), bits(&rule), "{x} {y}");
             assert_eq!(bits(&list[..8]), bits(&rule));
             assert_eq!(list[8..], [7.5; 3], "the rest stays");
-            let apart = distance([1.0, 0.0], [0.0, 0.0], &corners, 0.0, &POINT, 0.0, false, &mut Cache::default());
+            let apart = distance([1.0, 0.0], [0.0, 0.0], &corners, 0.0, &POINT, 0.0, false, 41, &mut Cache::default());
             assert!(apart.is_ok(), "a built plate is accepted");
         }
     }
@@ -166,7 +174,7 @@ fn placed_corners_are_turned_and_then_moved() {
     // what lies too far out is refused by the call that takes it
     let far = placed_bar([0.0; 2], [1_048_576.0, 0.0], [1.0, 0.0], [1_048_576.0, 0.0], &mut placed).unwrap().to_vec();
     assert_eq!(far, [1_048_576.0, 0.0, 2_097_152.0, 0.0]);
-    assert_eq!(distance([1.0, 0.0], [0.0; 2], &far, 0.0, &POINT, 0.0, false, &mut Cache::default()), Err(Refusal(3)));
+    assert_eq!(distance([1.0, 0.0], [0.0; 2], &far, 0.0, &POINT, 0.0, false, 41, &mut Cache::default()), Err(Refusal(3)));
 }
 
 /// The first that applies of 3, 5, 6 and 15, and a list that stays.

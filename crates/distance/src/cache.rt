@@ -40,14 +40,15 @@ pub fn cache_is_valid(cache: SimplexCache, na: usize, nb: usize) -> bool
     all_below(na, index_a, count) & all_below(nb, index_b, count)
 }
 
-// The cache with the first count vertices; entries at or past the count keep what they held.
+// The cache with the pair's number and the first count vertices; entries at or past the count keep what they held.
 pub(crate) fn write_cache(
+    pair: u32,
     cache: SimplexCache,
     simplex: [SimplexVertex; 3],
     count: usize,
 ) -> SimplexCache
     requires { ⌜ count ≤ 3 ⌝ }
-    ensures { λ r. ⌜ r ≡ Model.written cache simplex count ⌝ }
+    ensures { λ r. ⌜ r ≡ Model.written pair cache simplex count ⌝ }
 {
     let mut index_a = cache.index_a;
     let mut index_b = cache.index_b;
@@ -58,6 +59,7 @@ pub(crate) fn write_cache(
         i += 1;
     }
     SimplexCache {
+        pair,
         count: count as u8,
         index_a,
         index_b,

@@ -2,6 +2,7 @@
 // comes again or the outlines touch. All is done in the frame of A.
 use crate::cache::cache_is_valid;
 use crate::cache::write_cache;
+use domain::check_cache;
 use domain::check_pair;
 use domain::check_pose;
 use domain::pose_refusal;
@@ -250,7 +251,8 @@ fn apart(
     }
 }
 
-// The distance of any two lists at any pose, with nothing checked, and the cache as the call leaves it: Touching does not write it.
+// The distance of any two lists at any pose, with nothing checked, and the cache as the call leaves it: Touching does not write it, and what is
+// written carries the pair's number.
 pub fn measure(
     pos12: Pose,
     points_a: &[f32],
@@ -258,9 +260,10 @@ pub fn measure(
     points_b: &[f32],
     radius_b: f32,
     use_radii: bool,
+    pair: u32,
     cache: SimplexCache,
 ) -> Measurement
-    ensures { λ r. ⌜ r ≡ Model.measure binary32 pos12 (now («points_a» .entry)) «radius_a» (now («points_b» .entry)) «radius_b» «use_radii» cache ⌝ }
+    ensures { λ r. ⌜ r ≡ Model.measure binary32 pos12 (now («points_a» .entry)) «radius_a» (now («points_b» .entry)) «radius_b» «use_radii» pair cache ⌝ }
 {
     let ended = rounds(pos12, points_a, points_b, cache);
     let simplex = ended.simplex;
@@ -282,7 +285,7 @@ pub fn measure(
         Measurement { output, cache }
     } else {
         let output = apart(use_radii, radius_a, radius_b, w, ended);
-        let written = write_cache(cache, simplex, count);
+        let written = write_cache(pair, cache, simplex, count);
         Measurement {
             output,
             cache: written,
@@ -290,7 +293,8 @@ pub fn measure(
     }
 }
 
-// The distance of two outlines that pass the checks, or the number of their refusal, with the cache then as it came.
+// The distance of two outlines that pass the checks, by a cache of their pair or an empty one; or the number of the refusal, with the cache then as
+// it came.
 pub fn proxy_distance(
     pos12: Pose,
     points_a: &[f32],
@@ -298,13 +302,14 @@ pub fn proxy_distance(
     points_b: &[f32],
     radius_b: f32,
     use_radii: bool,
+    pair: u32,
     cache: SimplexCache,
 ) -> Distance
-    ensures { λ r. ⌜ r ≡ Model.proxyDistance binary32 pos12 (now («points_a» .entry)) «radius_a» (now («points_b» .entry)) «radius_b» «use_radii» cache ⌝ }
+    ensures { λ r. ⌜ r ≡ Model.proxyDistance binary32 pos12 (now («points_a» .entry)) «radius_a» (now («points_b» .entry)) «radius_b» «use_radii» pair cache ⌝ }
 {
-    let pair = check_pair(points_a, points_b, radius_a, radius_b);
-    let Checked::Passed = pair else {
-        let number = refusal(pair);
+    let outlines = check_pair(points_a, points_b, radius_a, radius_b);
+    let Checked::Passed = outlines else {
+        let number = refusal(outlines);
         return Distance {
             answer: DistanceAnswer::Refused(number),
             cache,
@@ -318,6 +323,14 @@ pub fn proxy_distance(
             cache,
         };
     };
+    let owned = check_cache(pair, cache);
+    let Checked::Passed = owned else {
+        let number = refusal(owned);
+        return Distance {
+            answer: DistanceAnswer::Refused(number),
+            cache,
+        };
+    };
     let measured = measure(
         good,
         points_a,
@@ -325,6 +338,7 @@ pub fn proxy_distance(
         points_b,
         radius_b,
         use_radii,
+        pair,
         cache,
     );
     let output = measured.output;

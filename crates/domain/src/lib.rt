@@ -1,4 +1,4 @@
-// The checks of what a caller hands in, by the numbers of refusal 1 to 8 in their order. The caller takes each answer apart by `let .. else`,
+// The checks of what a caller hands in, by the numbers of refusal 1 to 8 in their order, and 12. The caller takes each answer apart by `let .. else`,
 // and hands on the number.
 mod bad;
 
@@ -11,6 +11,7 @@ pub use bad::bad_vector;
 use model::Checked;
 use model::CheckedPose;
 use model::Pose;
+use model::SimplexCache;
 use model::Sweep;
 ghost use mathlib.Core.Path.{_≡_};
 ghost use lib.Ieee.{binary32};
@@ -100,6 +101,17 @@ pub fn check_slop(x: f32) -> Checked
         Checked::Passed
     } else {
         Checked::Refused(8)
+    }
+}
+
+// A cache that is not empty has the number of its pair: 12. Whether its entries name points is not asked here.
+pub fn check_cache(pair: u32, cache: SimplexCache) -> Checked
+    ensures { λ r. ⌜ r ≡ Domain.checked (Domain.cacheRefusal pair cache) ⌝ }
+{
+    if (cache.count > 0) & (cache.pair != pair) {
+        Checked::Refused(12)
+    } else {
+        Checked::Passed
     }
 }
 

@@ -17,7 +17,7 @@ use Rattle.integers.proofs.Compare.{le-exact}
 use Rattle.model.specs.declared.Pose.{Pose}
 use Rattle.model.specs.Ground.{constant, one, abs}
 use Rattle.model.specs.Domain.{badOutline, limit, badPart, badParts, squared, badRotation}
-use Rattle.model.specs.Distance.{measure, distanceRefusal, distanceBy, proxyDistance}
+use Rattle.model.specs.Distance.{measure, inputsRefusal, distanceRefusal, distanceBy, proxyDistance}
 use Rattle.model.specs.Support.{point}
 use Rattle.exact.specs.Plane.{Point}
 use Rattle.exact.specs.SquaredPaper.{IsPoint, Near, SquaredPaper, Fits, Answered}
@@ -120,10 +120,11 @@ quarter-turn-accepted f {p = p} paper =
 -- ---- the call
 pub accepted : (f : Format) (bound : ℕ) → Answered f bound
 unfolding proxyDistance
-accepted f bound p a ra b rb radii c paper domain = (measure f p a ra b rb radii c .output, ap (λ (n : ℕ). distanceBy f p a ra b rb radii c n .answer) none-refused)
+accepted f bound p a ra b rb radii pair c paper domain own =
+    (measure f p a ra b rb radii pair c .output, ap (λ (n : ℕ). distanceBy f p a ra b rb radii pair c n .answer) none-refused)
   where
-    none-refused : distanceRefusal f p a ra b rb ≡ 0
-    none-refused =
+    inputs-pass : inputsRefusal f p a ra b rb ≡ 0
+    inputs-pass =
         let goodA = good-length a (domain .pointsA) in
         let goodB = good-length b (domain .pointsB) in
         let partsA = small-points f a (paper .cornerA) (domain .pointsA) (paper .wholeA) (domain .nearA) in
@@ -131,3 +132,6 @@ accepted f bound p a ra b rb radii c paper domain = (measure f p a ra b rb radii
         let shiftX = small-part f (paper .wholeShift .x) (domain .nearShift .x) in
         let shiftY = small-part f (paper .wholeShift .y) (domain .nearShift .y) in
         rw (goodA, goodB, partsA, partsB, domain .radii .0, domain .radii .1, quarter-turn-accepted f paper, shiftX, shiftY) refl
+
+    none-refused : distanceRefusal f p a ra b rb pair c ≡ 0
+    none-refused = rw (inputs-pass, own)

@@ -14,8 +14,10 @@ use Rattle.integers.specs.Signed.{Int, ofNat, _≼_, _≺_, _≃_}
 use Rattle.integers.specs.Whole.{signed, IsWhole, Within, Test}
 use Rattle.integers.proofs.Compare.{le-exact}
 use Rattle.model.specs.declared.Pose.{Pose}
+use Rattle.model.specs.declared.SimplexCache.{SimplexCache}
 use Rattle.model.specs.Ground.{abs}
-use Rattle.model.specs.Domain.{badOutline, limit, badPart, badParts, badRotation, badVector, pairRefusal, poseRefusal, orElse}
+use Rattle.model.specs.Domain.{badOutline, limit, badPart, badParts, badRotation, badVector, pairRefusal, poseRefusal, cacheRefusal}
+use Rattle.model.specs.Distance.{inputsRefusal, distanceRefusal}
 use Rattle.model.proofs.Domain.{test-passed, neither-refused}
 use Rattle.model.proofs.DistanceCall.{neither}
 use Rattle.exact.specs.SquaredPaper.{SquaredPaper}
@@ -65,9 +67,10 @@ module _ (f : Format) where
 
 -- ---- the inputs
 pub answered-in-domain : (f : Format) {bound : ℕ} {p : Pose} {a b : List Float} (ra rb : Float) (paper : SquaredPaper bound p a b)
-    → orElse (pairRefusal f a b ra rb) (poseRefusal f p) ≡ 0 → InDomain paper
-answered-in-domain f {p = p} {a} {b} ra rb paper h =
-    let (pairs, poses) = neither-refused (pairRefusal f a b ra rb) (poseRefusal f p) h in
+    (pair : ℕ) (c : SimplexCache) → distanceRefusal f p a ra b rb pair c ≡ 0 → InDomain paper
+answered-in-domain f {p = p} {a} {b} ra rb paper pair c h =
+    let (inputs, _) = neither-refused (inputsRefusal f p a ra b rb) (cacheRefusal pair c) h in
+    let (pairs, poses) = neither-refused (pairRefusal f a b ra rb) (poseRefusal f p) inputs in
     let (goodA, rest) = test-passed (badOutline a) 0 _ pairs in
     let (goodB, rest') = test-passed (badOutline b) 1 _ rest in
     let (goodParts, _) = test-passed (badParts f a || badParts f b) 2 _ rest' in

@@ -28,7 +28,7 @@ use Rattle.exact.proofs.Kept.{two}
 use Rattle.exact.proofs.Sheets.{on-squared-paper}
 use Rattle.exact.proofs.NoCircles.{no-circles-on-squared-paper}
 use Rattle.exact.proofs.Shorter.{least-by-level}
-use Rattle.exact.proofs.Instances.{none, call}
+use Rattle.exact.proofs.Instances.{none, ours, call}
 
 -- ---- the sheets: two segments each
 abbrev pub falling : Sheet
@@ -132,7 +132,7 @@ module _ (s : Sheet) where
       → NearerAt paper n
   says paper o answered k n r g =
       no-circles-on-squared-paper binary32 (drawnPose binary32 s) (drawn binary32 (s .a)) (Ground.zero binary32) (drawn binary32 (s .b))
-      (Ground.zero binary32) false none
+      (Ground.zero binary32) false ours none
       (on-squared-paper binary32 s 16 paper) o answered 20 k (at s n) r g
 
 pub falling-nearer : NearerAt falling falling-on-paper 2

@@ -52,22 +52,23 @@ of-three (x ∷ y ∷ z ∷ w ∷ l) h = absurd (clash (length l) h)
 
 module _ (f : Format) {bound : ℕ} (room : Room f bound) {p : Pose} {a b : List Float} (paper : SquaredPaper bound p a b) (domain : InDomain paper) where
   -- its entries before the count are the slots' corners
-  spans-written : {la lb : List ℕ} (n : ℕ) → Three la → Three lb → {s : List SimplexVertex} {m : ℕ} → Slots f room paper domain s m → Spanned f room paper domain s m
-      → SpansNearestPlace (outlineA paper) (posedB paper) (written (cache n la lb) s m)
+  spans-written : {la lb : List ℕ} (pair n : ℕ) → Three la → Three lb → {s : List SimplexVertex} {m : ℕ}
+      → Slots f room paper domain s m → Spanned f room paper domain s m
+      → SpansNearestPlace (outlineA paper) (posedB paper) (written pair (cache 0 n la lb) s m)
   unfolding replaced
-  spans-written n these these (one x) S = record {
+  spans-written pair n these these (one x) S = record {
     corners = valid-by-entries 1 _ _ (length a / 2) (length b / 2) tt (below1 _ (x .inA)) (below1 _ (x .inB));
     weight = S .weight;
     some = S .some;
     nearest = S .nearest;
   }
-  spans-written n these these (two x y) S = record {
+  spans-written pair n these these (two x y) S = record {
     corners = valid-by-entries 2 _ _ (length a / 2) (length b / 2) tt (below2 _ (x .inA) (y .inA)) (below2 _ (x .inB) (y .inB));
     weight = S .weight;
     some = S .some;
     nearest = S .nearest;
   }
-  spans-written n these these (three x y z) S = record {
+  spans-written pair n these these (three x y z) S = record {
     corners = valid-by-entries 3 _ _ (length a / 2) (length b / 2) tt (below3 _ (x .inA) (y .inA) (z .inA)) (below3 _ (x .inB) (y .inB) (z .inB));
     weight = S .weight;
     some = S .some;
@@ -75,16 +76,17 @@ module _ (f : Format) {bound : ℕ} (room : Room f bound) {p : Pose} {a b : List
   }
 
   -- ---- from the rounds to the answer
-  exact-end : (c : SimplexCache) → IsCache c → (r : Rounds) → Right f room paper domain r → (r .ending ≡ RoundLimit → ⊥)
-      → Exact (outlineA paper) (posedB paper) (r .ending) (cacheBy (r .ending) c r)
-  exact-end c arrays r h n = go (r .ending) h n
+  exact-end : (pair : ℕ) (c : SimplexCache) → IsCache c → (r : Rounds) → Right f room paper domain r → (r .ending ≡ RoundLimit → ⊥)
+      → Exact (outlineA paper) (posedB paper) (r .ending) (cacheBy (r .ending) pair c r)
+  exact-end pair c arrays r h n = go (r .ending) h n
     where
-      go : (e : Ending) → RightEnd f room paper domain e (r .simplex) (r .count) → (e ≡ RoundLimit → ⊥) → Exact (outlineA paper) (posedB paper) e (cacheBy e c r)
+      go : (e : Ending) → RightEnd f room paper domain e (r .simplex) (r .count) → (e ≡ RoundLimit → ⊥)
+          → Exact (outlineA paper) (posedB paper) e (cacheBy e pair c r)
       go Touching h n = record { touchingShares = λ e. h; sharingTouches = λ s. refl; otherwiseNearest = λ k. absurd (k refl) }
       go Settled h n = record {
         touchingShares = λ e. absurd (not-both e);
         sharingTouches = λ s. absurd (h .0 s);
-        otherwiseNearest = λ k. spans-written (c .count) (of-three (c .«index_a») (arrays .a)) (of-three (c .«index_b») (arrays .b)) (h .1 .slots) (h .1);
+        otherwiseNearest = λ k. spans-written pair (c .count) (of-three (c .«index_a») (arrays .a)) (of-three (c .«index_b») (arrays .b)) (h .1 .slots) (h .1);
       }
         where
           not-both : Settled ≡ Touching → ⊥
@@ -101,17 +103,17 @@ ending-told f RoundLimit false ra rb w r = refl
 
 pub demand3 : (f : Format) (bound : ℕ) → Room f bound → Demand3 f bound
 unfolding proxyDistance measure
-demand3 f bound room p a ra b rb radii c paper o arrays answered notLimit = go (distanceRefusal f p a ra b rb) (λ h. h) answered
+demand3 f bound room p a ra b rb radii pair c paper o arrays answered notLimit = go (distanceRefusal f p a ra b rb pair c) (λ h. h) answered
   where
-    go : (n : ℕ) → (n ≡ 0 → distanceRefusal f p a ra b rb ≡ 0) → distanceBy f p a ra b rb radii c n .answer ≡ Measured o
-        → Exact (outlineA paper) (posedB paper) (o .ending) (distanceBy f p a ra b rb radii c n .cache)
+    go : (n : ℕ) → (n ≡ 0 → distanceRefusal f p a ra b rb pair c ≡ 0) → distanceBy f p a ra b rb radii pair c n .answer ≡ Measured o
+        → Exact (outlineA paper) (posedB paper) (o .ending) (distanceBy f p a ra b rb radii pair c n .cache)
     go zero none is =
         let r = rounds f a b p c in
-        let domain = answered-in-domain f ra rb paper (none refl) in
-        let told : measure f p a ra b rb radii c .output ≡ o = cc in
+        let domain = answered-in-domain f ra rb paper pair c (none refl) in
+        let told : measure f p a ra b rb radii pair c .output ≡ o = cc in
         let ends : r .ending ≡ o .ending = sym (ending-told f (r .ending) radii ra rb (witnessPoints f (r .simplex) (r .count)) r) ∙ ap (λ (x : ProxyDistanceOutput). x .ending) told in
-        subst (λ (e : Ending). Exact (outlineA paper) (posedB paper) e (cacheBy (r .ending) c r)) ends
-        (exact-end f room paper domain c arrays r (call-right f room paper domain c) (λ e. notLimit (sym ends ∙ e)))
+        subst (λ (e : Ending). Exact (outlineA paper) (posedB paper) e (cacheBy (r .ending) pair c r)) ends
+        (exact-end f room paper domain pair c arrays r (call-right f room paper domain c) (λ e. notLimit (sym ends ∙ e)))
     go (suc n) none is = absurd (refused is)
       where
         refused : Refused (suc n) ≡ Measured o → ⊥

@@ -24,6 +24,6 @@ all-below limit l zero h = tt
 all-below limit l (suc n) h = and-i (allBelow limit l n) (ltb (getD l n 0) limit) (all-below limit l n (λ i r. h i (le-step r))) (lt→ltb (getD l n 0) limit (h n (le-refl (suc n))))
 
 pub valid-by-entries : (n : ℕ) (la lb : List ℕ) (na nb : ℕ) → T (leb n 3) → ((i : ℕ) → i < n → getD la i 0 < na) → ((i : ℕ) → i < n → getD lb i 0 < nb)
-    → T (cacheIsValid (cache n la lb) na nb)
+    → T (cacheIsValid (cache 0 n la lb) na nb)
 valid-by-entries n la lb na nb few inA inB =
     and-i (leb n 3 && allBelow na la n) (allBelow nb lb n) (and-i (leb n 3) (allBelow na la n) few (all-below na la n inA)) (all-below nb lb n inB)

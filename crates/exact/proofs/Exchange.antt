@@ -321,10 +321,10 @@ pub exchange-turns : ExchangeTurns
 exchange-turns bound p a b paper u n = turned-over paper u n
 
 pub exchange : (f : Format) (bound : ℕ) → Room f bound → Exchange f bound
-exchange f bound room p q a ra b rb radii radii' k k' paper o o' inverse arrays arrays' is is' goes goes' =
-    let (_, here) = told _ _ _ _ (demand3 f bound room p a ra b rb radii k paper o arrays is goes) in
+exchange f bound room p q a ra b rb radii radii' pair pair' k k' paper o o' inverse arrays arrays' is is' goes goes' =
+    let (_, here) = told _ _ _ _ (demand3 f bound room p a ra b rb radii pair k paper o arrays is goes) in
     let (v, there) =
-    told _ _ _ _ (exact-there paper inverse (demand3 f bound room q b rb a ra radii' k' (exchanged-paper paper inverse) o' arrays' is' goes')) in
+    told _ _ _ _ (exact-there paper inverse (demand3 f bound room q b rb a ra radii' pair' k' (exchanged-paper paper inverse) o' arrays' is' goes')) in
     let again = told-too _ _ here (turned-over paper v (there .nearest)) in
     record {
       touchesToo = λ e. there .originTouches (origin-turned-back paper v (again .touchingAtOrigin e));

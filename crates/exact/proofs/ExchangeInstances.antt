@@ -25,7 +25,7 @@ use Rattle.exact.proofs.Below.{below2}
 use Rattle.exact.proofs.Kept.{two}
 use Rattle.exact.proofs.Places.{nearest-by-corners}
 use Rattle.exact.proofs.Sheets.{on-squared-paper, sheetA, sheetB, inverse-drawn, shifted-drawn}
-use Rattle.exact.proofs.Instances.{none, call, endings, joined, joined-on-paper, paperJoined, settled-is-not-limit, touching-is-not-limit}
+use Rattle.exact.proofs.Instances.{none, ours, call, endings, joined, joined-on-paper, paperJoined, settled-is-not-limit, touching-is-not-limit}
 use Rattle.exact.proofs.Exchange.{exchange-on-squared-paper}
 use Rattle.exact.proofs.Shift.{shift-on-squared-paper}
 
@@ -165,19 +165,19 @@ pub slanted-exchanged : Exchanged paperSlanted Settled Settled (call slanted non
 unfolding proxyDistance measure roundsFrom startSimplex vertex held solve solveSimplex2 solveSimplex3 region2 region3 kept supportFrom witnessPoints allBelow replaced badParts abs ofBits ofInt round add sub mul div neg lt le eq root
 slanted-exchanged =
     exchange-on-squared-paper binary32 (drawnPose binary32 slanted) (drawnPose binary32 slantedBack) (drawn binary32 (slanted .a)) (Ground.zero binary32)
-    (drawn binary32 (slanted .b)) (Ground.zero binary32) false false none none paperSlanted _ _ slanted-inverse none-is-cache none-is-cache refl refl
+    (drawn binary32 (slanted .b)) (Ground.zero binary32) false false ours ours none none paperSlanted _ _ slanted-inverse none-is-cache none-is-cache refl refl
     settled-is-not-limit settled-is-not-limit
 
 pub slanted-alike : Alike paperSlanted by (drawn binary32 (slantedMoved .b)) Settled Settled (call slanted none .cache) (call slantedMoved none .cache)
 unfolding proxyDistance measure roundsFrom startSimplex vertex held solve solveSimplex2 solveSimplex3 region2 region3 kept supportFrom witnessPoints allBelow replaced badParts abs ofBits ofInt round add sub mul div neg lt le eq root
 slanted-alike =
     shift-on-squared-paper binary32 (drawnPose binary32 slanted) (drawnPose binary32 slantedMoved) (drawn binary32 (slanted .a)) (Ground.zero binary32)
-    (drawn binary32 (slanted .b)) (drawn binary32 (slantedMoved .b)) (Ground.zero binary32) false false none none paperSlanted by _ _ slanted-shifted
+    (drawn binary32 (slanted .b)) (drawn binary32 (slantedMoved .b)) (Ground.zero binary32) false false ours ours none none paperSlanted by _ _ slanted-shifted
     none-is-cache none-is-cache refl refl settled-is-not-limit settled-is-not-limit
 
 pub joined-exchanged : Exchanged paperJoined Touching Touching (call joined none .cache) (call joinedBack none .cache)
 unfolding proxyDistance measure roundsFrom startSimplex vertex held solve solveSimplex2 solveSimplex3 region2 region3 kept supportFrom witnessPoints allBelow replaced badParts abs ofBits ofInt round add sub mul div neg lt le eq root
 joined-exchanged =
     exchange-on-squared-paper binary32 (drawnPose binary32 joined) (drawnPose binary32 joinedBack) (drawn binary32 (joined .a)) (Ground.zero binary32)
-    (drawn binary32 (joined .b)) (Ground.zero binary32) false false none none paperJoined _ _ joined-inverse none-is-cache none-is-cache refl refl
+    (drawn binary32 (joined .b)) (Ground.zero binary32) false false ours ours none none paperJoined _ _ joined-inverse none-is-cache none-is-cache refl refl
     touching-is-not-limit touching-is-not-limit

@@ -177,11 +177,11 @@ module _ (f : Format) {bound : ℕ} (room : Room f bound) {p : Pose} {a b : List
 
 pub no-circles : (f : Format) (bound : ℕ) → Room f bound → NoCircles f bound
 unfolding proxyDistance
-no-circles f bound room p a ra b rb radii c paper o answered limit k x r g = go (distanceRefusal f p a ra b rb) (λ h. h) answered
+no-circles f bound room p a ra b rb radii pair c paper o answered limit k x r g = go (distanceRefusal f p a ra b rb pair c) (λ h. h) answered
   where
-    go : (n : ℕ) → (n ≡ 0 → distanceRefusal f p a ra b rb ≡ 0) → distanceBy f p a ra b rb radii c n .answer ≡ Measured o
+    go : (n : ℕ) → (n ≡ 0 → distanceRefusal f p a ra b rb pair c ≡ 0) → distanceBy f p a ra b rb radii pair c n .answer ≡ Measured o
         → Nearer f paper (roundsOf f a b p limit (start f a b p c)) x
-    go zero none is = nearer f room paper (answered-in-domain f ra rb paper (none refl)) c limit k x r g
+    go zero none is = nearer f room paper (answered-in-domain f ra rb paper pair c (none refl)) c limit k x r g
     go (suc n) none is = absurd (refused is)
       where
         refused : Refused (suc n) ≡ Measured o → ⊥

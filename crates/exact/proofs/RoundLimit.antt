@@ -62,25 +62,26 @@ never-run-out f bound room k enough p a ra b rb c paper inputs = in-time f room 
 
 pub limit-never-reached : (f : Format) (bound : ℕ) → Room f bound → EnoughRounds bound maxIterations → LimitNeverReached f bound
 unfolding proxyDistance measure
-limit-never-reached f bound room enough p a ra b rb radii c paper o answered = go (distanceRefusal f p a ra b rb) (λ h. h) answered
+limit-never-reached f bound room enough p a ra b rb radii pair c paper o answered = go (distanceRefusal f p a ra b rb pair c) (λ h. h) answered
   where
-    go : (n : ℕ) → (n ≡ 0 → distanceRefusal f p a ra b rb ≡ 0) → distanceBy f p a ra b rb radii c n .answer ≡ Measured o → o .ending ≡ RoundLimit → ⊥
+    go : (n : ℕ) → (n ≡ 0 → distanceRefusal f p a ra b rb pair c ≡ 0) → distanceBy f p a ra b rb radii pair c n .answer ≡ Measured o
+        → o .ending ≡ RoundLimit → ⊥
     go zero none is limit =
         let r = rounds f a b p c in
-        let told : measure f p a ra b rb radii c .output ≡ o = cc in
+        let told : measure f p a ra b rb radii pair c .output ≡ o = cc in
         let same = ending-told f (r .ending) radii ra rb (witnessPoints f (r .simplex) (r .count)) r in
         let ends : r .ending ≡ o .ending = sym same ∙ ap (λ (x : ProxyDistanceOutput). x .ending) told in
-        in-time f room maxIterations enough paper (answered-in-domain f ra rb paper (none refl)) c (ends ∙ limit)
+        in-time f room maxIterations enough paper (answered-in-domain f ra rb paper pair c (none refl)) c (ends ∙ limit)
     go (suc n) none is limit = refused is
       where
         refused : Refused (suc n) ≡ Measured o → ⊥
         refused e = let z : _≡_ {A = ℕ} 0 1 = cc in omega arith
 
 pub always-exact : (f : Format) (bound : ℕ) → Room f bound → EnoughRounds bound maxIterations → AlwaysExact f bound
-always-exact f bound room enough p a ra b rb radii c paper inputs arrays =
-    let (o, answered) = accepted f bound p a ra b rb radii c paper inputs in
-    let inTime = limit-never-reached f bound room enough p a ra b rb radii c paper o answered in
-    record { output = o; answered = answered; inTime = inTime; exact = demand3 f bound room p a ra b rb radii c paper o arrays answered inTime }
+always-exact f bound room enough p a ra b rb radii pair c paper inputs arrays own =
+    let (o, answered) = accepted f bound p a ra b rb radii pair c paper inputs own in
+    let inTime = limit-never-reached f bound room enough p a ra b rb radii pair c paper o answered in
+    record { output = o; answered = answered; inTime = inTime; exact = demand3 f bound room p a ra b rb radii pair c paper o arrays answered inTime }
 
 -- ---- the bounds of the formats: 8 * 16 ^ 2 and 8 * 22 ^ 2 are below 4 ^ 6, so 19 rounds are enough, and the call has one more
 pub enough-in-the-call : (f : Format) → EnoughRounds (boundInTime f) maxIterations

@@ -80,7 +80,7 @@ module _ (f : Format) {bound : ℕ} (room : Room f bound) {p : Pose} {a b : List
 
   -- from a valid cache that is not empty: its count is 1, 2 or 3, and its entries name corners
   from-cache : (n : ℕ) (la lb : List ℕ) → T (ltb 0 n) → T (leb n 3) → ((i : ℕ) → i < n → getD la i 0 < na) → ((i : ℕ) → i < n → getD lb i 0 < nb)
-      → Slots (cached f a b p (cache n la lb) 0 ∷ cached f a b p (cache n la lb) 1 ∷ cached f a b p (cache n la lb) 2 ∷ []) n
+      → Slots (cached f a b p (cache 0 n la lb) 0 ∷ cached f a b p (cache 0 n la lb) 1 ∷ cached f a b p (cache 0 n la lb) 2 ∷ []) n
   from-cache zero la lb some few inA inB = absurd some
   from-cache (suc zero) la lb some few inA inB = one (vertex-stands _ _ _ (inA 0 (lit< tt)) (inB 0 (lit< tt)))
   from-cache (suc (suc zero)) la lb some few inA inB =

@@ -131,9 +131,10 @@ pub shift-keeps : ShiftKeeps
 shift-keeps bound p a b paper by l e u = (keeps paper by l e u, gives-back paper by l e u)
 
 pub shift : (f : Format) (bound : ℕ) → Room f bound → Shift f bound
-shift f bound room p q a ra b l rb radii radii' k k' paper by o o' shifted arrays arrays' is is' goes goes' =
-    let (u, here) = told _ _ _ _ (demand3 f bound room p a ra b rb radii k paper o arrays is goes) in
-    let (_, there) = told _ _ _ _ (exact-there paper by l shifted (demand3 f bound room q a ra l rb radii' k' (shifted-paper paper by l shifted) o' arrays' is' goes')) in
+shift f bound room p q a ra b l rb radii radii' pair pair' k k' paper by o o' shifted arrays arrays' is is' goes goes' =
+    let (u, here) = told _ _ _ _ (demand3 f bound room p a ra b rb radii pair k paper o arrays is goes) in
+    let (_, there) =
+    told _ _ _ _ (exact-there paper by l shifted (demand3 f bound room q a ra l rb radii' pair' k' (shifted-paper paper by l shifted) o' arrays' is' goes')) in
     let again = told-too _ _ there (keeps paper by l (shifted .sameLength) u (here .nearest)) in
     record {
       touchesToo = λ e. again .originTouches (here .touchingAtOrigin e);

@@ -104,11 +104,11 @@ ExchangeTurns =
 -- of every two such calls that are answered and do not end at the round limit, whatever their caches
 abbrev pub Exchange : Format → ℕ → Type 0
 Exchange f bound =
-    (p q : Pose) (a : List Float) (ra : Float) (b : List Float) (rb : Float) (radii radii' : Bool) (c c' : SimplexCache)
+    (p q : Pose) (a : List Float) (ra : Float) (b : List Float) (rb : Float) (radii radii' : Bool) (pair pair' : ℕ) (c c' : SimplexCache)
     (paper : SquaredPaper bound p a b) (o o' : ProxyDistanceOutput) → IsInverse paper q → IsCache c → IsCache c'
-    → proxyDistance f p a ra b rb radii c .answer ≡ Measured o → proxyDistance f q b rb a ra radii' c' .answer ≡ Measured o'
+    → proxyDistance f p a ra b rb radii pair c .answer ≡ Measured o → proxyDistance f q b rb a ra radii' pair' c' .answer ≡ Measured o'
     → (o .ending ≡ RoundLimit → ⊥) → (o' .ending ≡ RoundLimit → ⊥)
-    → Exchanged paper (o .ending) (o' .ending) (proxyDistance f p a ra b rb radii c .cache) (proxyDistance f q b rb a ra radii' c' .cache)
+    → Exchanged paper (o .ending) (o' .ending) (proxyDistance f p a ra b rb radii pair c .cache) (proxyDistance f q b rb a ra radii' pair' c' .cache)
 
 -- ---- B shifted
 module _ {bound : ℕ} {p : Pose} {a b : List Float} (paper : SquaredPaper bound p a b) (by : Point) where
@@ -144,8 +144,8 @@ ShiftKeeps =
 -- of every two such calls that are answered and do not end at the round limit, whatever their caches
 abbrev pub Shift : Format → ℕ → Type 0
 Shift f bound =
-    (p q : Pose) (a : List Float) (ra : Float) (b l : List Float) (rb : Float) (radii radii' : Bool) (c c' : SimplexCache)
+    (p q : Pose) (a : List Float) (ra : Float) (b l : List Float) (rb : Float) (radii radii' : Bool) (pair pair' : ℕ) (c c' : SimplexCache)
     (paper : SquaredPaper bound p a b) (by : Point) (o o' : ProxyDistanceOutput) → IsShifted paper by q l → IsCache c → IsCache c'
-    → proxyDistance f p a ra b rb radii c .answer ≡ Measured o → proxyDistance f q a ra l rb radii' c' .answer ≡ Measured o'
+    → proxyDistance f p a ra b rb radii pair c .answer ≡ Measured o → proxyDistance f q a ra l rb radii' pair' c' .answer ≡ Measured o'
     → (o .ending ≡ RoundLimit → ⊥) → (o' .ending ≡ RoundLimit → ⊥)
-    → Alike paper by l (o .ending) (o' .ending) (proxyDistance f p a ra b rb radii c .cache) (proxyDistance f q a ra l rb radii' c' .cache)
+    → Alike paper by l (o .ending) (o' .ending) (proxyDistance f p a ra b rb radii pair c .cache) (proxyDistance f q a ra l rb radii' pair' c' .cache)

@@ -91,9 +91,9 @@ module _ (f : Format) {bound : ℕ} {p : Pose} {a b : List Float} (paper : Squar
 -- of every round that goes on with another round left, in every call that is answered, whatever the cache that came
 abbrev pub NoCircles : Format → ℕ → Type 0
 NoCircles f bound =
-    (p : Pose) (a : List Float) (ra : Float) (b : List Float) (rb : Float) (radii : Bool) (c : SimplexCache)
+    (p : Pose) (a : List Float) (ra : Float) (b : List Float) (rb : Float) (radii : Bool) (pair : ℕ) (c : SimplexCache)
     (paper : SquaredPaper bound p a b) (o : ProxyDistanceOutput)
-    → proxyDistance f p a ra b rb radii c .answer ≡ Measured o
+    → proxyDistance f p a ra b rb radii pair c .answer ≡ Measured o
     → (limit k : ℕ) (x : State) → Reaches f a b p c limit (suc (suc k)) x → GoesOn f a b p x
     → Nearer f paper (roundsOf f a b p limit (start f a b p c)) x
 

@@ -12,6 +12,7 @@ use Rattle.model.specs.declared.Ending.the-variants.{RoundLimit}
 use Rattle.model.specs.declared.ProxyDistanceOutput.{ProxyDistanceOutput}
 use Rattle.model.specs.declared.DistanceAnswer.the-variants.{Measured}
 use Rattle.model.specs.Ground.{origin}
+use Rattle.model.specs.Domain.{cacheRefusal}
 use Rattle.model.specs.Distance.{startSimplex, startCount, roundsFrom, proxyDistance}
 use Rattle.exact.specs.SquaredPaper.{SquaredPaper, outlineA, posedB, InTheDomain, IsCache, Exact}
 
@@ -46,19 +47,19 @@ NeverRunOut f bound k =
 -- the call's own limit is never reached: what demand 3 asks of a call before it says anything
 abbrev pub LimitNeverReached : Format → ℕ → Type 0
 LimitNeverReached f bound =
-    (p : Pose) (a : List Float) (ra : Float) (b : List Float) (rb : Float) (radii : Bool) (c : SimplexCache) → SquaredPaper bound p a b
-    → (o : ProxyDistanceOutput) → proxyDistance f p a ra b rb radii c .answer ≡ Measured o → o .ending ≡ RoundLimit → ⊥
+    (p : Pose) (a : List Float) (ra : Float) (b : List Float) (rb : Float) (radii : Bool) (pair : ℕ) (c : SimplexCache) → SquaredPaper bound p a b
+    → (o : ProxyDistanceOutput) → proxyDistance f p a ra b rb radii pair c .answer ≡ Measured o → o .ending ≡ RoundLimit → ⊥
 
--- ---- demand 3 without "unless": every call is answered, and every answer is exact
-module _ (f : Format) (p : Pose) (a : List Float) (ra : Float) (b : List Float) (rb : Float) (radii : Bool) (c : SimplexCache)
+-- ---- demand 3 without "unless": every call whose cache is not refused is answered, and every answer is exact
+module _ (f : Format) (p : Pose) (a : List Float) (ra : Float) (b : List Float) (rb : Float) (radii : Bool) (pair : ℕ) (c : SimplexCache)
     {bound : ℕ} (paper : SquaredPaper bound p a b) where
   pub record ExactAnswer : Type 0 where
     pub output : ProxyDistanceOutput
-    pub answered : proxyDistance f p a ra b rb radii c .answer ≡ Measured output
+    pub answered : proxyDistance f p a ra b rb radii pair c .answer ≡ Measured output
     pub inTime : output .ending ≡ RoundLimit → ⊥
-    pub exact : Exact (outlineA paper) (posedB paper) (output .ending) (proxyDistance f p a ra b rb radii c .cache)
+    pub exact : Exact (outlineA paper) (posedB paper) (output .ending) (proxyDistance f p a ra b rb radii pair c .cache)
 
 abbrev pub AlwaysExact : Format → ℕ → Type 0
 AlwaysExact f bound =
-    (p : Pose) (a : List Float) (ra : Float) (b : List Float) (rb : Float) (radii : Bool) (c : SimplexCache) (paper : SquaredPaper bound p a b)
-    → InTheDomain f paper ra rb → IsCache c → ExactAnswer f p a ra b rb radii c paper
+    (p : Pose) (a : List Float) (ra : Float) (b : List Float) (rb : Float) (radii : Bool) (pair : ℕ) (c : SimplexCache) (paper : SquaredPaper bound p a b)
+    → InTheDomain f paper ra rb → IsCache c → cacheRefusal pair c ≡ 0 → ExactAnswer f p a ra b rb radii pair c paper

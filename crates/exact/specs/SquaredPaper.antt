@@ -1,5 +1,5 @@
 -- Demand 3. On squared paper, a call that is answered and does not end at the round limit ends touching exactly when the outlines share a point,
--- and otherwise the corners in the returned cache span a nearest place. The radii are free, and so is the cache that came.
+-- and otherwise the corners in the returned cache span a nearest place. The radii are free, and so is the cache that came, if it is not refused.
 use mathlib.Core.Path.{_≡_}
 use mathlib.Core.Bool.{Bool, false}
 use mathlib.Core.List.{List}
@@ -15,7 +15,7 @@ use Rattle.model.specs.declared.Ending.{Ending}
 use Rattle.model.specs.declared.Ending.the-variants.{Touching, RoundLimit}
 use Rattle.model.specs.declared.ProxyDistanceOutput.{ProxyDistanceOutput}
 use Rattle.model.specs.declared.DistanceAnswer.the-variants.{Measured}
-use Rattle.model.specs.Domain.{badRadius}
+use Rattle.model.specs.Domain.{badRadius, cacheRefusal}
 use Rattle.model.specs.Support.{point}
 use Rattle.model.specs.Distance.{proxyDistance}
 use Rattle.exact.specs.Plane.{Point, sum, difference, turned}
@@ -54,7 +54,7 @@ module _ {bound : ℕ} {p : Pose} {a b : List Float} (paper : SquaredPaper bound
   abbrev pub posedB : Outline
   posedB = record { count = length b / 2; corner = λ j. sum (turned (paper .cosine) (paper .sine) (paper .cornerB j)) (paper .shift) }
 
--- a cache is a count and two arrays of three
+-- a cache is a number, a count and two arrays of three
 pub record IsCache (c : SimplexCache) : Type 0 where
   pub a : length (c .«index_a») ≡ 3
   pub b : length (c .«index_b») ≡ 3
@@ -88,15 +88,16 @@ pub record Exact (a b : Outline) (ending : Ending) (c : SimplexCache) : Type 0 w
   pub sharingTouches : SharesPoint a b → ending ≡ Touching
   pub otherwiseNearest : (ending ≡ Touching → ⊥) → SpansNearestPlace a b c
 
--- of every call that is answered and does not end at the round limit, whatever the radii and the cache that came
+-- of every call that is answered and does not end at the round limit, whatever the radii and the cache that came, which was then not refused
 abbrev pub Demand3 : Format → ℕ → Type 0
 Demand3 f bound =
-    (p : Pose) (a : List Float) (ra : Float) (b : List Float) (rb : Float) (radii : Bool) (c : SimplexCache) (paper : SquaredPaper bound p a b) (o : ProxyDistanceOutput)
-    → IsCache c → proxyDistance f p a ra b rb radii c .answer ≡ Measured o → (o .ending ≡ RoundLimit → ⊥)
-    → Exact (outlineA paper) (posedB paper) (o .ending) (proxyDistance f p a ra b rb radii c .cache)
+    (p : Pose) (a : List Float) (ra : Float) (b : List Float) (rb : Float) (radii : Bool) (pair : ℕ) (c : SimplexCache)
+    (paper : SquaredPaper bound p a b) (o : ProxyDistanceOutput)
+    → IsCache c → proxyDistance f p a ra b rb radii pair c .answer ≡ Measured o → (o .ending ≡ RoundLimit → ⊥)
+    → Exact (outlineA paper) (posedB paper) (o .ending) (proxyDistance f p a ra b rb radii pair c .cache)
 
--- the other half: a call with its inputs in the domain is answered
+-- the other half: a call with its inputs in the domain is answered, from any cache that is not refused for the pair's number
 abbrev pub Answered : Format → ℕ → Type 0
 Answered f bound =
-    (p : Pose) (a : List Float) (ra : Float) (b : List Float) (rb : Float) (radii : Bool) (c : SimplexCache) (paper : SquaredPaper bound p a b)
-    → InTheDomain f paper ra rb → (o : ProxyDistanceOutput) × (proxyDistance f p a ra b rb radii c .answer ≡ Measured o)
+    (p : Pose) (a : List Float) (ra : Float) (b : List Float) (rb : Float) (radii : Bool) (pair : ℕ) (c : SimplexCache) (paper : SquaredPaper bound p a b)
+    → InTheDomain f paper ra rb → cacheRefusal pair c ≡ 0 → (o : ProxyDistanceOutput) × (proxyDistance f p a ra b rb radii pair c .answer ≡ Measured o)

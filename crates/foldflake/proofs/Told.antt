@@ -41,39 +41,39 @@ ending-small Touching = omega arith
 ending-small Settled = omega arith
 ending-small RoundLimit = omega arith
 
-pub distance-rounds : (a b ns : List Float) (radii : Bool) (start : SimplexCache) → roundsOf (distanceFor a b ns radii start .answer) ≤ 20
+pub distance-rounds : (a b ns : List Float) (radii : Bool) (pair : ℕ) (start : SimplexCache) → roundsOf (distanceFor a b ns radii pair start .answer) ≤ 20
 unfolding distanceFor
-distance-rounds a b ns radii start = go _ refl
+distance-rounds a b ns radii pair start = go _ refl
   where
-    go : (x : DistanceAnswer) → distanceFor a b ns radii start .answer ≡ x → roundsOf x ≤ 20
-    go (Measured o) e = rounds-at-most-20 binary32 _ a _ b _ radii start o e
+    go : (x : DistanceAnswer) → distanceFor a b ns radii pair start .answer ≡ x → roundsOf x ≤ 20
+    go (Measured o) e = rounds-at-most-20 binary32 _ a _ b _ radii pair start o e
     go (Refused k) e = omega arith
 
 module _ (ns : List Float) (words : List ℕ) (out : List Float) where
   abbrev Sizes : Bool
-  Sizes = eqb (length ns) 6 && eqb (length words) 7 && eqb (length out) 7
+  Sizes = eqb (length ns) 6 && eqb (length words) 8 && eqb (length out) 7
 
-  pub distance-lengths : Sizes ≡ true → (length ns ≡ 6) × (length words ≡ 7) × (length out ≡ 7)
+  pub distance-lengths : Sizes ≡ true → (length ns ≡ 6) × (length words ≡ 8) × (length out ≡ 7)
   distance-lengths sizes =
-      let last = both (eqb (length ns) 6 && eqb (length words) 7) (eqb (length out) 7) sizes in
-      let first = both (eqb (length ns) 6) (eqb (length words) 7) (last .0) in
+      let last = both (eqb (length ns) 6 && eqb (length words) 8) (eqb (length out) 7) sizes in
+      let first = both (eqb (length ns) 6) (eqb (length words) 8) (last .0) in
       (eqb-true _ _ (first .0), eqb-true _ _ (first .1), eqb-true _ _ (last .1))
 
-  module _ (a b : List Float) (radii : ℕ) where
-    pub distance-told : (start : SimplexCache) (d : Distance) (words' : List ℕ) (out' : List Float) (r : ℕ) → Sizes ≡ true → getD words 0 0 < 256 →
-        start ≡ cacheOf words → d ≡ distanceFor a b ns (ltb 0 radii) start →
+  module _ (a b : List Float) (radii pair : ℕ) where
+    pub distance-told : (start : SimplexCache) (d : Distance) (words' : List ℕ) (out' : List Float) (r : ℕ) → Sizes ≡ true → getD words 1 0 < 256 →
+        start ≡ cacheOf words → d ≡ distanceFor a b ns (ltb 0 radii) pair start →
         (r ≡ distanceNumber (d .answer)) × (words' ≡ cacheAfter (d .answer) (d .cache) words) × (out' ≡ outputAfter (d .answer) out) →
-        DistanceTold a b ns radii words out words' out' r
+        DistanceTold a b ns radii pair words out words' out' r
     distance-told start d words' out' r sizes small from is told =
-        let fits : distanceFits ns words out ≡ true = rw sizes (lt-ltb (getD words 0 0) 256 small) in
-        let call : d ≡ distanceFor a b ns (ltb 0 radii) (cacheOf words) = rw from at is in
+        let fits : distanceFits ns words out ≡ true = rw sizes (lt-ltb (getD words 1 0) 256 small) in
+        let call : d ≡ distanceFor a b ns (ltb 0 radii) pair (cacheOf words) = rw from at is in
         record { number = rw (fits, ← call) (told .0); cached = rw (fits, ← call) (told .1); measured = rw (fits, ← call) (told .2) }
 
-    distance-misfit : distanceFits ns words out ≡ false → DistanceTold a b ns radii words out words out 255
+    distance-misfit : distanceFits ns words out ≡ false → DistanceTold a b ns radii pair words out words out 255
     distance-misfit fits = record { number = rw fits refl; cached = rw fits refl; measured = rw fits refl }
 
-    pub wrong-length : Sizes ≡ false → DistanceTold a b ns radii words out words out 255
+    pub wrong-length : Sizes ≡ false → DistanceTold a b ns radii pair words out words out 255
     wrong-length sizes = distance-misfit (rw sizes refl)
 
-    pub wrong-count : Sizes ≡ true → 256 ≤ getD words 0 0 → DistanceTold a b ns radii words out words out 255
-    wrong-count sizes large = distance-misfit (rw sizes (le-ltb (getD words 0 0) 256 large))
+    pub wrong-count : Sizes ≡ true → 256 ≤ getD words 1 0 → DistanceTold a b ns radii pair words out words out 255
+    wrong-count sizes large = distance-misfit (rw sizes (le-ltb (getD words 1 0) 256 large))

@@ -81,22 +81,22 @@ pub record SweepTold (a b ns out : List Float) (counts : List ℕ) (out' : List 
   pub counted : counts' ≡ cond (sweepFits ns out counts) (countsAfter (sweepCall a b ns) counts) counts
 
 -- ---- the distance
--- the count, three indices of A, three of B
+-- the pair's number, the count, three indices of A, three of B
 unfoldable pub cacheOf : List ℕ → SimplexCache
-cacheOf w = cache (getD w 0 0) (getD w 1 0 ∷ getD w 2 0 ∷ getD w 3 0 ∷ []) (getD w 4 0 ∷ getD w 5 0 ∷ getD w 6 0 ∷ [])
+cacheOf w = cache (getD w 0 0) (getD w 1 0) (getD w 2 0 ∷ getD w 3 0 ∷ getD w 4 0 ∷ []) (getD w 5 0 ∷ getD w 6 0 ∷ getD w 7 0 ∷ [])
 
 abbrev pub cacheWords : SimplexCache → List ℕ
 cacheWords c =
-    c .count ∷ getD (c .«index_a») 0 0 ∷ getD (c .«index_a») 1 0 ∷ getD (c .«index_a») 2 0 ∷ getD (c .«index_b») 0 0 ∷ getD (c .«index_b») 1 0
-    ∷ getD (c .«index_b») 2 0 ∷ []
+    c .pair ∷ c .count ∷ getD (c .«index_a») 0 0 ∷ getD (c .«index_a») 1 0 ∷ getD (c .«index_a») 2 0 ∷ getD (c .«index_b») 0 0
+    ∷ getD (c .«index_b») 1 0 ∷ getD (c .«index_b») 2 0 ∷ []
 
 -- two pairs: the turn and the shift
 abbrev pub poseOf : List Float → Pose
 poseOf ns = pose (turn (point ns 0)) (point ns 1)
 
 -- three pairs: the pose of B in the frame of A, then the radii
-unfoldable pub distanceFor : List Float → List Float → List Float → Bool → SimplexCache → Distance
-distanceFor a b ns radii c = proxyDistance binary32 (poseOf ns) a (point ns 2 .x) b (point ns 2 .y) radii c
+unfoldable pub distanceFor : List Float → List Float → List Float → Bool → ℕ → SimplexCache → Distance
+distanceFor a b ns radii pair c = proxyDistance binary32 (poseOf ns) a (point ns 2 .x) b (point ns 2 .y) radii pair c
 
 abbrev pub endingNumber : Ending → ℕ
 endingNumber Touching = 16
@@ -127,16 +127,16 @@ outputAfter (Measured o) out = outputFloats o
 outputAfter (Unmeasured k) out = out
 
 abbrev pub distanceFits : List Float → List ℕ → List Float → Bool
-distanceFits ns words out = eqb (length ns) 6 && eqb (length words) 7 && eqb (length out) 7 && ltb (getD words 0 0) 256
+distanceFits ns words out = eqb (length ns) 6 && eqb (length words) 8 && eqb (length out) 7 && ltb (getD words 1 0) 256
 
 -- use_radii counts where it is not 0
-abbrev pub distanceCall : List Float → List Float → List Float → ℕ → List ℕ → Distance
-distanceCall a b ns radii words = distanceFor a b ns (ltb 0 radii) (cacheOf words)
+abbrev pub distanceCall : List Float → List Float → List Float → ℕ → ℕ → List ℕ → Distance
+distanceCall a b ns radii pair words = distanceFor a b ns (ltb 0 radii) pair (cacheOf words)
 
-pub record DistanceTold (a b ns : List Float) (radii : ℕ) (words : List ℕ) (out : List Float) (words' : List ℕ) (out' : List Float) (r : ℕ) : Type 0 where
-  pub number : r ≡ cond (distanceFits ns words out) (distanceNumber (distanceCall a b ns radii words .answer)) 255
-  pub cached : words' ≡ cond (distanceFits ns words out) (cacheAfter (distanceCall a b ns radii words .answer) (distanceCall a b ns radii words .cache) words) words
-  pub measured : out' ≡ cond (distanceFits ns words out) (outputAfter (distanceCall a b ns radii words .answer) out) out
+pub record DistanceTold (a b ns : List Float) (radii pair : ℕ) (words : List ℕ) (out : List Float) (words' : List ℕ) (out' : List Float) (r : ℕ) : Type 0 where
+  pub number : r ≡ cond (distanceFits ns words out) (distanceNumber (distanceCall a b ns radii pair words .answer)) 255
+  pub cached : words' ≡ cond (distanceFits ns words out) (cacheAfter (distanceCall a b ns radii pair words .answer) (distanceCall a b ns radii pair words .cache) words) words
+  pub measured : out' ≡ cond (distanceFits ns words out) (outputAfter (distanceCall a b ns radii pair words .answer) out) out
 
 -- ---- plates and bars
 abbrev pub builtNumber : Built → ℕ

@@ -63,24 +63,26 @@ pub extern "C" fn foldflake_sweep(
 }
 
 // The distance of two outlines. Numbers: the cosine, the sine and the translation of the pose of B in the frame of A, and both radii, which
-// count where use_radii is not 0. Cache: the count and six indices, those of A first. The answer: a refusal, 1 to 6; 16 touching, 17 settled,
-// 18 round limit, plus 256 times the rounds; 255 where a list has the wrong length or the count is above 255. From 16 on the point of A, the
-// point of B, the normal and the distance stand in out, and the cache is as the call leaves it; else nothing is written.
+// count where use_radii is not 0. Pair: the caller's number for the two outlines. Cache: the number of its pair, the count and six indices, those of A
+// first. The answer: a refusal, 1 to 6 or 12; 16 touching, 17 settled, 18 round limit, plus 256 times the rounds; 255 where a list has the wrong length
+// or the count is above 255. From 16 on the point of A, the point of B, the normal and the distance stand in out, and the cache is as the call leaves it;
+// else nothing is written.
 #[no_mangle]
 pub extern "C" fn foldflake_distance(
     points_a: &[f32],
     points_b: &[f32],
     numbers: &[f32],
     use_radii: u32,
+    pair: u32,
     cache: &mut [u32],
     out: &mut [f32],
 ) -> u32
-    ensures { λ r. ⌜ DistanceTold (now («points_a» .entry)) (now («points_b» .entry)) (now (numbers .entry)) «use_radii» (now (cache .entry)) (now (out .entry)) (now (cache .exit)) (now (out .exit)) r ⌝ }
+    ensures { λ r. ⌜ DistanceTold (now («points_a» .entry)) (now («points_b» .entry)) (now (numbers .entry)) «use_radii» pair (now (cache .entry)) (now (out .entry)) (now (cache .exit)) (now (out .exit)) r ⌝ }
 {
-    if (numbers.len() == 6) & (cache.len() == 7) & (out.len() == 7) {
-        if cache[0] < 256 {
+    if (numbers.len() == 6) & (cache.len() == 8) & (out.len() == 7) {
+        if cache[1] < 256 {
             let start = cache_of(cache);
-            let measured = distance_of(points_a, points_b, numbers, use_radii > 0, start);
+            let measured = distance_of(points_a, points_b, numbers, use_radii > 0, pair, start);
             tell_distance(measured, cache, out)
         } else {
             255

@@ -9,15 +9,17 @@ ghost use Prim.Native.Nat.{_<_};
 ghost use lib.ListN.{length, getD};
 ghost use Rattle.foldflake.specs.Entry.{cacheOf, poseOf, distanceFor};
 
-// The cache that seven words stand for.
+// The cache that eight words stand for.
 pub fn cache_of(words: &[u32]) -> SimplexCache
-    requires { ⌜ (length (now words) ≡ 7) × (getD (now words) 0 0 < 256) ⌝ }
+    requires { ⌜ (length (now words) ≡ 8) × (getD (now words) 1 0 < 256) ⌝ }
     ensures { λ r. ⌜ r ≡ cacheOf (now (words .entry)) ⌝ }
 {
-    let count = words[0] as u8;
-    let index_a = [words[1], words[2], words[3]];
-    let index_b = [words[4], words[5], words[6]];
+    let pair = words[0];
+    let count = words[1] as u8;
+    let index_a = [words[2], words[3], words[4]];
+    let index_b = [words[5], words[6], words[7]];
     SimplexCache {
+        pair,
         count,
         index_a,
         index_b,
@@ -46,9 +48,10 @@ pub fn distance_of(
     points_b: &[f32],
     numbers: &[f32],
     use_radii: bool,
+    pair: u32,
     cache: SimplexCache,
 ) -> Distance
-    ensures { λ r. ⌜ r ≡ distanceFor (now («points_a» .entry)) (now («points_b» .entry)) (now (numbers .entry)) «use_radii» cache ⌝ }
+    ensures { λ r. ⌜ r ≡ distanceFor (now («points_a» .entry)) (now («points_b» .entry)) (now (numbers .entry)) «use_radii» pair cache ⌝ }
 {
     let pose = pose_of(numbers);
     let radii = point(numbers, 2);
@@ -59,6 +62,7 @@ pub fn distance_of(
         points_b,
         radii.y,
         use_radii,
+        pair,
         cache,
     )
 }

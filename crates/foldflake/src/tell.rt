@@ -108,18 +108,19 @@ fn put_output(out: &mut [f32], o: ProxyDistanceOutput)
 }
 
 fn put_cache(words: &mut [u32], cache: SimplexCache)
-    requires { ⌜ length (now words) ≡ 7 ⌝ }
+    requires { ⌜ length (now words) ≡ 8 ⌝ }
     ensures { λ _. ⌜ now (words .exit) ≡ cacheWords cache ⌝ }
 {
     let index_a = cache.index_a;
     let index_b = cache.index_b;
-    words[0] = cache.count as u32;
-    words[1] = index_a[0];
-    words[2] = index_a[1];
-    words[3] = index_a[2];
-    words[4] = index_b[0];
-    words[5] = index_b[1];
-    words[6] = index_b[2];
+    words[0] = cache.pair;
+    words[1] = cache.count as u32;
+    words[2] = index_a[0];
+    words[3] = index_a[1];
+    words[4] = index_a[2];
+    words[5] = index_b[0];
+    words[6] = index_b[1];
+    words[7] = index_b[2];
 }
 
 // A measurement and the cache, under the number of the ending and the rounds.
@@ -129,7 +130,7 @@ fn put_measured(
     o: ProxyDistanceOutput,
     cache: SimplexCache,
 ) -> u32
-    requires { ⌜ (length (now words) ≡ 7) × (length (now out) ≡ 7) × (o .iterations ≤ 20) ⌝ }
+    requires { ⌜ (length (now words) ≡ 8) × (length (now out) ≡ 7) × (o .iterations ≤ 20) ⌝ }
     ensures { λ r. ⌜ (r ≡ outputNumber o) × (now (words .exit) ≡ cacheWords cache) × (now (out .exit) ≡ outputFloats o) ⌝ }
 {
     put_cache(words, cache);
@@ -140,7 +141,7 @@ fn put_measured(
 
 // A refusal writes nothing.
 pub fn tell_distance(d: Distance, words: &mut [u32], out: &mut [f32]) -> u32
-    requires { ⌜ (length (now words) ≡ 7) × (length (now out) ≡ 7) × (roundsOf (d .answer) ≤ 20) ⌝ }
+    requires { ⌜ (length (now words) ≡ 8) × (length (now out) ≡ 7) × (roundsOf (d .answer) ≤ 20) ⌝ }
     ensures { λ r. ⌜ (r ≡ distanceNumber (d .answer)) × (now (words .exit) ≡ cacheAfter (d .answer) (d .cache) (now (words .entry))) × (now (out .exit) ≡ outputAfter (d .answer) (now (out .entry))) ⌝ }
 {
     let answer = d.answer;

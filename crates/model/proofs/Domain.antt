@@ -1,14 +1,21 @@
 -- What a caller learns by taking a check's answer apart: what passed leaves the answer to the next check, and what did not is answered by its
 -- number, whatever check would follow. Assumes nothing.
-use Prim.Native.Nat.{ℕ, zero, suc}
+use Prim.Native.Nat.{ℕ, zero, suc, _≤_}
 use native.Mathlib.Omega.{arith}
-use mathlib.Core.Bool.{Bool, true, false, cond}
+use mathlib.Core.Bool.{Bool, true, false, _&&_, _||_, cond}
+use mathlib.Core.List.{List}
 use mathlib.Core.Path.{_≡_, refl, sym, ap, _∙_}
+use lib.Ieee.{Float, Format, lt, le}
 use Rattle.model.specs.declared.Pose.{Pose}
 use Rattle.model.specs.declared.Checked.{Checked}
 use Rattle.model.specs.declared.Checked.the-variants.{Passed, Refused}
 use Rattle.model.specs.declared.CheckedPose.{CheckedPose}
 use Rattle.model.specs.declared.CheckedPose.the-variants as CheckedPose
+use Rattle.model.specs.declared.Sweep.{Sweep}
+use Rattle.model.specs.Ground.{one}
+use Rattle.model.specs.Ground as Ground
+use Rattle.model.specs.Domain.{badOutline, limit, badParts, badRadius, badRotation, badVector, badCentres}
+use Rattle.model.specs.Domain.{pairRefusal, poseRefusal, sweepsRefusal, fractionRefusal, slopRefusal}
 use Rattle.model.specs.Domain.{orElse, checked, refusal, checkedPose, refusalOfPose}
 
 -- ---- nothing is refused: by a test before others, by a check before others
@@ -19,6 +26,37 @@ test-passed false k x e = (refl, e)
 pub neither-refused : (m n : ℕ) → orElse m n ≡ 0 → (m ≡ 0) × (n ≡ 0)
 neither-refused zero n e = (refl, e)
 neither-refused (suc m) n e = absurd (omega (arith, e))
+
+-- ---- no number is above k: of a test before others, of a check before others
+pub test-most : (k : ℕ) (t : Bool) (m n : ℕ) → m ≤ k → n ≤ k → cond t m n ≤ k
+test-most k true m n g h = g
+test-most k false m n g h = h
+
+pub first-most : (k m n : ℕ) → m ≤ k → n ≤ k → orElse m n ≤ k
+first-most k zero n g h = h
+first-most k (suc m) n g h = g
+
+pub pair-at-most-4 : (f : Format) (a b : List Float) (ra rb : Float) → pairRefusal f a b ra rb ≤ 4
+pair-at-most-4 f a b ra rb =
+    test-most 4 (badOutline a) 1 _ (omega arith)
+    (test-most 4 (badOutline b) 2 _ (omega arith)
+    (test-most 4 (badParts f a || badParts f b) 3 _ (omega arith)
+    (test-most 4 (badRadius f ra || badRadius f rb) 4 0 (omega arith) (omega arith))))
+
+pub pose-at-most-6 : (f : Format) (p : Pose) → poseRefusal f p ≤ 6
+pose-at-most-6 f p =
+    test-most 6 (badRotation f (p .rotation)) 5 _ (omega arith) (test-most 6 (badVector f (p .translation)) 6 0 (omega arith) (omega arith))
+
+pub moves-at-most-6 : (f : Format) (u w : Sweep) → sweepsRefusal f u w ≤ 6
+moves-at-most-6 f u w =
+    test-most 6 (badRotation f (u .q1) || badRotation f (u .q2) || badRotation f (w .q1) || badRotation f (w .q2)) 5 _ (omega arith)
+    (test-most 6 (badCentres f u || badCentres f w) 6 0 (omega arith) (omega arith))
+
+pub fraction-at-most-7 : (f : Format) (t : Float) → fractionRefusal f t ≤ 7
+fraction-at-most-7 f t = test-most 7 (le (Ground.zero f) t && le t (one f)) 0 7 (omega arith) (omega arith)
+
+pub slop-at-most-8 : (f : Format) (x : Float) → slopRefusal f x ≤ 8
+slop-at-most-8 f x = test-most 8 (lt (Ground.zero f) x && le x (limit f)) 0 8 (omega arith) (omega arith)
 
 -- ---- what a check's answer says
 passed-is-0 : (k : ℕ) → checked k ≡ Passed → k ≡ 0

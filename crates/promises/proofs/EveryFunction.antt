@@ -205,6 +205,13 @@ module _ {M : Type 1} (𝓤 : URA M) (H : Heap 𝓤) (A : Atoms 𝓤) (mem : Mem
     once = λ κs a g r r' v v'. told 𝓤 (λ p q. (search same-value, refl));
   }
 
+  pub domain-check-cache : OneResult 𝓤 H A domain.check_cache.ended (domain.check_cache.spec 𝓤 H A mem run)
+  domain-check-cache = record {
+    clauses = domain.check_cache.clauses 𝓤 H A mem run;
+    of-contract = refl;
+    once = λ κs a g r r' v v'. told 𝓤 (λ p q. (search same-value, refl));
+  }
+
   pub domain-check-fraction : OneResult 𝓤 H A domain.check_fraction.ended (domain.check_fraction.spec 𝓤 H A mem run)
   domain-check-fraction = record {
     clauses = domain.check_fraction.clauses 𝓤 H A mem run;

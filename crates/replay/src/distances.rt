@@ -1,5 +1,6 @@
-// Table 2: distance calls. A row has 18 words: bytes 0 to 5 are outline A, outline B, pose, cache, radii, and whether the radii are used; the
-// answer from word 2 on is the kind (the number of refusal, or 16 touching, 17 settled, 18 round limit), the rounds, seven floats, and the cache.
+// Table 2: distance calls. A row has 20 words: bytes 0 to 5 are outline A, outline B, pose, cache, radii, and whether the radii are used; word 2 is
+// the caller's number of the pair; the answer from word 3 on is the kind (the number of refusal, or 16 touching, 17 settled, 18 round limit), the
+// rounds, seven floats, and the cache.
 use crate::pool::cache;
 use crate::pool::index;
 use crate::pool::outline;
@@ -23,7 +24,8 @@ fn call(row: &[u8], pool: &[u8], numbers: &[f32]) -> Distance {
     let c = cache(pool, index(row, 3));
     let radii = radii(numbers, index(row, 4));
     let use_radii = index(row, 5) == 1;
-    proxy_distance(p, a, radii.x, b, radii.y, use_radii, c)
+    let pair = wire::word(row, 8);
+    proxy_distance(p, a, radii.x, b, radii.y, use_radii, pair, c)
 }
 
 fn ending_number(e: Ending) -> u32 {
@@ -47,13 +49,14 @@ fn put_output(words: &mut Words, o: ProxyDistanceOutput) {
 fn put_cache(words: &mut Words, c: SimplexCache) {
     let a = c.index_a;
     let b = c.index_b;
-    put(words, 9, c.count as u32);
-    put(words, 10, a[0]);
-    put(words, 11, a[1]);
-    put(words, 12, a[2]);
-    put(words, 13, b[0]);
-    put(words, 14, b[1]);
-    put(words, 15, b[2]);
+    put(words, 9, c.pair);
+    put(words, 10, c.count as u32);
+    put(words, 11, a[0]);
+    put(words, 12, a[1]);
+    put(words, 13, a[2]);
+    put(words, 14, b[0]);
+    put(words, 15, b[1]);
+    put(words, 16, b[2]);
 }
 
 pub fn answer(row: &[u8], pool: &[u8], numbers: &[f32], words: &mut Words) {

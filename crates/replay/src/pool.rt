@@ -1,5 +1,5 @@
 // The pool that rows refer to by bytes. Its words after a part's first four: where each of 128 outlines starts and how many numbers it has, poses of
-// four, caches of seven, radii of two, moves of ten, fractions, slops, and then the outlines' numbers.
+// four, caches of eight, radii of two, moves of ten, fractions, slops, and then the outlines' numbers.
 use model::Pose;
 use model::Rotation;
 use model::SimplexCache;
@@ -10,13 +10,13 @@ const POSES: usize = 256;
 
 const CACHES: usize = 512;
 
-const RADII: usize = 960;
+const RADII: usize = 1024;
 
-const MOVES: usize = 1024;
+const MOVES: usize = 1088;
 
-const FRACTIONS: usize = 2304;
+const FRACTIONS: usize = 2368;
 
-const SLOPS: usize = 2320;
+const SLOPS: usize = 2384;
 
 // All words as floats.
 pub type Numbers = [f32; 16380];
@@ -86,11 +86,12 @@ pub fn pose(numbers: &[f32], i: usize) -> Pose
 pub fn cache(pool: &[u8], i: usize) -> SimplexCache
     requires { ⌜ i < 256 ⌝ }
 {
-    let at = CACHES + 7 * i;
-    let index_a = [word(pool, at + 1), word(pool, at + 2), word(pool, at + 3)];
-    let index_b = [word(pool, at + 4), word(pool, at + 5), word(pool, at + 6)];
+    let at = CACHES + 8 * i;
+    let index_a = [word(pool, at + 2), word(pool, at + 3), word(pool, at + 4)];
+    let index_b = [word(pool, at + 5), word(pool, at + 6), word(pool, at + 7)];
     SimplexCache {
-        count: (word(pool, at) % 256) as u8,
+        pair: word(pool, at),
+        count: (word(pool, at + 1) % 256) as u8,
         index_a,
         index_b,
     }

@@ -38,7 +38,7 @@ fn shape_of(table: u32) -> RowShape
 {
     match table {
         1 => shape(64, 0, 36, 4),
-        2 => shape(72, 8, 8, 16),
+        2 => shape(80, 12, 12, 17),
         3 => shape(60, 8, 8, 13),
         4 => shape(672, 668, 512, 40),
         5 => shape(4644, 0, 12, 6),

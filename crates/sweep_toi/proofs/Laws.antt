@@ -27,7 +27,7 @@ use Rattle.model.specs.Separation.{newSeparation, evaluate, findMinSeparation}
 use Rattle.model.specs.SweepToi.{called, searched, stepped, overlapped, hit, separated, failed, failedAt, PushEnd, ended, moved, onward, found}
 use Rattle.model.specs.Corners.{noSearch, lastOf, cornersAt, search, afterwards, pushSearches, searchesBy, searchesFrom, swept, advanced}
 use Rattle.model.proofs.SweepToi.{Bounded, Ready, next-is-ready}
-use Rattle.model.specs.SweepToi.{noCorners, noCounts, closestBy, closestAt, tried, rootFrom, low, high, pushFrom, advanceBy, advanceFrom, advance}
+use Rattle.model.specs.SweepToi.{sweepPair, noCorners, noCounts, closestBy, closestAt, tried, rootFrom, low, high, pushFrom, advanceBy, advanceFrom, advance}
 
 module _ (f : Format) (w : SweepTask) (a b : List Float) where
   -- ---- what is left; e has the corners of the search before it
@@ -273,6 +273,6 @@ module _ {f : Format} {w : SweepTask} {a b : List Float} {x : Closest} {t : Floa
 
 pub closest : (f : Format) (w : SweepTask) (a b : List Float) (t : Float) (k : SimplexCache) (pa pb p : Pose) (m : Measurement) →
     pa ≡ transformAt f (w .«sweep_a») t → pb ≡ transformAt f (w .«sweep_b») t → p ≡ inverseTimes f pa pb →
-    m ≡ measure f p a (w .«radius_a») b (w .«radius_b») false k → closestBy f w pa m ≡ closestAt f w a b t k
+    m ≡ measure f p a (w .«radius_a») b (w .«radius_b») false sweepPair k → closestBy f w pa m ≡ closestAt f w a b t k
 unfolding closestAt
 closest f w a b t k pa pb p m e g h r = rw (r, h, g, e)

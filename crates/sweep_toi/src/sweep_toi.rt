@@ -44,6 +44,9 @@ const MAX_PUSH_BACK_ITERATIONS: u32 = 8;
 
 const MAX_ROOT_ITERATIONS: u32 = 50;
 
+// The one number of a sweep's pair.
+const PAIR: u32 = 0;
+
 // What a distance call tells, put into the world by the pose of A: the normal, and the point midway between the two rounded outlines.
 fn in_world(task: SweepTask, xf_a: Pose, measured: Measurement) -> Closest
     ensures { λ r. ⌜ r ≡ SweepToi.closestBy binary32 task «xf_a» measured ⌝ }
@@ -87,6 +90,7 @@ fn closest_at(
         points_b,
         task.radius_b,
         false,
+        PAIR,
         cache,
     );
     in_world(task, xf_a, measured)
@@ -236,6 +240,7 @@ pub fn advance(task: SweepTask, points_a: &[f32], points_b: &[f32]) -> Swept
     let tolerance = task.tolerance;
     let mut t1 = 0.0;
     let mut cache = SimplexCache {
+        pair: PAIR,
         count: 0,
         index_a: [0; 3],
         index_b: [0; 3],

@@ -49,15 +49,16 @@ pub fn support<'a>(proxy: ToiProxy<'a>, direction: Vector) -> SupportAnswer
     outline::support(proxy.points, direction)
 }
 
-// The distance of two proxies, B's by its pose in the frame of A, started from a cache; or the number of a refusal.
+// The distance of two proxies, B's by its pose in the frame of A, started from a cache of their pair; or the number of a refusal.
 pub fn proxy_distance<'a, 'b>(
     pos12: Pose,
     proxy_a: ToiProxy<'a>,
     proxy_b: ToiProxy<'b>,
     use_radii: bool,
+    pair: u32,
     cache: SimplexCache,
 ) -> Distance
-    ensures { λ r. ⌜ r ≡ proxyDistance binary32 pos12 (now («proxy_a» .entry .points)) («proxy_a» .entry .radius) (now («proxy_b» .entry .points)) («proxy_b» .entry .radius) «use_radii» cache ⌝ }
+    ensures { λ r. ⌜ r ≡ proxyDistance binary32 pos12 (now («proxy_a» .entry .points)) («proxy_a» .entry .radius) (now («proxy_b» .entry .points)) («proxy_b» .entry .radius) «use_radii» pair cache ⌝ }
 {
     distance::proxy_distance::proxy_distance(
         pos12,
@@ -66,6 +67,7 @@ pub fn proxy_distance<'a, 'b>(
         proxy_b.points,
         proxy_b.radius,
         use_radii,
+        pair,
         cache,
     )
 }

@@ -25,7 +25,7 @@ use Rattle.exact.specs.SquaredPaper.{Fits}
 use Rattle.exact.specs.Sheet.{Sheet, drawn, drawnPose, every, OnPaper}
 use Rattle.exact.specs.RoundLimit.{roundsWithin, LimitNeverReached, ExactAnswer}
 use Rattle.exact.proofs.Sheets.{on-squared-paper, drawn-in-domain}
-use Rattle.exact.proofs.Instances.{none, endings}
+use Rattle.exact.proofs.Instances.{none, ours, endings}
 use Rattle.exact.proofs.RoundLimit.{always-exact-on-squared-paper}
 
 -- corners, and the origin
@@ -63,7 +63,7 @@ flat-on-paper = record { numbersA = tt; numbersB = tt; quarterTurn = tt; shifted
 abbrev call : Distance
 call =
     let o = Ground.zero binary64 in
-    proxyDistance binary64 (drawnPose binary64 flat) (drawn binary64 (flat .a)) o (drawn binary64 (flat .b)) o false none
+    proxyDistance binary64 (drawnPose binary64 flat) (drawn binary64 (flat .a)) o (drawn binary64 (flat .b)) o false ours none
 
 -- of the one call eight rounds run out and the ninth settles; of the other the 20 run out
 pub record Computed : Type 0 where
@@ -78,17 +78,17 @@ computed = record { eight = refl; ninth = refl; limit = refl }
 -- what the theorem says of the one
 pub nine-exact :
     let o = Ground.zero binary32 in
-    ExactAnswer binary32 (drawnPose binary32 nine) (drawn binary32 (nine .a)) o (drawn binary32 (nine .b)) o false none
+    ExactAnswer binary32 (drawnPose binary32 nine) (drawn binary32 (nine .a)) o (drawn binary32 (nine .b)) o false ours none
     (on-squared-paper binary32 nine 16 nine-on-paper)
 nine-exact =
     let a : Fits (drawn binary32 (nine .a)) = record { even = refl; some = lit< tt; few = lit≤ tt } in
     let b : Fits (drawn binary32 (nine .b)) = record { even = refl; some = lit< tt; few = lit≤ tt } in
-    always-exact-on-squared-paper binary32 _ _ _ _ _ false none _ (drawn-in-domain binary32 nine 16 nine-on-paper a b) (record { a = refl; b = refl })
+    always-exact-on-squared-paper binary32 _ _ _ _ _ false ours none _ (drawn-in-domain binary32 nine 16 nine-on-paper a b) (record { a = refl; b = refl }) refl
 
 -- and what it cannot say of the other's bound
 pub not-at-2048 : LimitNeverReached binary64 2048 → ⊥
 not-at-2048 never = go (call .answer) refl (computed .limit)
   where
     go : (x : DistanceAnswer) → call .answer ≡ x → endings x ≡ (RoundLimit ∷ []) → ⊥
-    go (Measured o) is h = never _ _ _ _ _ _ _ (on-squared-paper binary64 flat 2048 flat-on-paper) o is cc
+    go (Measured o) is h = never _ _ _ _ _ _ _ _ (on-squared-paper binary64 flat 2048 flat-on-paper) o is cc
     go (Refused n) is h = let z : _≡_ {A = ℕ} 0 1 = cc in omega arith

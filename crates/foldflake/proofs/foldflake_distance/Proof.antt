@@ -22,7 +22,7 @@ tell-distance-requires : tie.Need-tell-distance-requires
 tell-distance-requires c κs =
     let a = c .before .before .before .before .before .before .before .before .before .before .before .before .before .args in
     let sizes = distance-lengths (a .numbers .now) (a .cache .now) (a .out .now) (c .before .before .before .before .before .before .before .if1 .taken) in
-    (sizes .1, sizes .2, rw (c .before .before .distance-of .ensures) (distance-rounds _ _ _ _ _))
+    (sizes .1, sizes .2, rw (c .before .before .distance-of .ensures) (distance-rounds _ _ _ _ _ _))
 
 same-length : tie.Need-same-length
 same-length c = search needs
@@ -33,7 +33,7 @@ same-length-2 c = search needs
 returns : tie.Need-returns
 returns c =
     let a = c .before .before .before .before .before .before .before .before .before .before .before .before .before .before .before .before .before .before .args in
-    distance-told (a .numbers .now) (a .cache .now) (a .out .now) (a .points-a .now) (a .points-b .now) (a .use-radii) _ _ _ _ _
+    distance-told (a .numbers .now) (a .cache .now) (a .out .now) (a .points-a .now) (a .points-b .now) (a .use-radii) (a .pair) _ _ _ _ _
     (c .before .before .before .before .before .before .before .before .before .before .before .before .if1 .taken)
     (c .before .before .before .before .before .before .before .before .before .before .if2 .taken)
     (c .before .before .before .before .before .before .before .before .cache-of .ensures)
@@ -42,13 +42,13 @@ returns c =
 returns-2 : tie.Need-returns-2
 returns-2 c =
     let a = c .before .before .before .before .before .before .before .before .args in
-    wrong-count (a .numbers .now) (a .cache .now) (a .out .now) (a .points-a .now) (a .points-b .now) (a .use-radii) (c .before .before .if1 .taken)
+    wrong-count (a .numbers .now) (a .cache .now) (a .out .now) (a .points-a .now) (a .points-b .now) (a .use-radii) (a .pair) (c .before .before .if1 .taken)
     (c .if2 .left)
 
 returns-3 : tie.Need-returns-3
 returns-3 c =
     let a = c .before .before .before .before .before .before .args in
-    wrong-length (a .numbers .now) (a .cache .now) (a .out .now) (a .points-a .now) (a .points-b .now) (a .use-radii) (c .if1 .left)
+    wrong-length (a .numbers .now) (a .cache .now) (a .out .now) (a .points-a .now) (a .points-b .now) (a .use-radii) (a .pair) (c .if1 .left)
 
 pub foldflake-distance-spec : {M : Type 1} → statement M
 foldflake-distance-spec =

@@ -9,11 +9,11 @@ use Rattle.distance.proofs.cache.write_cache.Statement.{statement}
 use Rattle.distance.proofs.cache.write_cache.Tie as tie
 
 abbrev Inv-loop : tie.InvT-loop
-Inv-loop count simplex index-a₀ index-b₀ i₀ index-a index-b i = (i ≤ count) × (index-a ≡ replaced index-a₀ i (λ j. slot simplex j .«index_a»))
+Inv-loop _ count simplex index-a₀ index-b₀ i₀ index-a index-b i = (i ≤ count) × (index-a ≡ replaced index-a₀ i (λ j. slot simplex j .«index_a»))
     × (index-b ≡ replaced index-b₀ i (λ j. slot simplex j .«index_b»))
 
 abbrev μ-loop : tie.MeasureT-loop
-μ-loop count simplex index-a₀ index-b₀ i₀ index-a index-b i = count - i
+μ-loop _ count simplex index-a₀ index-b₀ i₀ index-a index-b i = count - i
 
 loop-holds : tie.Need-loop-holds Inv-loop μ-loop
 unfolding replaced
@@ -54,12 +54,12 @@ loop-again c =
     let l = c .before .loop in
     let a = c .before .before .before .before .args in (
       omega arith,
-      rw (replaced-step (a .cache .«index_a») (l .i) (λ j. slot (a .t2) j .«index_a»), l .inv .1),
-      rw (replaced-step (a .cache .«index_b») (l .i) (λ j. slot (a .t2) j .«index_b»), l .inv .2),
+      rw (replaced-step (a .cache .«index_a») (l .i) (λ j. slot (a .t3) j .«index_a»), l .inv .1),
+      rw (replaced-step (a .cache .«index_b») (l .i) (λ j. slot (a .t3) j .«index_b»), l .inv .2),
     )
 
-cast-t20 : tie.Need-cast-t20 Inv-loop μ-loop
-cast-t20 c = omega arith
+cast-t21 : tie.Need-cast-t21 Inv-loop μ-loop
+cast-t21 c = omega arith
 
 returns : tie.Need-returns Inv-loop μ-loop
 returns c =
@@ -85,5 +85,5 @@ write-cache-spec =
     add-i
     loop-less
     loop-again
-    cast-t20
+    cast-t21
     returns)

@@ -32,14 +32,14 @@ write-cache-requires c κs =
 
 returns : tie.Need-returns
 returns c =
-    touching-measured binary32 _ _ _ _ _ _ _ _ (c .before .before .before .before .before .before .before .rounds .ensures) _
+    touching-measured binary32 _ _ _ _ _ _ _ _ _ (c .before .before .before .before .before .before .before .rounds .ensures) _
     (c .before .before .before .before .before .witness-points .ensures) (c .before .before .before .enum-told .given .1) _ (c .zero .ensures)
 
 returns-2 : tie.Need-returns-2
 returns-2 c =
     let r = c .before .before .before .before .before .rounds in
     let other : r .result .ending ≡ Touching → ⊥ = λ e. ⊎-elim (λ w. omega (arith, w)) (λ w. omega (arith, w)) (rw e at (c .before .before .match .keys2)) in
-    apart-measured binary32 _ _ _ _ _ _ _ _ (r .ensures) _ (c .before .before .before .witness-points .ensures) other _ (c .before .apart .ensures) _
+    apart-measured binary32 _ _ _ _ _ _ _ _ _ (r .ensures) _ (c .before .before .before .witness-points .ensures) other _ (c .before .apart .ensures) _
     (c .write-cache .ensures)
 
 pub measure-spec : {M : Type 1} → statement M
