@@ -24,7 +24,7 @@ pub struct Moments {
     pub end: f32,
     /// The fraction that the line tells, as far as a move goes.
     pub told: f32,
-    /// A sampled fraction at which the outlines touch although the search says S.
+    /// A sampled fraction at which the outlines touch although the search says otherwise.
     pub missed: Option<f32>,
 }
 

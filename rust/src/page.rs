@@ -14,7 +14,7 @@ pub const DRAWINGS: usize = 500;
 /// The most jobs that one line of the summary lists.
 const LISTED: usize = 200;
 
-/// What a sheet counts, and the jobs whose S the samples speak against.
+/// What a sheet counts, and the jobs whose answer the samples speak against.
 #[derive(Clone, Copy, Debug, Default, PartialEq, Eq)]
 pub struct Totals {
     /// Blocks, a short rest among them.
@@ -31,6 +31,8 @@ pub struct Totals {
     pub touching: usize,
     /// S, although a sampled gap is below the target.
     pub near: usize,
+    /// H, although a sampled gap is 0 before the fraction told.
+    pub early: usize,
 }
 
 /// Why a job needs a look.
@@ -39,9 +41,17 @@ enum Look {
     No,
     Touching,
     Near,
+    Early,
     Contact,
     Undecided,
     Refused,
+}
+
+impl Look {
+    /// Whether the samples speak against the answer.
+    fn warns(self) -> bool {
+        matches!(self, Look::Touching | Look::Near | Look::Early)
+    }
 }
 
 struct Row {
@@ -69,6 +79,7 @@ pub fn write(name: &str, bytes: &[u8], drawings: usize, out: &mut impl Write, pr
         }
         totals.touching += usize::from(row.look == Look::Touching);
         totals.near += usize::from(row.look == Look::Near);
+        totals.early += usize::from(row.look == Look::Early);
         rows.push(row);
         progress(i + 1, count);
     }
@@ -91,6 +102,8 @@ fn work(number: u64, part: &Part) -> Row {
         Status::Separated if sampled.touching.is_some() => Look::Touching,
         Status::Separated if sampled.gap < job.target() || sampled.unknown > 0 => Look::Near,
         Status::Separated => Look::No,
+        // nearer to the hit than two samples the curve cannot tell
+        Status::Hit if sampled.first_touching.map_or(false, |k| fraction(&job, k + 1) < verdict.floats[0]) => Look::Early,
         Status::Hit | Status::Overlapped => Look::Contact,
         Status::Failed => Look::Undecided,
     };
@@ -123,6 +136,7 @@ fn head(name: &str, bytes: &[u8], rows: &[Row], totals: &Totals, drawings: usize
     for (look, class, said) in [
         (Look::Touching, "red", "S, but the outlines touch or overlap at a sampled fraction: do not clear"),
         (Look::Near, "red", "S, but they come nearer than the target at a sampled fraction"),
+        (Look::Early, "red", "hit, but they touch or overlap at a sampled fraction before it"),
         (Look::Contact, "", "contact"),
         (Look::Undecided, "", "no verdict: treat as not cleared"),
         (Look::Refused, "", "refused: nothing was looked at"),
@@ -152,7 +166,7 @@ fn head(name: &str, bytes: &[u8], rows: &[Row], totals: &Totals, drawings: usize
     out.push_str("<h2>All jobs</h2>\n<table class=\"jobs\">\n<tr><th>block</th><th>job</th><th></th><th>said</th><th>least sampled gap</th></tr>\n");
     for (i, row) in rows.iter().enumerate() {
         let least = row.sampled.map_or(String::new(), |sampled| if sampled.gap.is_nan() { "no number".to_string() } else { length(f64::from(sampled.gap), 4) });
-        let class = if matches!(row.look, Look::Touching | Look::Near) { " class=\"red\"" } else { "" };
+        let class = if row.look.warns() { " class=\"red\"" } else { "" };
         let _ = writeln!(
             out,
             "<tr{class}><td>{0}</td><td><a href=\"#block{0}\">{1}</a></td><td>{2}</td><td>{3}</td><td>{least}</td></tr>",
@@ -176,7 +190,7 @@ the target. The lines in each curve show both.</li>\n\
 <li>Numbers are rounded to the nearest for reading: fractions to four places, angles to a tenth of a degree, coordinates to two places and gaps to four; \
 where a job is small to more, as its card says. Exact bits, and the shortest decimals that read back to them, are in each card's fold-out.</li>\n\
 <li>Drawings: A is grey, B is hatched. Thin line: at the start; thick: at the fraction told; dashed: at the end of what is planned; dotted red: at a \
-sampled fraction where they touch though the search says S. Dash-dotted arrow: the way of the turning centre. Corners are numbered from 0 as on the \
+sampled fraction where they touch though the search says otherwise. Dash-dotted arrow: the way of the turning centre. Corners are numbered from 0 as on the \
 sheet; the outline drawn is the smallest convex shape around them. Cross and arrow: the point and the normal, from A to B.</li>\n</ul>\n";
 
 fn job_name(number: usize, row: &Row) -> String {
@@ -208,7 +222,10 @@ fn short(row: &Row) -> String {
         (Status::Separated, Look::Near) => "S, but sampled below the target".to_string(),
         (Status::Separated, _) if row.turns => "clear by the search (it turns)".to_string(),
         (Status::Separated, _) => "clear by the search".to_string(),
-        (Status::Hit, _) => format!("hit at {}", rounded(f64::from(verdict.floats[0]), 4)),
+        (Status::Hit, look) => {
+            let early = if look == Look::Early { ", but sampled contact before it" } else { "" };
+            format!("hit at {}{early}", rounded(f64::from(verdict.floats[0]), 4))
+        }
         (Status::Overlapped, _) => "touching or overlapping".to_string(),
         (Status::Failed, _) => "no verdict: treat as not cleared".to_string(),
     }
@@ -232,10 +249,7 @@ fn card(number: usize, part: &Part, row: &Row, drawn: bool) -> String {
         0 => format!("Block {number}"),
         job => format!("Job {job}"),
     };
-    let class = match row.look {
-        Look::Touching | Look::Near => "card warned",
-        _ => "card",
-    };
+    let class = if row.look.warns() { "card warned" } else { "card" };
     let mut out = format!(
         "<section class=\"{class}\" id=\"block{number}\">\n<h3><span class=\"letter\">{}</span> {title} <small>block {number}</small></h3>\n",
         letter(&row.answer)
@@ -295,13 +309,19 @@ fn worked(title: &str, job: &Job, verdict: &Verdict, sampled: &Sampled, row: &Ro
             let _ = writeln!(out, "<p class=\"red\">the search says S, but {} sampled gaps are no number: look before clearing</p>", sampled.unknown);
         }
     }
-    if let (Status::Hit, Some(k)) = (verdict.status, sampled.first_touching) {
-        // nearer than a sample the curve cannot tell
-        if fraction(job, k + 1) < verdict.floats[0] {
-            let _ = writeln!(out, "<p class=\"red\">a hit is told, but already at {} of the move the outlines touch or overlap</p>", at(k, 2));
-        }
+    let missed = match row.look {
+        Look::Touching => sampled.middle(),
+        Look::Early => sampled.first_touching,
+        _ => None,
+    };
+    if let (Look::Early, Some(k)) = (row.look, missed) {
+        let _ = writeln!(
+            out,
+            "<p class=\"red\">the search tells a hit at {}, but already at {} of the move the outlines touch or overlap</p>",
+            rounded(f64::from(verdict.floats[0]), 2),
+            at(k, 2)
+        );
     }
-    let missed = if row.look == Look::Touching { sampled.middle() } else { None };
     let moments = moments(job, verdict, missed);
     out.push_str("<div class=\"sides\">\n");
     if drawn {

@@ -22,10 +22,11 @@ fn main() -> ExitCode {
     };
     match run(drawings, &batch, &sheet) {
         Ok(totals) => {
-            let Totals { blocks, clear, contact, undecided, refused, touching, near } = totals;
+            let Totals { blocks, clear, contact, undecided, refused, touching, near, early } = totals;
             eprintln!("{}: {blocks} blocks: {clear} clear by the search, {contact} contact, {undecided} no verdict, {refused} refused", sheet.display());
-            if touching + near > 0 {
-                eprintln!("{}: of the clear ones {touching} touch and {near} come too near at a sampled fraction: look at them", sheet.display());
+            if touching + near + early > 0 {
+                let name = sheet.display();
+                eprintln!("{name}: sampled: {touching} of the clear ones touch, {near} come too near; {early} hits have contact before: look at them");
             }
             ExitCode::SUCCESS
         }
