@@ -19,6 +19,8 @@ NUMBER = r"-?\d+(?:\.\d+)?"
 # the steps of a path, by their letter: how many numbers each takes
 STEPS = {"M": 2, "L": 2, "H": 1, "V": 1, "A": 7, "Z": 0}
 PIECES = 256
+# the lines whose gap was worked out here too
+compared = []
 
 
 def said(element):
@@ -115,10 +117,15 @@ def apart(a, b):
 
 
 def gaps(block):
-    """The block's gap at each sample: poses as document 01 has them, in doubles."""
+    """The block's gap at each sample, in doubles; none for a half turn, which has no pose halfway, and for sides so short, or places so far out, that
+    the distance call may tell 0 of outlines that are apart."""
     floats = struct.unpack("<88f", block[8:360])
     moves = [floats[4:14], floats[14:24]]
+    if any(m[6] * m[8] + m[7] * m[9] < -0.9 for m in moves) or max(map(abs, floats)) > 1e4:
+        return None
     points = [list(zip(floats[24 + 32 * k : 24 + 32 * k + 2 * n : 2], floats[25 + 32 * k : 25 + 32 * k + 2 * n : 2])) for k, n in enumerate(block[4:6])]
+    if any(0 < math.dist(p, q) < 0.1 for corners in points for p in corners for q in corners):
+        return None
     out = []
     for k in range(PIECES + 1):
         t = floats[2] * k / PIECES
@@ -170,13 +177,16 @@ def check_card(card, line, block):
 
 
 def check_gap(status, t, facts, spoken, block, line):
+    reds = [text for text in spoken if text.startswith("the search ")]
     ours = gaps(block)
+    if ours is None:
+        return bool(reds)
     least = facts["least sampled gap"]
     value = float(re.match(r"(?:below )?([\d.]+)", least).group(1))
     size = max(map(abs, struct.unpack("<88f", block[8:360])))
     near = 1e-4 + 2e-6 * size
     assert abs(value - min(ours)) <= near, (least, min(ours), line)
-    reds = [text for text in spoken if text.startswith("the search ")]
+    compared.append(line)
     if status != "S":
         return bool(reds)
     floor = max(struct.unpack("<f", block[20:24])[0], sum(struct.unpack("<2f", block[8:16])) - struct.unpack("<f", block[20:24])[0])
@@ -217,7 +227,7 @@ def main(page, batch, sheet):
     assert not re.search(r"@import|url\((?!#hatch\))|https?://(?!www\.w3\.org/(?:1999/xhtml|2000/svg)\")", raw)
     rows = [row for table in root.iter(f"{HTML}table") if table.get("class") == "jobs" for row in table][1:]
     assert [[said(row[0]), said(row[1])] for row in rows] == [line.split(" ")[:2] for line in lines]
-    print(f"{page}: {len(cards)} cards, {len(drawings)} drawings, {sum(map(bool, reds))} of them red: as the sheet says")
+    print(f"{page}: {len(cards)} cards, {len(drawings)} drawings, {sum(map(bool, reds))} cards red: as the sheet says; {len(compared)} gaps worked out here too")
 
 
 if __name__ == "__main__":

@@ -84,6 +84,13 @@ impl Job {
         self.moves[body].first_rotation != self.moves[body].last_rotation
     }
 
+    /// Whether the body makes a half turn, within a tenth of a degree: it has no direction.
+    pub fn half_turn(&self, body: usize) -> bool {
+        let m = &self.moves[body];
+        let [c, s] = [0, 1].map(|i| f64::from(m.first_rotation[i]) + f64::from(m.last_rotation[i]));
+        c.hypot(s) < 2.0 * 89.95f64.to_radians().cos()
+    }
+
     /// Whether the body stays as it is.
     pub fn stands(&self, body: usize) -> bool {
         !self.turns(body) && self.moves[body].first == self.moves[body].last

@@ -42,15 +42,16 @@ enum Look {
     Touching,
     Near,
     Early,
+    HalfTurn,
     Contact,
     Undecided,
     Refused,
 }
 
 impl Look {
-    /// Whether the samples speak against the answer.
+    /// Whether the samples speak against the answer, or say nothing of it.
     fn warns(self) -> bool {
-        matches!(self, Look::Touching | Look::Near | Look::Early)
+        matches!(self, Look::Touching | Look::Near | Look::Early | Look::HalfTurn)
     }
 }
 
@@ -101,6 +102,7 @@ fn work(number: u64, part: &Part) -> Row {
     let look = match verdict.status {
         Status::Separated if sampled.touching.is_some() => Look::Touching,
         Status::Separated if sampled.gap < job.target() || sampled.unknown > 0 => Look::Near,
+        Status::Separated if job.half_turn(0) || job.half_turn(1) => Look::HalfTurn,
         Status::Separated => Look::No,
         // nearer to the hit than two samples the curve cannot tell
         Status::Hit if sampled.first_touching.map_or(false, |k| fraction(&job, k + 1) < verdict.floats[0]) => Look::Early,
@@ -137,6 +139,7 @@ fn head(name: &str, bytes: &[u8], rows: &[Row], totals: &Totals, drawings: usize
         (Look::Touching, "red", "S, but the outlines touch or overlap at a sampled fraction: do not clear"),
         (Look::Near, "red", "S, but they come nearer than the target at a sampled fraction"),
         (Look::Early, "red", "hit, but they touch or overlap at a sampled fraction before it"),
+        (Look::HalfTurn, "red", "S, but of a half turn, which has no direction: cut it into steps"),
         (Look::Contact, "", "contact"),
         (Look::Undecided, "", "no verdict: treat as not cleared"),
         (Look::Refused, "", "refused: nothing was looked at"),
@@ -183,8 +186,8 @@ fn head(name: &str, bytes: &[u8], rows: &[Row], totals: &Totals, drawings: usize
 const READING: &str = "\
 <h2>How to read it</h2>\n<ul class=\"notes\">\n\
 <li><b>S speaks of one axis at the interval's end, not of the whole move.</b> A corner that swings in and out in between is missed: the gap over the move \
-shows it. That gap is sampled at 257 fractions of what is planned; <b>sampled is not proved</b>: between two samples the outlines may come nearer. \
-And a sampled 0 need not be contact: tiny sides and the limit of 20 rounds can give 0 although the outlines are apart.</li>\n\
+shows it. That gap is sampled at 257 fractions of what is planned; <b>sampled is not proved</b>: between two samples the outlines may come nearer. And a \
+sampled 0 need not be contact: tiny sides, the limit of 20 rounds, and the middle of a half turn can give 0 although the outlines are apart.</li>\n\
 <li>The gap is the distance of the outlines without their radii. Bodies with radii meet where it is the radii together; the search calls it contact at \
 the target. The lines in each curve show both.</li>\n\
 <li>Numbers are rounded to the nearest for reading: fractions to four places, angles to a tenth of a degree, coordinates to two places and gaps to four; \
@@ -220,6 +223,7 @@ fn short(row: &Row) -> String {
     match (verdict.status, row.look) {
         (Status::Separated, Look::Touching) => "S, but sampled contact: do not clear".to_string(),
         (Status::Separated, Look::Near) => "S, but sampled below the target".to_string(),
+        (Status::Separated, Look::HalfTurn) => "S, but of a half turn: cut it into steps".to_string(),
         (Status::Separated, _) if row.turns => "clear by the search (it turns)".to_string(),
         (Status::Separated, _) => "clear by the search".to_string(),
         (Status::Hit, look) => {
@@ -307,6 +311,12 @@ fn worked(title: &str, job: &Job, verdict: &Verdict, sampled: &Sampled, row: &Ro
         }
         if sampled.unknown > 0 {
             let _ = writeln!(out, "<p class=\"red\">the search says S, but {} sampled gaps are no number: look before clearing</p>", sampled.unknown);
+        }
+    }
+    for body in 0..2 {
+        if job.half_turn(body) {
+            let name = ["A", "B"][body];
+            let _ = writeln!(out, "<p class=\"red\">{name} makes a half turn, which has no direction and no pose halfway: cut it into steps</p>");
         }
     }
     let missed = match row.look {

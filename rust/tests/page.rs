@@ -58,6 +58,7 @@ fn every_status_is_said_plainly() {
     // a half turn cannot be typed: 179.9999999 degrees is one in 32 bits
     let gave_up = card(&format!("a plate: 5 5\n{WALL}a turned: 0 179.9999999\n"));
     assert!(gave_up.contains("No verdict: treat as not cleared."), "{gave_up}");
+    assert!(gave_up.contains("A makes a half turn, which has no direction and no pose halfway: cut it into steps"));
     let turning = card(&format!("a plate: 5 5\n{WALL}a turned: 10 20\n"));
     assert!(turning.contains("<tr><th>angle there</th><td>A 13.0°</td></tr>"), "{turning}");
     let refused = card("a plate: 1 1\nb plate: 1 1\nslop: 0\n");
