@@ -123,7 +123,7 @@ pub struct Verdict {
     pub floats: [f32; 5],
     /// Distance calls, separation searches, root steps.
     pub counts: [u64; 3],
-    /// For A and for B, the first and the last corner on the line that the last search named; none for a side, or where none was told.
+    /// For A and for B, the two corners on one line that the last search named, often the same; none for a side, or where none was told.
     pub corners: [Option<[u32; 2]>; 2],
 }
 
@@ -144,7 +144,11 @@ pub fn answer(number: u64, part: &Part) -> Answer {
         Part::Block(block) => line(number, block).expect("a file has fewer than 2^63 blocks"),
         Part::Rest(_) => format!("{number} 0 9\n"),
     };
-    let line = line.trim_end().to_string();
+    read(line.trim_end().to_string())
+}
+
+/// What a line of the sheet tells, with the corners of the last search or without.
+fn read(line: String) -> Answer {
     let words: Vec<&str> = line.split(' ').collect();
     let number_at = |i: usize| words.get(i).and_then(|word| word.parse().ok()).unwrap_or(0u64);
     let status = match words.get(3).copied() {
@@ -159,7 +163,7 @@ pub fn answer(number: u64, part: &Part) -> Answer {
         *place = f32::from_bits(u32::from_str_radix(word, 16).expect("a float is told by eight hexadecimal digits"));
     }
     let corner = |i: usize| words.get(i).and_then(|word| word.parse().ok());
-    let pair = |i: usize| corner(i).and_then(|first| corner(i + 1).map(|last| [first, last]));
+    let pair = |i: usize| corner(i).and_then(|first| corner(i + 1).map(|second| [first, second]));
     let verdict = Verdict { status, floats, counts: [number_at(9), number_at(10), number_at(11)], corners: [pair(12), pair(14)] };
     Answer { job: number_at(1) as u32, told: Ok(verdict), line }
 }
@@ -260,5 +264,22 @@ fn field_faults(block: &[u8; BLOCK], found: &mut Vec<String>) {
     if let Some(&place) = wrong.first() {
         let more = if wrong.len() > 1 { format!(", and {} more", wrong.len() - 1) } else { String::new() };
         found.push(format!("byte {place} is {}, and has to be 0{more}", block[place]));
+    }
+}
+
+#[cfg(test)]
+mod tests {
+    use super::*;
+
+    #[test]
+    fn a_line_is_read_with_corners_or_without() {
+        let start = "1 7 0 H 3F600000 3E800000 00000000 3F800000 7FC00000 2 5 21";
+        for (end, corners) in [("", [None, None]), (" 0 3 1 1", [Some([0, 3]), Some([1, 1])]), (" - - 2 4", [None, Some([2, 4])]), (" - - - -", [None, None])] {
+            let told = read(format!("{start}{end}")).told.unwrap();
+            assert_eq!((told.status, told.floats[..4].to_vec(), told.counts), (Status::Hit, vec![0.875, 0.25, 0.0, 1.0], [2, 5, 21]));
+            assert!(told.floats[4].is_nan() && told.corners == corners, "{end}");
+        }
+        assert_eq!(read("3 0 10".to_string()), Answer { line: "3 0 10".to_string(), job: 0, told: Err(10) });
+        assert_eq!(read("4 4294967295 3".to_string()).job, u32::MAX);
     }
 }

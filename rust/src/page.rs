@@ -424,8 +424,8 @@ fn facts(job: &Job, verdict: &Verdict, sampled: &Sampled, moments: &Moments, pla
     if verdict.corners != [None, None] {
         let side = |body: usize| match verdict.corners[body] {
             None => format!("a side of {}", ["A", "B"][body]),
-            Some([first, last]) if first == last => format!("corner {first} of {}", ["A", "B"][body]),
-            Some([first, last]) => format!("corners {first} to {last} of {}, level", ["A", "B"][body]),
+            Some([first, second]) if first == second => format!("corner {first} of {}", ["A", "B"][body]),
+            Some([first, second]) => format!("corners {first} and {second} of {}, on one line", ["A", "B"][body]),
         };
         row("last search", format!("{}, {}", side(0), side(1)));
     }

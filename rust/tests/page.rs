@@ -3,23 +3,11 @@ use foldflake::jobs::read;
 use foldflake::page::{write, Totals};
 use std::io;
 
-/// A batch from text: the lines of `jobs`, put into blocks.
+mod common;
+
+/// A batch from text.
 fn batch(text: &str) -> Vec<u8> {
-    let mut bytes = Vec::new();
-    for line in read(text).unwrap().lines.lines() {
-        let fields: Vec<&str> = line.split(' ').collect();
-        let counts = [fields[1], fields[2]].map(|word| word.parse::<usize>().unwrap());
-        let mut words = [0u32; 128];
-        words[0] = fields[0].parse().unwrap();
-        words[1] = (counts[0] | counts[1] << 8) as u32;
-        for (i, word) in fields[3..].iter().enumerate() {
-            let place = if i < 24 + 2 * counts[0] { 2 + i } else { 58 + i - 24 - 2 * counts[0] };
-            words[place] = u32::from_str_radix(word, 16).unwrap();
-        }
-        words[127] = !words.iter().fold(0u32, |sum, word| sum.wrapping_add(*word));
-        bytes.extend(words.iter().flat_map(|word| word.to_le_bytes()));
-    }
-    bytes
+    read(text).unwrap().lines.lines().flat_map(common::block).collect()
 }
 
 fn page(bytes: &[u8], drawings: usize) -> (String, Totals) {
