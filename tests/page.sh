@@ -34,7 +34,7 @@ for line in sys.stdin:
     a, b, words = 2 * int(a), 2 * int(b), [int(word, 16) for word in words]
     words = [int(job), a // 2 | b // 2 << 8, *words[:24 + a], *[0] * (32 - a), *words[24 + a :], *[0] * (32 - b + 37)]
     sys.stdout.buffer.write(struct.pack("<128I", *words, 0xFFFFFFFF - sum(words) % 2**32))' > "$work/batch"
-grep -q 'line 11, job 11: cut into 9 steps, jobs 11 to 19' "$work/told" || wrong "jobs told: $(cat "$work/told")"
+grep -q 'line 12, job 11: cut into 9 steps, jobs 11 to 19' "$work/told" || wrong "jobs told: $(cat "$work/told")"
 compare "the swing"
 grep -q '>the search says S, but at 0.50 of the move the outlines touch or overlap: do not clear<' "$work/page.html" || wrong "the swing's card is not red"
 [ "$(cut -d ' ' -f 4 "$work/sheet" | head -n 10 | tr -d '\n')" = SSHOOOOOOS ] || wrong "the swing's letters"
@@ -81,8 +81,8 @@ jobs_of - < examples/shift.txt | cmp - <(jobs_of examples/shift.txt) || wrong "s
 
 # a long batch: told as it goes, within seconds
 for i in $(seq 667); do cat examples/shift.batch; done | head -c 5120000 > "$work/long"
-start=$(date +%s); page "$work/long" "$sheet" 2> "$work/told" || wrong "a long batch"
-echo "10000 blocks in $(($(date +%s) - start)) s, a page of $(($(stat -c %s "$sheet") / 1000000)) MB; told $(grep -c '^page: .* of 10000 blocks$' "$work/told") times"
+TIMEFORMAT="10000 blocks in %R s, %U s of the processor"; time page "$work/long" "$sheet" 2> "$work/told" || wrong "a long batch"
+echo "a page of $(($(stat -c %s "$sheet") / 1000000)) MB; told $(grep -c '^page: .* of 10000 blocks$' "$work/told") times"
 [ "$(grep -c 'class="paper"' "$sheet")" = 434 ] || wrong "not the worked ones of the first 500 blocks are drawn"
 page --drawings 5 "$work/long" "$sheet" 2> /dev/null; [ "$(grep -c 'class="paper"' "$sheet")" = 5 ] || wrong "not 5 drawings"
 exit $bad
