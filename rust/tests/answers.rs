@@ -270,33 +270,32 @@ fn every_refusal_of_a_moment() {
     assert_eq!(gap(&SQUARE, &m, &SQUARE, &m, -0.0), Ok(0.0));
 }
 
-/// The gap is the distance call's where that call takes the pose, and where nlerp rounds a cosine above 1 it is told all the same.
+/// The gap is the distance call's where that call takes the pose; where the one rotation seen from the other rounds above 1 it is told all the same.
 #[test]
 fn the_gap_is_a_distance_that_is_not_checked_again() {
     let turned = |degrees: f32| [degrees.to_radians().cos(), degrees.to_radians().sin()];
     let mut above = 0;
-    for i in 0..40 {
-        let (from, to) = (7.0 * i as f32, 7.0 * i as f32 + 80.0);
-        let m = Move { first_rotation: turned(from), last_rotation: turned(to), ..goes([0.0, 0.0], [3.0, 1.0]) };
-        let stands = still(9.0, 0.5);
-        for k in 0..=256 {
-            let t = k as f32 / 256.0;
-            let apart = gap(&SQUARE, &m, &SQUARE, &stands, t).unwrap();
-            // B's frame seen from A's: the unturned body's pose by the turned one's inverse
-            let [c, s] = pose(&m, t).unwrap().rotation;
-            let [x, y] = pose(&m, t).unwrap().translation;
-            let seen = [c * (9.0 - x) + s * (0.5 - y), c * (0.5 - y) - s * (9.0 - x)];
-            match distance([c, -s], seen, &SQUARE, 0.0, &SQUARE, 0.0, false, &mut Cache::default()) {
+    for i in 0..60 {
+        let angle = 3.0 * i as f32;
+        let turns = Move { first_rotation: turned(angle), last_rotation: turned(angle + 40.0), ..goes([0.0, 0.0], [3.0, 1.0]) };
+        let stands = Move { first_rotation: turned(angle), last_rotation: turned(angle), ..still(9.0, 0.5) };
+        for k in 0..=64 {
+            let t = k as f32 / 64.0;
+            let apart = gap(&SQUARE, &turns, &SQUARE, &stands, t).unwrap();
+            let (a, b) = (pose(&turns, t).unwrap(), pose(&stands, t).unwrap());
+            let ([c, s], [x, y]) = (a.rotation, [b.translation[0] - a.translation[0], b.translation[1] - a.translation[1]]);
+            let seen = [c * b.rotation[0] + s * b.rotation[1], c * b.rotation[1] - s * b.rotation[0]];
+            match distance(seen, [c * x + s * y, c * y - s * x], &SQUARE, 0.0, &SQUARE, 0.0, false, &mut Cache::default()) {
                 Ok(measured) => assert!((measured.distance - apart).abs() < 1e-5, "{} {apart}", measured.distance),
                 Err(refusal) => {
-                    assert_eq!(refusal, Refusal(5));
+                    assert!(refusal == Refusal(5) && seen[0] > 1.0);
                     above += 1;
                 }
             }
             assert!((3.0..9.0).contains(&apart));
         }
     }
-    println!("{above} poses that a distance call refuses");
+    assert!(above > 0, "no pose that a distance call refuses");
 }
 
 /// The entry points behind the safe face, which always hands over lists of the right length.
