@@ -289,6 +289,9 @@ fn refused(refusal: u32, part: &Part, out: &mut String) {
     out.push_str("<p>Nothing was looked at: this is no answer about the move.</p>\n");
 }
 
+/// What a sampled 0 is worth.
+const SAMPLED: &str = "This is sampled, not proved: tiny sides and the round limit can give 0 without contact.";
+
 fn worked(title: &str, job: &Job, verdict: &Verdict, sampled: &Sampled, row: &Row, drawn: bool, out: &mut String) {
     let (places, gap_places) = places(job);
     let at = |k: usize, places: usize| rounded(f64::from(fraction(job, k)), places);
@@ -297,7 +300,7 @@ fn worked(title: &str, job: &Job, verdict: &Verdict, sampled: &Sampled, row: &Ro
         let middle = sampled.middle().unwrap_or(0);
         let _ = writeln!(out, "<p class=\"red\">the search says S, but at {} of the move the outlines touch or overlap: do not clear</p>", at(middle, 2));
         if let Some([from, to]) = sampled.touching {
-            let _ = writeln!(out, "<p>Sampled gap 0 from {} to {} of the move.</p>", at(from, 4), at(to, 4));
+            let _ = writeln!(out, "<p>Sampled gap 0 from {} to {} of the move. {SAMPLED}</p>", at(from, 4), at(to, 4));
         }
     } else if row.look == Look::Near {
         if sampled.gap < job.target() {
@@ -308,6 +311,7 @@ fn worked(title: &str, job: &Job, verdict: &Verdict, sampled: &Sampled, row: &Ro
                 length(f64::from(sampled.gap), gap_places),
                 length(f64::from(job.target()), gap_places)
             );
+            let _ = writeln!(out, "<p>Sampled, not proved.</p>");
         }
         if sampled.unknown > 0 {
             let _ = writeln!(out, "<p class=\"red\">the search says S, but {} sampled gaps are no number: look before clearing</p>", sampled.unknown);
@@ -331,6 +335,7 @@ fn worked(title: &str, job: &Job, verdict: &Verdict, sampled: &Sampled, row: &Ro
             rounded(f64::from(verdict.floats[0]), 2),
             at(k, 2)
         );
+        let _ = writeln!(out, "<p>{SAMPLED}</p>");
     }
     let moments = moments(job, verdict, missed);
     out.push_str("<div class=\"sides\">\n");
