@@ -27,7 +27,7 @@
 extern "C" {
 #endif
 
-/* A list has not the length that the function asks for: of foldflake_sweep and foldflake_distance, and of a pose. */
+/* A list has not the length that the function asks for: of foldflake_sweep and foldflake_distance, of a pose, a move, and what they are told into. */
 enum { FOLDFLAKE_WRONG_LENGTH = 255 };
 
 /* What foldflake_sweep answers. SEPARATED does not clear a move that turns, and FAILED is no verdict: see README.md, "What a setter must know". */
@@ -43,6 +43,9 @@ enum { FOLDFLAKE_DISTANCE_TOUCHING = 16, FOLDFLAKE_DISTANCE_SETTLED = 17, FOLDFL
 
 /* What the four builders of outlines answer where the corners were written. */
 enum { FOLDFLAKE_BUILT = 32 };
+
+/* What foldflake_pose and foldflake_gap answer where out was written. */
+enum { FOLDFLAKE_TOLD = 32 };
 
 /* The square root, rounded to nearest. */
 float foldflake_root(float x);
@@ -93,6 +96,21 @@ uint32_t foldflake_plate(float half_x, float half_y, float *out, size_t out_len)
 uint32_t foldflake_bar(float ax, float ay, float bx, float by, float *out, size_t out_len);
 uint32_t foldflake_placed_plate(float half_x, float half_y, const float *pose, size_t pose_len, float *out, size_t out_len);
 uint32_t foldflake_placed_bar(float ax, float ay, float bx, float by, const float *pose, size_t pose_len, float *out, size_t out_len);
+
+/* One moment of planned moves. A move has 10 numbers, as foldflake_sweep takes them: local centre x y, first centre x y, last centre x y, first
+   rotation c s, last rotation c s. The fraction lies in 0 to 1, whatever part of the move is planned.
+
+   foldflake_pose: where a body stands there, as a sweep works it. out, 4: the rotation c s and the translation x y. Refusals: 5, 6 for the move,
+   7 for the fraction.
+
+   foldflake_gap: how far apart two outlines are there, without radii, as a sweep works it: seen from the first centre of A, the poses not checked
+   again, no corners known from before. out, 1: the distance; 0 where they touch or overlap, and where a side is tiny or the rounds run out, although
+   they may be apart. Refusals: 1 to 3 for the outlines, 5, 6 for the moves, 7 for the fraction.
+
+   The answer is FOLDFLAKE_TOLD, a refusal, or FOLDFLAKE_WRONG_LENGTH. Unless it is FOLDFLAKE_TOLD, out is as it was. */
+uint32_t foldflake_pose(const float *planned, size_t planned_len, float fraction, float *out, size_t out_len);
+uint32_t foldflake_gap(const float *points_a, size_t numbers_in_a, const float *move_a, size_t move_a_len, const float *points_b,
+                       size_t numbers_in_b, const float *move_b, size_t move_b_len, float fraction, float *out, size_t out_len);
 
 #ifdef __cplusplus
 }

@@ -22,6 +22,14 @@
 //! The proofs are for rounding to nearest with subnormal numbers kept: the floating-point environment has to be Rust's default.
 #![deny(missing_docs)]
 
+pub mod batch;
+mod digest;
+mod draw;
+mod gaps;
+pub mod jobs;
+pub mod page;
+mod words;
+
 use std::fmt;
 
 mod entry {
@@ -58,6 +66,20 @@ mod entry {
         pub fn foldflake_bar(ax: f32, ay: f32, bx: f32, by: f32, out: *mut f32, out_len: usize) -> u32;
         pub fn foldflake_placed_plate(half_x: f32, half_y: f32, pose: *const f32, pose_len: usize, out: *mut f32, out_len: usize) -> u32;
         pub fn foldflake_placed_bar(ax: f32, ay: f32, bx: f32, by: f32, pose: *const f32, pose_len: usize, out: *mut f32, out_len: usize) -> u32;
+        pub fn foldflake_pose(planned: *const f32, planned_len: usize, fraction: f32, out: *mut f32, out_len: usize) -> u32;
+        pub fn foldflake_gap(
+            points_a: *const f32,
+            numbers_in_a: usize,
+            move_a: *const f32,
+            move_a_len: usize,
+            points_b: *const f32,
+            numbers_in_b: usize,
+            move_b: *const f32,
+            move_b_len: usize,
+            fraction: f32,
+            out: *mut f32,
+            out_len: usize,
+        ) -> u32;
     }
 }
 
@@ -70,7 +92,7 @@ mod entry {
 /// | 4 | a radius is not finite, below 0 or above 1,048,576 |
 /// | 5 | a rotation's part is above 1 in size or NaN, or `c * c + s * s` is below 0.984375 or above 1.015625 |
 /// | 6 | a translation or a centre is as in 3 |
-/// | 7 | the max fraction is not in 0 to 1 |
+/// | 7 | the max fraction, or the fraction asked for, is not in 0 to 1 |
 /// | 8 | the slop is not above 0, above 1,048,576, or NaN |
 /// | 12 | the cache is of another pair: it has corner pairs, and not under the caller's number |
 /// | 15 | the lent list has no room for all corners |
@@ -96,7 +118,7 @@ impl fmt::Display for Refusal {
             4 => "a radius is not finite, below 0 or above 1048576",
             5 => "a rotation is not a cosine and a sine",
             6 => "a translation or a centre is not finite or above 1048576 in size",
-            7 => "the max fraction is not in 0 to 1",
+            7 => "the fraction is not in 0 to 1",
             8 => "the slop is not above 0, above 1048576, or not a number",
             12 => "the cache is of another pair",
             15 => "the lent list has no room for all corners",
@@ -131,6 +153,16 @@ pub struct Move {
     pub first_rotation: [f32; 2],
     /// Cosine and sine at fraction 1.
     pub last_rotation: [f32; 2],
+}
+
+impl Move {
+    /// The ten numbers of the move, in the order of a block.
+    fn numbers(&self) -> [f32; 10] {
+        let mut numbers = [0f32; 10];
+        let pairs = [self.local_center, self.first, self.last, self.first_rotation, self.last_rotation];
+        numbers.chunks_mut(2).zip(&pairs).for_each(|(place, pair)| place.copy_from_slice(pair));
+        numbers
+    }
 }
 
 /// Where and when two bodies meet. Zeros where nothing is to be told.
@@ -350,10 +382,8 @@ pub fn sweep(
 ) -> Result<Sweep, Refusal> {
     let mut numbers = [0f32; 24];
     numbers[..4].copy_from_slice(&[radius_a, radius_b, max_fraction, linear_slop]);
-    for (m, part) in [move_a, move_b].into_iter().zip(numbers[4..].chunks_mut(10)) {
-        let pairs = [m.local_center, m.first, m.last, m.first_rotation, m.last_rotation];
-        part.chunks_mut(2).zip(&pairs).for_each(|(place, pair)| place.copy_from_slice(pair));
-    }
+    numbers[4..14].copy_from_slice(&move_a.numbers());
+    numbers[14..].copy_from_slice(&move_b.numbers());
     let (mut out, mut counts) = ([0f32; 5], [0u32; 7]);
     // Safety: each list has the length handed over, and the two that are written are ours alone.
     let answer = unsafe {
@@ -443,6 +473,84 @@ pub fn distance(
         rounds: answer / 256,
         ending,
     })
+}
+
+/// Where a body stands: its points are turned by the rotation and then moved by the translation.
+///
+/// ```
+/// use foldflake::{pose, Move};
+/// let turn = Move { local_center: [1.0, 1.0], first: [5.0, 0.0], last: [5.0, 0.0], first_rotation: [1.0, 0.0], last_rotation: [0.0, 1.0] };
+/// let end = pose(&turn, 1.0)?;
+/// // the turning centre stays at (5, 0)
+/// assert_eq!((end.rotation, end.translation), ([0.0, 1.0], [6.0, -1.0]));
+/// # Ok::<(), foldflake::Refusal>(())
+/// ```
+#[derive(Clone, Copy, Debug, PartialEq)]
+pub struct Pose {
+    /// Cosine and sine.
+    pub rotation: [f32; 2],
+    /// In the hall's frame.
+    pub translation: [f32; 2],
+}
+
+/// The pose of a body at a fraction of its move, as a sweep works it. Refused by 5 and 6 for the move, then by 7 for the fraction.
+///
+/// ```
+/// use foldflake::{pose, Move, Refusal};
+/// let goes = Move { local_center: [0.0; 2], first: [0.0; 2], last: [8.0, 4.0], first_rotation: [1.0, 0.0], last_rotation: [1.0, 0.0] };
+/// assert_eq!(pose(&goes, 0.25)?.translation, [2.0, 1.0]);
+/// assert_eq!(pose(&goes, 1.5), Err(Refusal(7)));
+/// # Ok::<(), Refusal>(())
+/// ```
+pub fn pose(planned: &Move, fraction: f32) -> Result<Pose, Refusal> {
+    let numbers = planned.numbers();
+    let mut out = [0f32; 4];
+    // Safety: both lists have the lengths handed over, and the one that is written is ours alone.
+    let answer = unsafe { entry::foldflake_pose(numbers.as_ptr(), numbers.len(), fraction, out.as_mut_ptr(), out.len()) };
+    match answer {
+        32 => Ok(Pose { rotation: [out[0], out[1]], translation: [out[2], out[3]] }),
+        number => Err(Refusal(number)),
+    }
+}
+
+/// How far apart two outlines are at a fraction of their moves, without radii: the distance as a sweep works it there, with no corners known from
+/// before. 0 where they touch or overlap, and also where a side is tiny or the rounds run out, although they may be apart.
+///
+/// Refused by 1 to 3 for the outlines, 5 and 6 for the moves, then by 7 for the fraction. The poses in between are not checked again, as
+/// [`distance`] would: a rotation may come out a little above 1.
+///
+/// ```
+/// use foldflake::{gap, Move};
+/// let stands = Move { local_center: [0.0; 2], first: [6.0, 0.0], last: [6.0, 0.0], first_rotation: [1.0, 0.0], last_rotation: [1.0, 0.0] };
+/// let goes = Move { first: [0.0; 2], last: [8.0, 0.0], ..stands };
+/// let square = [-1.0, -1.0, 1.0, -1.0, 1.0, 1.0, -1.0, 1.0];
+/// assert_eq!(gap(&square, &goes, &square, &stands, 0.25)?, 2.0);
+/// assert_eq!(gap(&square, &goes, &square, &stands, 0.75)?, 0.0);
+/// # Ok::<(), foldflake::Refusal>(())
+/// ```
+pub fn gap(points_a: &[f32], move_a: &Move, points_b: &[f32], move_b: &Move, fraction: f32) -> Result<f32, Refusal> {
+    let (ten_a, ten_b) = (move_a.numbers(), move_b.numbers());
+    let mut out = [0f32; 1];
+    // Safety: each list has the length handed over, and the one that is written is ours alone.
+    let answer = unsafe {
+        entry::foldflake_gap(
+            points_a.as_ptr(),
+            points_a.len(),
+            ten_a.as_ptr(),
+            ten_a.len(),
+            points_b.as_ptr(),
+            points_b.len(),
+            ten_b.as_ptr(),
+            ten_b.len(),
+            fraction,
+            out.as_mut_ptr(),
+            out.len(),
+        )
+    };
+    match answer {
+        32 => Ok(out[0]),
+        number => Err(Refusal(number)),
+    }
 }
 
 /// A rectangle about (0, 0) from its half sizes: four corners at the front of the lent list, which are handed back; the rest of the list stays.

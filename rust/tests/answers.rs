@@ -1,5 +1,5 @@
 //! The safe face against answers worked out by hand or listed in README.md.
-use foldflake::{bar, distance, line, placed_bar, placed_plate, plate, root, sweep, Cache, Ending, Move, Refusal, Sweep};
+use foldflake::{bar, distance, gap, line, placed_bar, placed_plate, plate, pose, root, sweep, Cache, Ending, Move, Pose, Refusal, Sweep};
 
 const SQUARE: [f32; 8] = [-1.0, -1.0, 1.0, -1.0, 1.0, 1.0, -1.0, 1.0];
 const POINT: [f32; 2] = [0.0, 0.0];
@@ -243,5 +243,103 @@ fn a_pose_of_another_length_is_told_first_of_all() {
             assert_eq!((plate, bar), (answer, answer), "{size} {pose_len} {room}");
             assert_eq!(plate == 32, out != [7.5; 8], "written only where built");
         }
+    }
+}
+
+#[test]
+fn the_pose_at_a_fraction() {
+    let turn = Move { local_center: [1.0, 0.0], first: [4.0, 0.0], last: [8.0, 2.0], first_rotation: [1.0, 0.0], last_rotation: [0.0, 1.0] };
+    assert_eq!(pose(&turn, 0.0), Ok(Pose { rotation: [1.0, 0.0], translation: [3.0, 0.0] }));
+    assert_eq!(pose(&turn, 1.0), Ok(Pose { rotation: [0.0, 1.0], translation: [8.0, 1.0] }));
+    // halfway, nlerp is at 45 degrees
+    let middle = pose(&turn, 0.5).unwrap();
+    let half = 0.5f32.sqrt();
+    assert!((middle.rotation[0] - half).abs() < 1e-6 && (middle.rotation[1] - half).abs() < 1e-6);
+    assert!((middle.translation[0] - (6.0 - half)).abs() < 1e-5 && (middle.translation[1] - (1.0 - half)).abs() < 1e-5);
+}
+
+#[test]
+fn every_refusal_of_a_moment() {
+    let m = goes([0.0, 0.0], [4.0, 0.0]);
+    let far = [1_048_576.1, 0.0];
+    for (refusal, planned) in [(5, Move { last_rotation: [1.0, 1.0], last: far, ..m }), (6, Move { local_center: far, ..m })] {
+        assert_eq!(pose(&planned, f32::NAN), Err(Refusal(refusal)));
+        assert_eq!(gap(&SQUARE, &m, &SQUARE, &planned, f32::NAN), Err(Refusal(refusal)));
+        assert_eq!(gap(&SQUARE, &planned, &SQUARE, &m, 2.0), Err(Refusal(refusal)));
+    }
+    for fraction in [-1e-45, 1.000_000_1, f32::NAN, f32::INFINITY] {
+        assert_eq!(pose(&m, fraction), Err(Refusal(7)));
+        assert_eq!(gap(&SQUARE, &m, &SQUARE, &m, fraction), Err(Refusal(7)));
+    }
+    let bad = Move { last_rotation: [1.0, 1.0], ..m };
+    assert_eq!(gap(&[], &bad, &[], &bad, 2.0), Err(Refusal(1)));
+    assert_eq!(gap(&SQUARE, &bad, &[0.0; 3], &bad, 2.0), Err(Refusal(2)));
+    assert_eq!(gap(&SQUARE, &bad, &far, &bad, 2.0), Err(Refusal(3)));
+    assert_eq!(gap(&SQUARE, &m, &SQUARE, &m, -0.0), Ok(0.0));
+}
+
+/// The gap is the distance call's where that call takes the pose; where the one rotation seen from the other rounds above 1 it is told all the same.
+#[test]
+fn the_gap_is_a_distance_that_is_not_checked_again() {
+    let turned = |degrees: f32| [degrees.to_radians().cos(), degrees.to_radians().sin()];
+    let mut above = 0;
+    for i in 0..60 {
+        let angle = 3.0 * i as f32;
+        let turns = Move { first_rotation: turned(angle), last_rotation: turned(angle + 40.0), ..goes([0.0, 0.0], [3.0, 1.0]) };
+        let stands = Move { first_rotation: turned(angle), last_rotation: turned(angle), ..still(9.0, 0.5) };
+        for k in 0..=64 {
+            let t = k as f32 / 64.0;
+            let apart = gap(&SQUARE, &turns, &SQUARE, &stands, t).unwrap();
+            let (a, b) = (pose(&turns, t).unwrap(), pose(&stands, t).unwrap());
+            let ([c, s], [x, y]) = (a.rotation, [b.translation[0] - a.translation[0], b.translation[1] - a.translation[1]]);
+            let seen = [c * b.rotation[0] + s * b.rotation[1], c * b.rotation[1] - s * b.rotation[0]];
+            match distance(seen, [c * x + s * y, c * y - s * x], &SQUARE, 0.0, &SQUARE, 0.0, false, &mut Cache::default()) {
+                Ok(measured) => assert!((measured.distance - apart).abs() < 1e-5, "{} {apart}", measured.distance),
+                Err(refusal) => {
+                    assert!(refusal == Refusal(5) && seen[0] > 1.0);
+                    above += 1;
+                }
+            }
+            assert!((3.0..9.0).contains(&apart));
+        }
+    }
+    assert!(above > 0, "no pose that a distance call refuses");
+}
+
+/// The entry points behind the safe face, which always hands over lists of the right length.
+#[test]
+fn a_moment_of_another_length_is_told_first_of_all() {
+    extern "C" {
+        fn foldflake_pose(planned: *const f32, planned_len: usize, fraction: f32, out: *mut f32, out_len: usize) -> u32;
+        #[allow(clippy::too_many_arguments)]
+        fn foldflake_gap(
+            points_a: *const f32,
+            numbers_in_a: usize,
+            move_a: *const f32,
+            move_a_len: usize,
+            points_b: *const f32,
+            numbers_in_b: usize,
+            move_b: *const f32,
+            move_b_len: usize,
+            fraction: f32,
+            out: *mut f32,
+            out_len: usize,
+        ) -> u32;
+    }
+    let planned = [0.0f32, 0.0, 1.0, 2.0, 3.0, 4.0, 1.0, 0.0, 1.0, 0.0, 9.0];
+    let p = planned.as_ptr();
+    for (len, room) in [(10, 4), (9, 4), (11, 4), (10, 3), (10, 5), (0, 0)] {
+        let mut out = [7.5f32; 5];
+        // Safety: each list is at least as long as the length handed over, and the one that is written is ours alone.
+        let answer = unsafe { foldflake_pose(p, len, 0.5, out.as_mut_ptr(), room) };
+        let good = (len, room) == (10, 4);
+        assert_eq!((answer, out), if good { (32, [1.0, 0.0, 2.0, 3.0, 7.5]) } else { (255, [7.5; 5]) });
+    }
+    for (a, b, room) in [(10, 10, 1), (9, 10, 1), (10, 11, 1), (10, 10, 0), (10, 10, 2)] {
+        let mut out = [7.5f32; 2];
+        // Safety: as above.
+        let answer = unsafe { foldflake_gap(POINT.as_ptr(), 2, p, a, SQUARE.as_ptr(), 8, p, b, f32::NAN, out.as_mut_ptr(), room) };
+        let good = (a, b, room) == (10, 10, 1);
+        assert_eq!((answer, out), (if good { 7 } else { 255 }, [7.5; 2]), "{a} {b} {room}");
     }
 }

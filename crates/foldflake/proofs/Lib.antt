@@ -2,3 +2,4 @@ mod Filled
 mod Line
 mod Told
 mod Placed
+mod Moment

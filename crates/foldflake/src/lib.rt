@@ -1,6 +1,7 @@
 // The entry points for programs in C and Rust, over numbers and slices. Nothing is required of the caller.
 mod numbers;
 mod tell;
+mod tell_moment;
 
 use model::Vector;
 use numbers::cache_of;
@@ -9,12 +10,15 @@ use numbers::pose_of;
 use tell::built_number;
 use tell::tell_distance;
 use tell::tell_sweep;
+use tell_moment::tell_gap;
+use tell_moment::tell_pose;
 ghost use mathlib.Core.Path.{_≡_};
 ghost use lib.Ieee.{binary32};
 ghost use Rattle.model.specs.Nearest.{Rooted};
 ghost use Rattle.model.specs.Ground.{vector};
 ghost use Rattle.shapes.specs.Shapes.{plateTold, plateLeft, placedPlateTold, placedPlateLeft, barTold, barLeft, placedBarTold, placedBarLeft};
 ghost use Rattle.foldflake.specs.Entry.{LineTold, SweepTold, DistanceTold, builtNumber, PlacedTold};
+ghost use Rattle.foldflake.specs.Moment.{PoseTold, GapTold};
 
 // The square root of every f32.
 #[no_mangle]
@@ -148,4 +152,41 @@ pub extern "C" fn foldflake_placed_bar(
     let b = Vector { x: bx, y: by };
     let placement = pose_of(pose);
     built_number(shapes::placed_bar(a, b, placement, out))
+}
+
+// The pose of a body at a fraction of its move, whose ten numbers are those of a block. The answer: a refusal, 5 to 7; 32, and then the cosine, the
+// sine and the translation stand in out; 255 where a list has the wrong length. Else nothing is written.
+#[no_mangle]
+pub extern "C" fn foldflake_pose(planned: &[f32], fraction: f32, out: &mut [f32]) -> u32
+    ensures { λ r. ⌜ PoseTold (now (planned .entry)) fraction (now (out .entry)) (now (out .exit)) r ⌝ }
+{
+    if (planned.len() == 10) & (out.len() == 4) {
+        let pose = moment::pose_at(work::move_of(planned), fraction);
+        tell_pose(pose, out)
+    } else {
+        255
+    }
+}
+
+// How far apart two outlines are, without radii, at a fraction of their moves, ten numbers each. The answer: a refusal, 1 to 3 or 5 to 7; 32, and
+// then the distance stands in out; 255 where a list has the wrong length. Else nothing is written.
+#[no_mangle]
+pub extern "C" fn foldflake_gap(
+    points_a: &[f32],
+    move_a: &[f32],
+    points_b: &[f32],
+    move_b: &[f32],
+    fraction: f32,
+    out: &mut [f32],
+) -> u32
+    ensures { λ r. ⌜ GapTold (now («points_a» .entry)) (now («move_a» .entry)) (now («points_b» .entry)) (now («move_b» .entry)) fraction (now (out .entry)) (now (out .exit)) r ⌝ }
+{
+    if (move_a.len() == 10) & (move_b.len() == 10) & (out.len() == 1) {
+        let sweep_a = work::move_of(move_a);
+        let sweep_b = work::move_of(move_b);
+        let apart = moment::gap_at(points_a, sweep_a, points_b, sweep_b, fraction);
+        tell_gap(apart, out)
+    } else {
+        255
+    }
 }

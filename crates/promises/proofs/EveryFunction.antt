@@ -19,6 +19,7 @@ use Rattle.simplex.proofs as simplex
 use Rattle.distance.proofs as distance
 use Rattle.separation.proofs as separation
 use Rattle.sweep_toi.proofs as sweep_toi
+use Rattle.moment.proofs as moment
 use Rattle.toi_proxy.proofs as toi_proxy
 use Rattle.shapes.proofs as shapes
 use Rattle.wire.proofs as wire
@@ -392,6 +393,21 @@ module _ {M : Type 1} (𝓤 : URA M) (H : Heap 𝓤) (A : Atoms 𝓤) (mem : Mem
     once = λ κs a g r r' v v'. told 𝓤 (λ p q. (search same-value, refl));
   }
 
+  -- ---- moment
+  pub moment-gap-at : OneResult 𝓤 H A moment.gap_at.ended (moment.gap_at.spec 𝓤 H A mem run)
+  moment-gap-at = record {
+    clauses = moment.gap_at.clauses 𝓤 H A mem run;
+    of-contract = refl;
+    once = λ κs a g r r' v v'. told 𝓤 (λ p q. (search same-value, refl));
+  }
+
+  pub moment-pose-at : OneResult 𝓤 H A moment.pose_at.ended (moment.pose_at.spec 𝓤 H A mem run)
+  moment-pose-at = record {
+    clauses = moment.pose_at.clauses 𝓤 H A mem run;
+    of-contract = refl;
+    once = λ κs a g r r' v v'. told 𝓤 (λ p q. (search same-value, refl));
+  }
+
   -- ---- toi_proxy
   pub toi-proxy-new : OneResult 𝓤 H A toi_proxy.new.ended (toi_proxy.new.spec 𝓤 H A mem run)
   toi-proxy-new = record {
@@ -502,6 +518,13 @@ module _ {M : Type 1} (𝓤 : URA M) (H : Heap 𝓤) (A : Atoms 𝓤) (mem : Mem
     once = λ κs a g r r' v v'. told 𝓤 (λ p q. (search same-value, refl));
   }
 
+  pub work-move-of : OneResult 𝓤 H A work.move_of.ended (work.move_of.spec 𝓤 H A mem run)
+  work-move-of = record {
+    clauses = work.move_of.clauses 𝓤 H A mem run;
+    of-contract = refl;
+    once = λ κs a g r r' v v'. told 𝓤 (λ p q. (search same-value, refl));
+  }
+
   pub work-sweep-of : OneResult 𝓤 H A work.sweep_of.ended (work.sweep_of.spec 𝓤 H A mem run)
   work-sweep-of = record {
     clauses = work.sweep_of.clauses 𝓤 H A mem run;
@@ -582,6 +605,13 @@ module _ {M : Type 1} (𝓤 : URA M) (H : Heap 𝓤) (A : Atoms 𝓤) (mem : Mem
     once = λ κs a g r r' v v'. told 𝓤 (λ p q. (search same-value, each-list foldflake.foldflake_distance.ended κs a v v' (search same-value depth 12)));
   }
 
+  pub foldflake-foldflake-gap : OneResult 𝓤 H A foldflake.foldflake_gap.ended (foldflake.foldflake_gap.spec 𝓤 H A mem run)
+  foldflake-foldflake-gap = record {
+    clauses = foldflake.foldflake_gap.clauses 𝓤 H A mem run;
+    of-contract = refl;
+    once = λ κs a g r r' v v'. told 𝓤 (λ p q. (search same-value, each-list foldflake.foldflake_gap.ended κs a v v' (search same-value depth 12)));
+  }
+
   pub foldflake-foldflake-line : OneResult 𝓤 H A foldflake.foldflake_line.ended (foldflake.foldflake_line.spec 𝓤 H A mem run)
   foldflake-foldflake-line = record {
     clauses = foldflake.foldflake_line.clauses 𝓤 H A mem run;
@@ -608,6 +638,13 @@ module _ {M : Type 1} (𝓤 : URA M) (H : Heap 𝓤) (A : Atoms 𝓤) (mem : Mem
     clauses = foldflake.foldflake_plate.clauses 𝓤 H A mem run;
     of-contract = refl;
     once = λ κs a g r r' v v'. told 𝓤 (λ p q. (search same-value, each-list foldflake.foldflake_plate.ended κs a v v' (search same-value depth 12)));
+  }
+
+  pub foldflake-foldflake-pose : OneResult 𝓤 H A foldflake.foldflake_pose.ended (foldflake.foldflake_pose.spec 𝓤 H A mem run)
+  foldflake-foldflake-pose = record {
+    clauses = foldflake.foldflake_pose.clauses 𝓤 H A mem run;
+    of-contract = refl;
+    once = λ κs a g r r' v v'. told 𝓤 (λ p q. (search same-value, each-list foldflake.foldflake_pose.ended κs a v v' (search same-value depth 12)));
   }
 
   pub foldflake-foldflake-root : OneResult 𝓤 H A foldflake.foldflake_root.ended (foldflake.foldflake_root.spec 𝓤 H A mem run)

@@ -46,6 +46,13 @@ fn move_at(numbers: &[f32], i: u32) -> Sweep
     }
 }
 
+// The move that ten numbers stand for.
+pub fn move_of(numbers: &[f32]) -> Sweep
+    ensures { λ r. ⌜ r ≡ Work.moveAt (now (numbers .entry)) 0 ⌝ }
+{
+    move_at(numbers, 0)
+}
+
 // The sweep that 24 numbers ask for: both radii, the max fraction, the slop, and two moves of ten. A number that is missing is NaN.
 pub fn sweep_of(points_a: &[f32], points_b: &[f32], numbers: &[f32]) -> Swept
     ensures { λ r. ⌜ r ≡ Work.sweepFor binary32 (now («points_a» .entry)) (now («points_b» .entry)) (now (numbers .entry)) ⌝ }

@@ -1,0 +1,2 @@
+pub mod Sweeps
+mod Call
