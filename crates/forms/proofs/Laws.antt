@@ -11,11 +11,12 @@ use lib.ListN.{length, take, drop, set, getD, length-set, length-append, length-
 use lib.Seq.{drop-drop, drop-length, take-length, length-take-le, getD-set-same}
 use Rattle.model.specs.Wire.{byte}
 use Rattle.model.specs.Block.{sumBefore, checkedBlock}
+use Rattle.model.specs.Parts.{countLimit}
 use Rattle.text.specs.Put.{Put, whereRoom, number}
 use Rattle.text.proofs.Pasted.{put-then}
 use Rattle.text.proofs.Lengths.{length-number, ends, roomy}
 use Rattle.forms.specs.Forms.{withCheck, otherNumber, fittingCheck, sealed, otherForm}
-use Rattle.forms.specs.Convert.{wholeBlocks, blocks, isGood, passes, converted, toldFrom, countLimit, fits}
+use Rattle.forms.specs.Convert.{wholeBlocks, blocks, isGood, passes, converted, toldFrom, fits}
 
 -- ---- the other form, as it is made
 pub copied : (b z : List ℕ) → length b ≡ 512 → length z ≡ 512 → take (length b) b ++ drop (length b) z ≡ b

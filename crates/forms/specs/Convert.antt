@@ -7,6 +7,7 @@ use lib.ListN.{length, take, drop}
 use Rattle.model.specs.declared.CheckedBlock.{CheckedBlock}
 use Rattle.model.specs.declared.CheckedBlock.the-variants.{Good, Refused}
 use Rattle.model.specs.Block.{blockSize, checkedBlock}
+use Rattle.model.specs.Parts.{countLimit, isLast}
 use Rattle.text.specs.Put.{number}
 use Rattle.forms.specs.Forms.{otherForm}
 
@@ -40,14 +41,6 @@ toldFrom n [] = []
 toldFrom n (x ∷ xs) = cond (passes x) [] (number (n + 1) 10) ++ toldFrom (n + 1) xs
 
 -- ---- a part of the input, with room for what it may come to
--- counts below this can be counted on through any part without wrapping
-abbrev pub countLimit : ℕ
-countLimit = 0x8000_0000_0000_0000
-
--- a shorter part is the last one
-abbrev pub partSize : ℕ
-partSize = 65536
-
 -- a number of at most 20 digits and a newline for each block, and for a rest
 abbrev pub fits : ℕ → ℕ → ℕ → ℕ → Bool
 fits size room textRoom before = leb size room && leb (size / blockSize + 1) (textRoom / 21) && ltb before countLimit
@@ -64,7 +57,7 @@ module _ (before : ℕ) (part : List ℕ) (room textRoom : ℕ) where
   countFor = cond (fits (length part) room textRoom before) (before + length (blocks part)) before
 
   abbrev pub lastFor : Bool
-  lastFor = cond (fits (length part) room textRoom before) (ltb (length part) partSize) true
+  lastFor = cond (fits (length part) room textRoom before) (isLast part) true
 
 -- ---- a run over parts, with that room for each: it ends with the part that was the last. What goes to the file, and what is told
 unfoldable pub fileOf : ℕ → ℕ → ℕ → List (List ℕ) → List ℕ

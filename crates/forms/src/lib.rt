@@ -6,9 +6,10 @@ ghost use mathlib.Core.Bool.{cond};
 ghost use mathlib.Core.List.{[]};
 ghost use lib.ListN.{length};
 ghost use Rattle.model.specs.Block.{blockSize, checkedBlock};
+ghost use Rattle.model.specs.Parts.{countLimit};
 ghost use Rattle.text.specs.Put.{Put, number};
 ghost use Rattle.forms.specs.Forms.{otherNumber, otherForm};
-ghost use Rattle.forms.specs.Convert.{isGood, countLimit, wholeBlocks, shortRest, converted, toldFrom, fileFor, textFor, countFor, lastFor};
+ghost use Rattle.forms.specs.Convert.{isGood, wholeBlocks, shortRest, converted, toldFrom, fileFor, textFor, countFor, lastFor};
 ghost use Rattle.forms.specs.Convert as Convert;
 
 // Blocks below this can be counted on through any part without wrapping.
