@@ -2,16 +2,17 @@
 use mathlib.Core.Path.{_≡_, refl, sym, ap, _∙_, subst}
 use mathlib.Core.Logic.{_≢_}
 use mathlib.Core.Bool.{Bool, true, false}
-use mathlib.Core.List.{List}
+use mathlib.Core.List.{List, [], _∷_, _++_}
 use Prim.Native.Nat.{ℕ, zero, suc, _+_, _-_, _*_, _%_, _≤_, _<_}
 use native.Mathlib.Omega.{arith}
 use native.Mathlib.Nat.{mul-suc}
 use borrow.Author.Tests.{eqb-true, eqb-false, ne-eqb}
 use lib.Dec.{eqb}
-use lib.ListN.{length}
-use Rattle.model.specs.declared.CheckedBlock.the-variants.{Refused}
+use lib.ListN.{length, replicate}
+use Rattle.model.specs.declared.CheckedBlock.the-variants.{Good, Refused}
 use Rattle.model.specs.Wire.{byte, word}
-use Rattle.model.specs.Block.{knownForm, weighedWords, checkHolds, checkedBlock}
+use Rattle.model.specs.Block.{knownForm, sumOfWords, weighedWords, checkHolds, allZero, blockOf, checkedBlock}
+use Rattle.model.specs.Table.{word4, words}
 use Rattle.block.proofs.Laws.{wrong-check}
 use Rattle.forms.specs.Forms.{withFour, nextFirst, exchanged}
 use Rattle.forms.proofs.Bytes.{length-four, byte-below, byte-above, word-here, Agree, same-word, same-weighed}
@@ -116,3 +117,25 @@ module _ (b : List ℕ) (i : ℕ) (size : length b ≡ 512) (bytes : Bytes b) (p
           differ (no-slip (weighedWords b 127) (weighedWords (exchanged b i) 127) (word b (4 * i)) (word b (4 * i + 4)) (word b 508)
           (small-word b (4 * i) bytes) (small-word b (4 * i + 4) bytes) (from b i room-for-both 127 (omega (arith, place)))
           (eqb-true _ _ (sym (weighed-check b form) ∙ holds)) (rw check-stays at e))
+
+-- ---- what an exchange can do that takes byte 6 with it
+-- words 1 and 2 exchanged set byte 6 to 0, and the plain sum fits by chance: the first block of examples/exchanged.batch, which passes in form 2, and
+-- the second, which passes in form 1
+abbrev unlucky : List ℕ
+unlucky =
+    words (0x7 ∷ 0x20101 ∷ 0x101 ∷ 0 ∷ 0x3f800000 ∷ 0x3f000000 ∷ 0 ∷ 0 ∷ 0 ∷ 0 ∷ 0 ∷ 0 ∷ 0x3f800000 ∷ 0 ∷ 0x3f800000 ∷ 0 ∷ [])
+    ++ words (0 ∷ 0 ∷ 0x40800000 ∷ 0 ∷ 0 ∷ 0 ∷ 0x3f800000 ∷ 0 ∷ 0x3f800000 ∷ 0 ∷ 0 ∷ 0xbfd838c7 ∷ [])
+    ++ replicate 124 0
+    ++ words (0xbf900000 ∷ [])
+    ++ replicate 268 0
+    ++ word4 0xc395c52f
+
+pub form-2-by-chance-form-1 : (checkedBlock unlucky ≡ Good (blockOf unlucky)) × (byte unlucky 6 ≡ 2)
+    × (checkedBlock (exchanged unlucky 1) ≡ Good (blockOf (exchanged unlucky 1))) × (byte (exchanged unlucky 1) 6 ≡ 0)
+unfolding checkedBlock sumOfWords weighedWords allZero word exchanged
+form-2-by-chance-form-1 = (refl, refl, refl, refl)
+
+-- words 4 and 5 exchanged
+pub exchange-seen : checkedBlock (exchanged unlucky 4) ≡ Refused 0 10
+unfolding checkedBlock sumOfWords weighedWords allZero word exchanged
+exchange-seen = refl

@@ -64,13 +64,7 @@ fn good(checked: CheckedBlock) -> bool
 }
 
 // One block with n before it: in the other form behind what the file has, or its number behind what is told.
-fn convert_block(
-    part: &[u8],
-    n: u64,
-    file: &mut [u8],
-    text: &mut [u8],
-    at: Places,
-) -> Places
+fn convert_block(part: &[u8], n: u64, file: &mut [u8], text: &mut [u8], at: Places) -> Places
     requires { ⌜ (length (now part) ≡ blockSize) × (n < 0xffff_ffff_ffff_ffff) ⌝ }
     requires { ⌜ (at .file + blockSize ≤ length (now file)) × (at .text + 21 ≤ length (now text)) ⌝ }
     ensures { λ r. ⌜ Put (now (file .entry)) (at .file) (cond (isGood (checkedBlock (now (part .entry)))) (otherForm (now (part .entry))) []) (now (file .exit)) (r .file) ⌝ }

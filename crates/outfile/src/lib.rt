@@ -1,7 +1,5 @@
 // A file that a program writes anew. What is written is collected beside it, in a file that has no name from the start on, so that nothing is left
 // where the run fails or is ended; only a run that succeeded puts it under a name beside, and then in the place of the file.
-mod c;
-
 use libc::PATH_MAX;
 use libc::STDERR_FILENO;
 ghost use Prim.Native.Nat.{_≤_, _<_};
@@ -27,7 +25,10 @@ pub fn argument(program: &[u8], name: &mut [u8]) -> usize
         os::fail(program);
         return 0;
     }
-    tell(program, b": one argument is taken, the name of the file to write\n");
+    tell(
+        program,
+        b": one argument is taken, the name of the file to write\n",
+    );
     0
 }
 
@@ -42,42 +43,51 @@ fn ended(name: &[u8]) -> [u8; PATH_MAX]
     path
 }
 
-// The kind of file that lstat told of.
-fn kind(known: &[u8; 144]) -> u32 {
-    wire::word(known, 24) & libc::S_IFMT
+// Whether an open file is regular: that one can be sought beyond its end. A pipe cannot be sought, a disk ends at its end, and a device as /dev/null
+// has no places.
+fn is_regular(fd: i32) -> bool {
+    let end = libc::lseek(fd, 0, libc::SEEK_END);
+    let beyond = libc::lseek(fd, 1, libc::SEEK_END);
+    (end >= 0) & (beyond > end)
 }
 
-// Whether a file is there that is not regular, or may not be written; then that is told.
-fn stands_in_the_way(path: &[u8; PATH_MAX], name: &[u8]) -> bool
-    requires { ⌜ Ended (now path) ⌝ }
-{
-    let mut known = [0u8; 144];
-    if c::lstat(path, &mut known) < 0 {
-        if os::errno() == libc::ENOENT {
-            return false;
-        }
+// Whether what is there, and is no link, is a regular file that may be written; else that is told.
+fn is_writable(name: &[u8]) -> bool {
+    let fd = os::open_update(name);
+    if fd < 0 {
         os::fail(name);
-        return true;
+        return false;
     }
-    if kind(&known) != libc::S_IFREG {
+    let regular = is_regular(fd);
+    libc::close(fd);
+    if !regular {
         tell(name, b": not a regular file\n");
-        return true;
     }
-    if libc::access(path, libc::W_OK) < 0 {
-        os::fail(name);
-        return true;
-    }
-    false
+    regular
 }
 
-// Whether the file may be written anew: it is regular and may be written, or there is none. Else that is told, and it is left alone.
+// Whether the file may be written anew: it is regular and may be written, or there is none. Else that is told, and it is left alone. A link is told
+// apart by its text, and what is no link by having none.
 pub fn may_be_replaced(name: &[u8]) -> bool {
     if name.len() >= PATH_MAX {
         tell(name, b": File name too long\n");
         return false;
     }
     let path = ended(name);
-    !stands_in_the_way(&path, name)
+    let mut text = [0u8; 1];
+    if libc::readlink(&path, &mut text) >= 0 {
+        tell(name, b": not a regular file\n");
+        return false;
+    }
+    let error = os::errno();
+    if error == libc::ENOENT {
+        return true;
+    }
+    if error == libc::EINVAL {
+        return is_writable(name);
+    }
+    os::fail(name);
+    false
 }
 
 // The place after the last slash.

@@ -3,6 +3,7 @@
 // many rows there were, how many differ, and how many were noticed to differ when the stored answer was spoiled on purpose.
 mod blocks;
 mod cases;
+mod conversions;
 mod distances;
 mod first_contacts;
 mod operations;

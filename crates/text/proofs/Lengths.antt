@@ -31,5 +31,5 @@ pub ends : {d d' s : List ℕ} {k e m : ℕ} → Put d k s d' e → length s ≤
 ends p short = omega (arith, p .place)
 
 -- where there is room the piece is there
-pub roomy : {d d' s : List ℕ} {k e : ℕ} (m : ℕ) → k + m ≤ length d → Put d k (whereRoom (k + m) (length d) s) d' e → Put d k s d' e
-roomy {d} {k = k} m room p = rw (le-ltb (length d) (k + m) room) at p
+pub roomy : {d d' s : List ℕ} {k e : ℕ} (m : ℕ) → Put d k (whereRoom (k + m) (length d) s) d' e → k + m ≤ length d → Put d k s d' e
+roomy {d} {k = k} m p room = rw (le-ltb (length d) (k + m) room) at p

@@ -1,3 +1,4 @@
 pub mod Pasted
-pub mod Lengths
 mod Digits
+pub mod ReadBack
+pub mod Lengths

@@ -57,7 +57,7 @@ returns : tie.Need-returns
 returns c =
     let start = c .before .before .before .before .before .before .before in
     made (start .args .part .now) _ _ _ (start .pre) (c .before .before .before .before .copy .ensures .1 ∙ copied _ _ (start .pre) refl)
-        (c .before .before .other-number .ensures) (c .sum-before .ensures)
+    (c .before .before .other-number .ensures) (c .sum-before .ensures)
 
 pub other-form-spec : {M : Type 1} → statement M
 other-form-spec =
