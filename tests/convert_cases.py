@@ -1,14 +1,14 @@
 #!/usr/bin/env python3
-"""The cases of `convert`: the rows of `replay`'s table 7 on standard output or, with a folder as argument, three files for each case, in larger cases
-too: NAME.in, what is read; NAME.out, what is printed; NAME.file, what is written."""
+"""The cases of `convert`: the rows of `replay`'s table 7 on standard output or, with a folder as argument, four files for each case, in larger cases
+too: NAME.in, what is read; NAME.out, what is printed; NAME.file, what is written; NAME.kept, what two conversions leave."""
 import pathlib
 import sys
 
 import case_rows
-from forms import EXAMPLES, SIZE, blocks, converted, exchanged, in_form, sealed, with_byte
+from forms import EXAMPLES, blocks, converted, exchanged, in_form, refusal, sealed, with_byte
 
 EVERY = (EXAMPLES / "every-answer.batch").read_bytes()
-FAIR = [b for b in blocks(EVERY) if len(b) == SIZE and not converted(b)[0]]
+FAIR = [b for b in blocks(EVERY) if not refusal(b) and b[6] == 0]
 ONE, TWO = FAIR[0], in_form(FAIR[1], 2)
 WRONG = with_byte(ONE, 511, ONE[511] ^ 1)
 FIELD = sealed(with_byte(TWO, 7, 1))
@@ -58,7 +58,8 @@ def main():
         folder = pathlib.Path(sys.argv[1])
         for name, given in [(n, g) for n, _, g in CASES] + LARGER:
             out, file = converted(given)
-            for end, data in ((".in", given), (".out", out), (".file", file)):
+            kept = b"".join(b for b in blocks(given) if not refusal(b))
+            for end, data in ((".in", given), (".out", out), (".file", file), (".kept", kept)):
                 (folder / (name + end)).write_bytes(data)
             print(name)
     else:

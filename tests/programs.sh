@@ -112,9 +112,7 @@ old() { fresh; cp "$work/before" "$folder/file"; }
 
 for name in $names; do
   fresh; converts "$cases/$name.in" file;          did "$name" "$cases/$name.out" "" file "$cases/$name.file"
-  converts "$folder/file" file;                    cp "$folder/file" "$work/back"
-  did "$name, its file over itself" "$work/no" "" file "$work/back"
-  converts "$work/back" file;                      did "$name, and again" "$work/no" "" file "$cases/$name.file"
+  converts "$folder/file" file;                    did "$name, its file over itself" "$work/no" "" file "$cases/$name.kept"
 done
 good="$cases/both-forms.in"; made="$cases/both-forms.file"; refused="$cases/wrong-check.in"
 old; converts "$good" file;                        did "over a file that was there" "$work/no" "" file "$made"

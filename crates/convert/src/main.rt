@@ -58,6 +58,17 @@ fn convert(name: &[u8], fd: i32) -> bool {
     false
 }
 
+// Collects what is to be written, and puts it in the place of the file.
+fn replace(name: &[u8], beside: &mut [u8]) {
+    let fd = outfile::begin(name, beside);
+    if fd < 0 {
+        return;
+    }
+    if convert(name, fd) {
+        outfile::finish(name, beside, fd);
+    }
+}
+
 fn run(name: &[u8]) {
     if !input::streams_open() {
         return;
@@ -67,13 +78,7 @@ fn run(name: &[u8]) {
     }
     let mut beside = io::buffer();
     let size = outfile::name_beside(name, &mut beside);
-    let fd = outfile::begin(name, &mut beside[..size]);
-    if fd < 0 {
-        return;
-    }
-    if convert(name, fd) {
-        outfile::finish(name, &beside[..size], fd);
-    }
+    replace(name, &mut beside[..size]);
 }
 
 fn main() {

@@ -46,7 +46,7 @@ pub put-turned : {d d' : List ℕ} {k e : ℕ} (b t : List ℕ) → k + 512 ≤ 
     → Put d k (whereRoom (k + length t) (length d) t) d' e → Put d k (otherForm b) d' e
 put-turned {d} {d'} {k} {e} b t room h same p =
     let size : length t ≡ 512 = ap length same ∙ length-other b ∙ h in
-    rw (← same) (roomy (length t) (omega (arith, room, size)) p)
+    rw (← same) (roomy (length t) p (omega (arith, room, size)))
 
 -- ---- one block more, at the end
 pub blocks-more : (k : ℕ) (b : List ℕ) → wholeBlocks (suc k) b ≡ wholeBlocks k b ++ (take 512 (drop (512 * k) b) ∷ [])

@@ -48,7 +48,7 @@ returns-2 : tie.Need-returns-2
 returns-2 c =
     let start = c .before .before .before .before .before .before .before .before .before .before in
     let bad = ap isGood (sym (c .before .before .before .before .before .before .check-block .ensures)) ∙ sym (c .before .before .before .before .before .good2 .ensures) ∙ c .before .before .before .before .if1 .left in
-    rw bad (put-nothing _ _, roomy 21 (start .pre .1 .1) (c .before .before .put-number .ensures))
+    rw bad (put-nothing _ _, roomy 21 (c .before .before .put-number .ensures) (start .pre .1 .1))
 
 pub convert-block-spec : {M : Type 1} → statement M
 convert-block-spec =

@@ -79,7 +79,7 @@ returns-3 c =
     let w = c .before .before .before .before .before .before .before .before .before .convert-blocks in
     let b = start .args .part .now in
     let some = c .before .before .before .before .if2 .left in
-    let number = roomy 21 (omega (arith, room .numbers, w .ensures .1 .1, w .kept .1 .1 .1 .0)) (c .before .before .put-number .ensures) in
+    let number = roomy 21 (c .before .before .put-number .ensures) (omega (arith, room .numbers, w .ensures .1 .1, w .kept .1 .1 .1 .0)) in
     rw (fits, rest-converted b some, rest-told b some (start .args .before), rest-counted b some)
     (w .ensures .0, (put-then (omega arith) (w .ensures .1 .0) number, (omega arith, refl)))
 
