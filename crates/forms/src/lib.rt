@@ -116,9 +116,10 @@ fn fits(size: usize, room: usize, text_room: usize, before: u64) -> bool
 // Converts a part of the input, with so many blocks before it: the blocks from the start of file on, the numbers of refused ones, a line each, from
 // the start of text on. Where there is no room nothing is written, and the run is over.
 pub fn convert_part(part: &[u8], before: u64, file: &mut [u8], text: &mut [u8]) -> Converted
-    ensures { λ r. ⌜ Put (now (file .entry)) 0 (fileFor before (now (part .entry)) (length (now (file .entry))) (length (now (text .entry)))) (now (file .exit)) (r .file) ⌝ }
-    ensures { λ r. ⌜ Put (now (text .entry)) 0 (textFor before (now (part .entry)) (length (now (file .entry))) (length (now (text .entry)))) (now (text .exit)) (r .text) ⌝ }
-    ensures { λ r. ⌜ (r .blocks ≡ countFor before (now (part .entry)) (length (now (file .entry))) (length (now (text .entry)))) × (r .last ≡ lastFor before (now (part .entry)) (length (now (file .entry))) (length (now (text .entry)))) ⌝ }
+    ensures { λ r. ⌜ Put (now (file .entry)) 0 (fileFor before (now (part .entry)) (length (now (file .entry))) (length (now (text .entry)))) (now (file .exit)) (r .file)
+        × Put (now (text .entry)) 0 (textFor before (now (part .entry)) (length (now (file .entry))) (length (now (text .entry)))) (now (text .exit)) (r .text) ⌝ }
+    ensures { λ r. ⌜ (r .blocks ≡ countFor before (now (part .entry)) (length (now (file .entry))) (length (now (text .entry))))
+        × (r .last ≡ lastFor before (now (part .entry)) (length (now (file .entry))) (length (now (text .entry)))) ⌝ }
 {
     if !fits(part.len(), file.len(), text.len(), before) {
         return Converted {

@@ -15,7 +15,7 @@ fits-requires c κs = search needs
 
 returns : tie.Need-returns
 returns c =
-    simp (← c .before .fits2 .ensures, not-true (c .before .fits2 .result) (c .if1 .taken)) (put-nothing _ _, (put-nothing _ _, (refl, refl)))
+    simp (← c .before .fits2 .ensures, not-true (c .before .fits2 .result) (c .if1 .taken)) ((put-nothing _ _, put-nothing _ _), (refl, refl))
 
 convert-blocks-requires : tie.Need-convert-blocks-requires
 convert-blocks-requires c κs =
@@ -46,7 +46,7 @@ returns-2 c =
     let b = start .args .part .now in
     let none = c .if2 .taken in
     rw (fits, whole-converted b none, whole-told b none (start .args .before), whole-counted b none)
-    (w .ensures .0, (w .ensures .1 .0, (refl, refl)))
+    ((w .ensures .0, w .ensures .1 .0), (refl, refl))
 
 add-put-number : tie.Need-add-put-number
 add-put-number c =
@@ -81,7 +81,7 @@ returns-3 c =
     let some = c .before .before .before .before .if2 .left in
     let number = roomy 21 (c .before .before .put-number .ensures) (omega (arith, room .numbers, w .ensures .1 .1, w .kept .1 .1 .1 .0)) in
     rw (fits, rest-converted b some, rest-told b some (start .args .before), rest-counted b some)
-    (w .ensures .0, (put-then (omega arith) (w .ensures .1 .0) number, (omega arith, refl)))
+    ((w .ensures .0, put-then (omega arith) (w .ensures .1 .0) number), (omega arith, refl))
 
 pub convert-part-spec : {M : Type 1} → statement M
 convert-part-spec =
