@@ -50,8 +50,8 @@ enum { FOLDFLAKE_TOLD = 32 };
 /* The square root, rounded to nearest. */
 float foldflake_root(float x);
 
-/* The line of a block of 512 bytes as block `number` of a file, newline included, at the start of out; the answer is its length. The answer is 0,
-   and out as it was, where block_len is not 512, number is 0 or above 2^63, or out_len is below 240. */
+/* The line of a block of 512 bytes, of either form, as block `number` of a file, newline included, at the start of out; the answer is its length. The
+   answer is 0, and out as it was, where block_len is not 512, number is 0 or above 2^63, or out_len is below 240. */
 size_t foldflake_line(uint64_t number, const uint8_t *block, size_t block_len, uint8_t *out, size_t out_len);
 
 /* The sweep of two outlines.

@@ -29,10 +29,17 @@ fn movement_at(b: &[u8], at: usize) -> Sweep {
     Sweep { local_center: vector(b, at), c1: vector(b, at + 8), c2: vector(b, at + 16), q1: rotation(b, at + 24), q2: rotation(b, at + 32) }
 }
 
-/// Refusal 10 or 11, or 0.
+/// The check that fits in a form: byte 6 holds 0, or 2 where each word counts times its place from 1.
+fn check(b: &[u8]) -> u32 {
+    !(0..127).fold(0u32, |s, i| s.wrapping_add(word(b, 4 * i).wrapping_mul(if b[6] == 2 { i as u32 + 1 } else { 1 })))
+}
+
+/// Refusal 13, 10 or 11, or 0.
 fn fields(b: &[u8]) -> u32 {
-    let sum = (0..128).fold(0u32, |s, i| s.wrapping_add(word(b, 4 * i)));
-    if sum != u32::MAX {
+    if b[6] != 0 && b[6] != 2 {
+        return 13;
+    }
+    if word(b, 508) != check(b) {
         return 10;
     }
     let (na, nb) = (b[4] as usize, b[5] as usize);
@@ -41,7 +48,7 @@ fn fields(b: &[u8]) -> u32 {
         return 11;
     }
     let zero = |from: usize, to: usize| b[from..to].iter().all(|&x| x == 0);
-    if zero(6, 8) && zero(104 + 8 * na, 232) && zero(232 + 8 * nb, 360) && zero(360, 508) {
+    if zero(7, 8) && zero(104 + 8 * na, 232) && zero(232 + 8 * nb, 360) && zero(360, 508) {
         0
     } else {
         11
@@ -132,10 +139,9 @@ pub fn block(job: u32, j: &Job) -> [u8; SIZE] {
     b
 }
 
-/// The check that fits.
 fn seal(b: &mut [u8; SIZE]) {
-    let sum = (0..127).fold(0u32, |s, i| s.wrapping_add(word(b, 4 * i)));
-    b[508..].copy_from_slice(&(!sum).to_le_bytes());
+    let fits = check(b);
+    b[508..].copy_from_slice(&fits.to_le_bytes());
 }
 
 fn short(r: &mut Random) -> Vec<f32> {
@@ -144,7 +150,7 @@ fn short(r: &mut Random) -> Vec<f32> {
     s
 }
 
-/// One job of one of ten families.
+/// One job of one of twelve families.
 fn job(r: &mut Random, family: u64) -> Job {
     let radius = |r: &mut Random| if r.below(2) == 0 { 0.0 } else { r.unit().abs() };
     let slop = r.pick(&[0.005, 0.005, 0.01, 0.5, 1e-3, 1e-4]);
@@ -218,16 +224,31 @@ fn job(r: &mut Random, family: u64) -> Job {
     j
 }
 
-/// Block i of a batch: ten families in turn; the last two are damaged blocks, sealed again or not.
+/// Two neighbouring words exchanged, from place 0 to 125.
+fn exchange(b: &mut [u8; SIZE], place: usize) {
+    for k in 4 * place..4 * place + 4 {
+        b.swap(k, k + 4);
+    }
+}
+
+/// Block i of a batch: twelve families in turn. Two are damaged blocks, sealed again or not; the last two are blocks of form 2, as they should be and
+/// with two neighbouring words exchanged.
 fn made(r: &mut Random, i: u64) -> [u8; SIZE] {
-    let family = i % 10;
+    let family = i % 12;
     let number = if family == 8 && r.below(8) == 0 { 0 } else { r.next() as u32 | 1 };
     let mut b = block(number, &job(r, family));
-    if family >= 8 {
+    if family >= 10 {
+        b[6] = 2;
+        seal(&mut b);
+        if family == 11 {
+            let any = r.below(126) as usize;
+            exchange(&mut b, r.pick(&[0, 1, 26, any]));
+        }
+    } else if family >= 8 {
         for _ in 0..1 + r.below(3) {
             let any = r.below(508) as usize;
             let at = r.pick(&[4, 5, 6, 7, 103, 230, 231, 358, 359, 360, 400, 507, any]);
-            b[at] = r.pick(&[0, 1, 16, 17, 128, 255]);
+            b[at] = r.pick(&[0, 1, 2, 16, 17, 128, 255]);
         }
         if family == 8 || r.below(2) == 0 {
             seal(&mut b);

@@ -1,13 +1,13 @@
 #!/usr/bin/env bash
-# programs.sh: runs `any_contact`, and `sheet` beside it, on the cases below, and compares all that they write, standard error included. Exit
-# status 1 where one differs. Both are x86-64 programs: on another machine RUN names what runs such a program (an emulator).
-# PROGRAMS names another folder than target/bin; where it is not given both are proved and built first.
+# programs.sh: runs `any_contact`, and `sheet` beside it, and `convert` on the cases below, and compares all that they write, standard error and files
+# included. Exit status 1 where one differs. They are x86-64 programs: on another machine RUN names what runs such a program (an emulator).
+# PROGRAMS names another folder than target/bin; where it is not given they are proved and built first.
 set -u
 cd "$(dirname "$0")/.."
 run="${RUN:-}"; bin="${PROGRAMS:-}"
 if [ -z "$bin" ]; then
-  rt check any_contact sheet > /dev/null || { echo "any_contact or sheet is not proved"; exit 1; }
-  bin=target/bin
+  rt check any_contact sheet convert > /dev/null || { echo "any_contact, sheet or convert is not proved"; exit 1; }
+  bin="$PWD/target/bin"
 fi
 work="$(mktemp -d)"; trap 'rm -r "$work"' EXIT
 bad=0
@@ -86,4 +86,71 @@ left "the same from a pipe" $((3 * 65536))
 { many 128 S; block O; many 383 H; } > "$work/long"
 { timeout 60 $run "$bin/any_contact" > "$work/out" 2> "$work/err"; ended=$?; cat > "$work/left"; } < "$work/long"
 wrote "a contact in the second part" 0 $'129\n' ""; left "the same" $((2 * 65536))
+
+# ---- convert, in a folder of its own, so that what is left beside its file shows
+folder="$work/folder"; cases="$work/cases"; mkdir "$folder" "$cases"
+names="$(python3 tests/convert_cases.py "$cases")"
+: > "$work/no"; echo before > "$work/before"
+
+# converts INPUT [ARGUMENT..]: runs it there
+converts() {
+  (cd "$folder" && timeout 60 $run "$bin/convert" "${@:2}" < "$1" > "$work/out" 2> "$work/err"); ended=$?
+}
+
+# did CASE OUT ERR FILE BYTES: status 0, those bytes printed, that text told, and the folder holds that file alone, with those bytes; or with no FILE
+# nothing
+did() {
+  if [ "$ended" = 0 ] && cmp -s "$work/out" "$2" && [ "$(cat "$work/err"; echo .)" = "$3." ] && [ "$(ls -A "$folder")" = "$4" ] \
+    && { [ -z "$4" ] || cmp -s "$folder/$4" "$5"; }; then
+    echo "convert, $1: $(wc -l < "$2") printed, ${4:-nothing} left${4:+ with $(wc -c < "$5") bytes}${3:+, told: $3}" | tr -d '\n'; echo
+  else
+    echo "convert, $1: WRONG: status $ended, told '$(cat "$work/err")', the folder holds '$(ls -A "$folder")'"; bad=1
+  fi
+}
+fresh() { rm -rf "${folder:?}"; mkdir "$folder"; }
+old() { fresh; cp "$work/before" "$folder/file"; }
+
+for name in $names; do
+  fresh; converts "$cases/$name.in" file;          did "$name" "$cases/$name.out" "" file "$cases/$name.file"
+  converts "$folder/file" file;                    did "$name, its file over itself" "$work/no" "" file "$cases/$name.kept"
+done
+good="$cases/both-forms.in"; made="$cases/both-forms.file"; refused="$cases/wrong-check.in"
+old; converts "$good" file;                        did "over a file that was there" "$work/no" "" file "$made"
+fresh; mkdir "$folder/sub"; converts "$good" sub/file; mv "$folder/sub/file" "$work/sub"; rmdir "$folder/sub"
+did "in another folder" "$work/no" "" "" ""; cmp -s "$work/sub" "$made" || { echo "convert, in another folder: WRONG bytes"; bad=1; }
+for mask in 022 027 077; do
+  old; chmod 600 "$folder/file"; (umask $mask; converts "$good" file; exit $ended); ended=$?
+  did "with umask $mask" "$work/no" "" file "$made"
+  [ "$(stat -c %a "$folder/file")" = "$(printf %o $((0666 & ~0$mask)))" ] || { echo "convert, with umask $mask: WRONG mode"; bad=1; }
+done
+
+# faults: the file is as it was, or there is none, and nothing is beside it
+asks=$'convert: one argument is taken, the name of the file to write\n'
+fresh; converts "$good";                           did "no argument" "$work/no" "$asks" "" ""
+fresh; converts "$good" a b;                       did "two arguments" "$work/no" "$asks" "" ""
+fresh; converts "$good" "";                        did "an empty argument" "$work/no" "$asks" "" ""
+fresh; converts "$good" /dev/null;                 did "a device" "$work/no" $'/dev/null: not a regular file\n' "" ""
+fresh; converts "$good" /dev/full;                 did "another device" "$work/no" $'/dev/full: not a regular file\n' "" ""
+fresh; converts "$good" .;                         did "a folder" "$work/no" $'.: Is a directory\n' "" ""
+fresh; converts "$good" none/file;                 did "a folder that is missing" "$work/no" $'none/file: No such file or directory\n' "" ""
+fresh; mkfifo "$folder/pipe"; converts "$good" pipe
+[ -p "$folder/pipe" ] && rm "$folder/pipe";        did "a pipe" "$work/no" $'pipe: not a regular file\n' "" ""
+fresh; ln -s ../before "$folder/link"; converts "$good" link
+[ "$(readlink "$folder/link")" = ../before ] && rm "$folder/link"; did "a link" "$work/no" $'link: not a regular file\n' "" ""
+fresh; ln -s nowhere "$folder/link"; converts "$good" link
+[ "$(readlink "$folder/link")" = nowhere ] && rm "$folder/link"; did "a link to nothing" "$work/no" $'link: not a regular file\n' "" ""
+old; converts "$folder" file;                      did "a folder as input" "$work/no" $'standard input: Is a directory\n' file "$work/before"
+old; (cd "$folder" && timeout 60 $run "$bin/convert" file <&- > "$work/out" 2> "$work/err"); ended=$?
+did "closed input" "$work/no" $'standard input: Bad file descriptor\n' file "$work/before"
+old; : > "$work/out"; (cd "$folder" && timeout 60 $run "$bin/convert" file < "$good" >&- 2> "$work/err"); ended=$?
+did "closed output" "$work/no" $'standard output: Bad file descriptor\n' file "$work/before"
+fresh; (cd "$folder" && timeout 60 $run "$bin/convert" file <&- > "$work/out" 2> "$work/err"); ended=$?
+did "closed input, no file" "$work/no" $'standard input: Bad file descriptor\n' "" ""
+old; : > "$work/out"; (cd "$folder" && timeout 60 $run "$bin/convert" file < "$refused" > /dev/full 2> "$work/err"); ended=$?
+did "full output" "$work/no" $'standard output: No space left on device\n' file "$work/before"
+old; (trap '' XFSZ; ulimit -f 1; cd "$folder" && timeout 60 $run "$bin/convert" file < "$cases/form-1.in" > "$work/out" 2> "$work/err"); ended=$?
+did "a file that gets too large" "$work/no" $'file: File too large\n' file "$work/before"
+# the system ends a program that writes to a closed pipe: nothing is told, and the file is as it was
+old; (cd "$folder"; set +o pipefail; cat "$cases"/refused-throughout.in | { timeout 60 $run "$bin/convert" file; echo $? > "$work/status"; } | true) 2> "$work/err"
+ended=0; : > "$work/out"; did "a closed pipe, status $(cat "$work/status")" "$work/no" "" file "$work/before"
 exit $bad

@@ -17,7 +17,8 @@ STATEMENTS = ROOT / "crates/promises/proofs/EveryFunction.antt"
 CRATES = ROOT / "crates.txt"
 TABLE = ROOT / "docs/PROMISES.md"
 OWN = "promises"
-LEFT_OUT = {"input": "what it answers is the system's, and no contract can fix it"}
+SYSTEM = "what it answers is the system's, and no contract can fix it"
+LEFT_OUT = {"input": SYSTEM, "outfile": SYSTEM}
 TOLD = {1: "told", 2: "told-in-two"}  # by the number of clauses
 
 HEAD = """\

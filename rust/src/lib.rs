@@ -94,7 +94,11 @@ mod entry {
 /// | 6 | a translation or a centre is as in 3 |
 /// | 7 | the max fraction, or the fraction asked for, is not in 0 to 1 |
 /// | 8 | the slop is not above 0, above 1,048,576, or NaN |
+/// | 9 | fewer than 512 bytes are left of a batch (in a line only, as 10, 11 and 13) |
+/// | 10 | a block's check is wrong |
+/// | 11 | a block's job is 0, a count is outside 1 to 16, or a byte that must be zero is not |
 /// | 12 | the cache is of another pair: it has corner pairs, and not under the caller's number |
+/// | 13 | a block's form is neither 0 nor 2; given before 10 |
 /// | 15 | the lent list has no room for all corners |
 ///
 /// ```
@@ -120,7 +124,11 @@ impl fmt::Display for Refusal {
             6 => "a translation or a centre is not finite or above 1048576 in size",
             7 => "the fraction is not in 0 to 1",
             8 => "the slop is not above 0, above 1048576, or not a number",
+            9 => "fewer than 512 bytes are left",
+            10 => "the check is wrong",
+            11 => "the job is 0, a count is outside 1 to 16, or a byte that must be zero is not",
             12 => "the cache is of another pair",
+            13 => "the form is neither 0 nor 2",
             15 => "the lent list has no room for all corners",
             _ => "no reason is known",
         };

@@ -12,7 +12,7 @@ use Rattle.model.specs.declared.BlockAnswer.{BlockAnswer}
 use Rattle.model.specs.Work.{blockAnswer}
 use Rattle.model.specs.Sheet.{wholeAnswers}
 use Rattle.model.specs.Block.{blockSize}
-use Rattle.lines.specs.Part.{countLimit, isLast}
+use Rattle.model.specs.Parts.{countLimit, isLast}
 use Rattle.contacts.specs.First.{isContact, firstFrom}
 use Rattle.contacts.specs.Search.{state, searchedTo, searched}
 use Rattle.contacts.proofs.First.{rest-passed-over}

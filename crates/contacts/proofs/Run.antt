@@ -10,7 +10,7 @@ use lib.Ieee.{binary32}
 use lib.ListN.{length, length-append}
 use Rattle.model.specs.Sheet.{answers}
 use Rattle.model.proofs.Sheet.{answers-counted, answers-in-two-parts, together}
-use Rattle.lines.specs.Part.{countLimit, partSize, Cut}
+use Rattle.model.specs.Parts.{countLimit, partSize, Cut}
 use Rattle.contacts.specs.First.{firstFrom, firstContact}
 use Rattle.contacts.specs.Search.{searched, search}
 use Rattle.contacts.proofs.First.{first-append}

@@ -8,7 +8,7 @@ ghost use lib.Ieee.{binary32};
 ghost use Rattle.model.specs.Block.{blockSize};
 ghost use Rattle.model.specs.Sheet.{wholeAnswers};
 ghost use Rattle.lines.specs.Put.{Put};
-ghost use Rattle.lines.specs.Part.{countLimit};
+ghost use Rattle.model.specs.Parts.{countLimit};
 ghost use Rattle.contacts.specs.First.{touches, isContact, firstFrom, firstContact};
 ghost use Rattle.contacts.specs.Search.{searched, textIn};
 

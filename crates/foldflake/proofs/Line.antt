@@ -11,7 +11,8 @@ use lib.ListN.{length, drop}
 use lib.Ieee.{binary32}
 use Rattle.model.specs.Work.{blockAnswer}
 use Rattle.lines.specs.Put.{pasted, Put}
-use Rattle.lines.specs.Part.{countLimit, lineFor}
+use Rattle.model.specs.Parts.{countLimit}
+use Rattle.lines.specs.Part.{lineFor}
 use Rattle.foldflake.specs.Entry.{lineTo, LineTold}
 
 at-start : {d s d' : List ℕ} {e : ℕ} → Put d 0 s d' e → (e ≡ length s) × (d' ≡ s ++ drop (length s) d)

@@ -26,7 +26,8 @@ use Rattle.model.specs.Support.{point}
 use Rattle.model.specs.Distance.{cache, proxyDistance}
 use Rattle.model.specs.Block.{blockSize}
 use Rattle.model.specs.Work.{turn, sweepFor, told, blockAnswer}
-use Rattle.lines.specs.Part.{countLimit, lineFor}
+use Rattle.model.specs.Parts.{countLimit}
+use Rattle.lines.specs.Part.{lineFor}
 use Rattle.shapes.specs.declared.Built.{Built}
 use Rattle.shapes.specs.declared.Built.the-variants as Shape
 

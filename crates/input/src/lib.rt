@@ -66,21 +66,46 @@ pub fn fill_from_input(buf: &mut [u8]) -> Filled
 }
 
 // Writes the first n bytes of a text; false where it has not so many, or they could not all be written.
-fn write_first(text: &[u8], n: usize) -> bool {
+fn write_first(fd: i32, text: &[u8], n: usize) -> bool {
     if n <= text.len() {
-        io::write_all(STDOUT_FILENO, &text[..n])
+        io::write_all(fd, &text[..n])
     } else {
         false
     }
 }
 
-// Writes the first n bytes of a text to standard output; false, and told, where they could not all be written.
-pub fn write_to_output(text: &[u8], n: usize) -> bool {
-    let written = write_first(text, n);
+// Writes the first n bytes of a text; false, and told under a name, where they could not all be written.
+pub fn write_to(fd: i32, name: &[u8], text: &[u8], n: usize) -> bool {
+    let written = write_first(fd, text, n);
     if !written {
-        os::fail(b"standard output");
+        os::fail(name);
     }
     written
+}
+
+// The same to standard output.
+pub fn write_to_output(text: &[u8], n: usize) -> bool {
+    write_to(STDOUT_FILENO, b"standard output", text, n)
+}
+
+// Whether a descriptor is open; else that is told under a name.
+fn is_open(fd: i32, name: &[u8]) -> bool {
+    if libc::lseek(fd, 0, libc::SEEK_CUR) >= 0 {
+        return true;
+    }
+    if os::errno() != libc::EBADF {
+        return true;
+    }
+    os::fail(name);
+    false
+}
+
+// Whether standard input and output are open. A program that opens a file asks before, since the file would take the number of a closed one.
+pub fn streams_open() -> bool {
+    if !is_open(STDIN_FILENO, b"standard input") {
+        return false;
+    }
+    is_open(STDOUT_FILENO, b"standard output")
 }
 
 // Whether the program was started with no argument; else that is told, under the program's name.

@@ -19,7 +19,8 @@ use Rattle.model.specs.Sheet.{wholeAnswers, restAnswer, answers, answerLine, li
 use Rattle.model.proofs.DistanceCall.{both}
 use Rattle.model.proofs.Sheet.{lines-append, totals-append, blocks-counted, answers-more, answers-counted}
 use Rattle.lines.specs.Put.{Put}
-use Rattle.lines.specs.Part.{Below, countLimit, countable, fits, longestLine}
+use Rattle.model.specs.Parts.{countLimit}
+use Rattle.lines.specs.Part.{Below, countable, fits, longestLine}
 use Rattle.lines.proofs.Pasted.{put-then}
 use Rattle.lines.proofs.Pieces.{length-line}
 

@@ -10,7 +10,8 @@ use lib.ListN.{length, length-append}
 use Rattle.model.specs.declared.Totals.{Totals}
 use Rattle.model.specs.Sheet.{answers, wholeAnswers, restAnswer, totalsFrom, partText, none, sheet}
 use Rattle.model.proofs.Sheet.{Sums, totals-add-up, blocks-counted, answers-counted, part-first, together}
-use Rattle.lines.specs.Part.{countLimit, partSize, countable, fits, isLast, run, Cut}
+use Rattle.model.specs.Parts.{countLimit, partSize, isLast, Cut}
+use Rattle.lines.specs.Part.{countable, fits, run}
 
 -- the totals add up, and so many bytes can still be counted
 pub record Counting (t : Totals) (bytes : ℕ) : Type 0 where

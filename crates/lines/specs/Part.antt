@@ -9,20 +9,13 @@ use lib.ListN.{length}
 use Rattle.model.specs.declared.BlockAnswer.{BlockAnswer}
 use Rattle.model.specs.declared.Totals.{Totals}
 use Rattle.model.specs.Block.{blockSize}
+use Rattle.model.specs.Parts.{countLimit, isLast}
 use Rattle.model.specs.Sheet.{answers, answerLine, totalsFrom, partText}
 
 -- no line is longer: nine numbers of up to 20 digits and a byte after each (block, job, three counts, four corners), five floats of eight and a blank,
 -- and the 0 and the status with theirs: 238
 abbrev pub longestLine : ℕ
 longestLine = 240
-
--- totals below this can be counted on through any part without wrapping
-abbrev pub countLimit : ℕ
-countLimit = 0x8000_0000_0000_0000
-
--- a shorter part is the last one
-abbrev pub partSize : ℕ
-partSize = 65536
 
 -- ---- one answer
 abbrev pub lineFor : ℕ → BlockAnswer → ℕ → List ℕ
@@ -46,9 +39,6 @@ countable t =
 abbrev pub fits : ℕ → ℕ → Totals → Bool
 fits size room t = leb (size / blockSize + 2) (room / longestLine) && countable t
 
-abbrev pub isLast : List ℕ → Bool
-isLast part = ltb (length part) partSize
-
 -- where there is no room nothing is written or counted, and the run is over
 module _ (t : Totals) (part : List ℕ) (room : ℕ) where
   abbrev pub textFor : List ℕ
@@ -64,9 +54,3 @@ module _ (t : Totals) (part : List ℕ) (room : ℕ) where
 unfoldable pub run : ℕ → Totals → List (List ℕ) → List ℕ
 run room t [] = []
 run room t (p ∷ ps) = textFor t p room ++ cond (lastFor t p room) [] (run room (totalsFor t p room) ps)
-
--- all parts are whole but the last, which is shorter
-unfoldable pub Cut : List (List ℕ) → Type 0
-Cut [] = ⊥
-Cut (p ∷ []) = length p < partSize
-Cut (p ∷ q ∷ r) = (length p ≡ partSize) × Cut (q ∷ r)

@@ -22,14 +22,17 @@ use Rattle.sweep_toi.proofs as sweep_toi
 use Rattle.moment.proofs as moment
 use Rattle.toi_proxy.proofs as toi_proxy
 use Rattle.shapes.proofs as shapes
+use Rattle.text.proofs as text
 use Rattle.wire.proofs as wire
 use Rattle.block.proofs as block
 use Rattle.work.proofs as work
 use Rattle.lines.proofs as lines
 use Rattle.contacts.proofs as contacts
+use Rattle.forms.proofs as forms
 use Rattle.foldflake.proofs as foldflake
 use Rattle.toi_proxy.specs.declared.ToiProxy.{ToiProxy}
 use Rattle.lines.specs.declared.part.Written.{Written}
+use Rattle.forms.specs.declared.Converted.{Converted}
 
 -- `ToiProxy`, where a contract tells its parts
 toi-proxy-by-parts : {x y : ToiProxy} → x .points ≡ y .points → x .radius ≡ y .radius → x ≡ y
@@ -38,6 +41,10 @@ toi-proxy-by-parts p0 p1 = λ i. record { points = p0 i; radius = p1 i }
 -- `Written`, where a contract tells its parts
 written-by-parts : {x y : Written} → x .at ≡ y .at → x .totals ≡ y .totals → x .last ≡ y .last → x ≡ y
 written-by-parts p0 p1 p2 = λ i. record { at = p0 i; totals = p1 i; last = p2 i }
+
+-- `Converted`, where a contract tells its parts
+converted-by-parts : {x y : Converted} → x .file ≡ y .file → x .text ≡ y .text → x .blocks ≡ y .blocks → x .last ≡ y .last → x ≡ y
+converted-by-parts p0 p1 p2 p3 = λ i. record { file = p0 i; text = p1 i; blocks = p2 i; last = p3 i }
 
 module _ {M : Type 1} (𝓤 : URA M) (H : Heap 𝓤) (A : Atoms 𝓤) (mem : Memory → SProp 𝓤) (run : Routine → Fun 𝓤) where
   -- ---- root_list
@@ -487,6 +494,35 @@ module _ {M : Type 1} (𝓤 : URA M) (H : Heap 𝓤) (A : Atoms 𝓤) (mem : Mem
     once = λ κs a g r r' v v'. told 𝓤 (λ p q. (search same-value, each-list shapes.plate.ended κs a v v' (search same-value depth 12)));
   }
 
+  -- ---- text
+  pub text-put-hex : OneResult 𝓤 H A text.put_hex.ended (text.put_hex.spec 𝓤 H A mem run)
+  text-put-hex = record {
+    clauses = text.put_hex.clauses 𝓤 H A mem run;
+    of-contract = refl;
+    once = λ κs a g r r' v v'. told 𝓤 (λ p q. (search same-value, each-list text.put_hex.ended κs a v v' (search same-value depth 12)));
+  }
+
+  pub text-put-number : OneResult 𝓤 H A text.put_number.ended (text.put_number.spec 𝓤 H A mem run)
+  text-put-number = record {
+    clauses = text.put_number.clauses 𝓤 H A mem run;
+    of-contract = refl;
+    once = λ κs a g r r' v v'. told 𝓤 (λ p q. (search same-value, each-list text.put_number.ended κs a v v' (search same-value depth 12)));
+  }
+
+  pub text-put-text : OneResult 𝓤 H A text.put_text.ended (text.put_text.spec 𝓤 H A mem run)
+  text-put-text = record {
+    clauses = text.put_text.clauses 𝓤 H A mem run;
+    of-contract = refl;
+    once = λ κs a g r r' v v'. told 𝓤 (λ p q. (search same-value, each-list text.put_text.ended κs a v v' (search same-value depth 12)));
+  }
+
+  pub text-read-numbers : OneResult 𝓤 H A text.read_numbers.ended (text.read_numbers.spec 𝓤 H A mem run)
+  text-read-numbers = record {
+    clauses = text.read_numbers.clauses 𝓤 H A mem run;
+    of-contract = refl;
+    once = λ κs a g r r' v v'. told 𝓤 (λ p q. (search same-value, each-list text.read_numbers.ended κs a v v' (search same-value depth 12)));
+  }
+
   -- ---- wire
   pub wire-byte : OneResult 𝓤 H A wire.byte.ended (wire.byte.spec 𝓤 H A mem run)
   wire-byte = record {
@@ -506,6 +542,13 @@ module _ {M : Type 1} (𝓤 : URA M) (H : Heap 𝓤) (A : Atoms 𝓤) (mem : Mem
   pub block-check-block : OneResult 𝓤 H A block.check_block.ended (block.check_block.spec 𝓤 H A mem run)
   block-check-block = record {
     clauses = block.check_block.clauses 𝓤 H A mem run;
+    of-contract = refl;
+    once = λ κs a g r r' v v'. told 𝓤 (λ p q. (search same-value, refl));
+  }
+
+  pub block-sum-before : OneResult 𝓤 H A block.sum_before.ended (block.sum_before.spec 𝓤 H A mem run)
+  block-sum-before = record {
+    clauses = block.sum_before.clauses 𝓤 H A mem run;
     of-contract = refl;
     once = λ κs a g r r' v v'. told 𝓤 (λ p q. (search same-value, refl));
   }
@@ -588,6 +631,14 @@ module _ {M : Type 1} (𝓤 : URA M) (H : Heap 𝓤) (A : Atoms 𝓤) (mem : Mem
     clauses = contacts.write_found.clauses 𝓤 H A mem run;
     of-contract = refl;
     once = λ κs a g r r' v v'. told 𝓤 (λ p q. (search same-value, each-list contacts.write_found.ended κs a v v' (search same-value depth 12)));
+  }
+
+  -- ---- forms
+  pub forms-convert-part : OneResult 𝓤 H A forms.convert_part.ended (forms.convert_part.spec 𝓤 H A mem run)
+  forms-convert-part = record {
+    clauses = forms.convert_part.clauses 𝓤 H A mem run;
+    of-contract = refl;
+    once = λ κs a g r r' v v'. told-in-two 𝓤 (λ p q. (search (same-value, converted-by-parts), each-list forms.convert_part.ended κs a v v' (search same-value depth 12)));
   }
 
   -- ---- foldflake

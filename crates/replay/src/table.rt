@@ -1,5 +1,6 @@
 // The tables: what their rows are like, and the way through a part's rows.
 use crate::blocks;
+use crate::conversions;
 use crate::distances;
 use crate::first_contacts;
 use crate::operations;
@@ -43,6 +44,7 @@ fn shape_of(table: u32) -> RowShape
         4 => shape(672, 668, 512, 40),
         5 => shape(4644, 0, 12, 6),
         6 => shape(44, 0, 12, 8),
+        7 => shape(10912, 0, 8, 4),
         _ => shape(65536, 0, 0, 0),
     }
 }
@@ -55,6 +57,7 @@ fn answer(table: u32, row: &[u8], n: u64, pool: &[u8], numbers: &[f32], words: &
         4 => blocks::answer(row, n, words),
         5 => first_contacts::answer(row, words),
         6 => plates::answer(row, words),
+        7 => conversions::answer(row, words),
         _ => {}
     }
 }

@@ -1,6 +1,6 @@
 // Bytes and words in lent bytes, little-endian. A byte that is missing counts as 0, so every place can be asked.
 ghost use mathlib.Core.Path.{_≡_};
-ghost use Prim.Native.Nat.{_<_};
+ghost use Prim.Native.Nat.{_+_, _*_, _<_};
 ghost use Rattle.model.specs.Wire as Wire;
 
 // The byte at place k.
@@ -16,7 +16,13 @@ fn wide(x: u8) -> u32
     x as u32
 }
 
-// The word of the four bytes from place k on.
+fn joined(a: u8, b: u8, c: u8, d: u8) -> u32
+    ensures { λ r. ⌜ r ≡ a + b * 256 + c * 65536 + d * 16777216 ⌝ }
+{
+    wide(a) + wide(b) * 256 + wide(c) * 65536 + wide(d) * 16777216
+}
+
+// The word of the four bytes from place k on. Where all four are there they are read with no further test, as one.
 pub fn word(bytes: &[u8], k: usize) -> u32
     ensures { λ r. ⌜ r ≡ Wire.word (now (bytes .entry)) k ⌝ }
 {
@@ -24,8 +30,8 @@ pub fn word(bytes: &[u8], k: usize) -> u32
         return 0;
     }
     let rest = &bytes[k..];
-    wide(byte(rest, 0))
-        + wide(byte(rest, 1)) * 256
-        + wide(byte(rest, 2)) * 65536
-        + wide(byte(rest, 3)) * 16777216
+    if rest.len() < 4 {
+        return joined(byte(rest, 0), byte(rest, 1), byte(rest, 2), byte(rest, 3));
+    }
+    joined(rest[0], rest[1], rest[2], rest[3])
 }

@@ -1,8 +1,7 @@
--- `block::all_zero` meets its contract: the bytes passed so far are all zero or not, and those left fall. Assumes nothing.
+-- `block::all_zero` meets its contract: the words passed so far are all zero or not, and those left fall. Assumes nothing.
 use borrow.Author.Needs.{needs}
-use Prim.Native.Nat.{_≤_, _-_}
-use mathlib.Core.Path.{_≡_, refl, sym, ap, _∙_}
-use native.Mathlib.Omega.{arith}
+use Prim.Native.Nat.{ℕ, _≤_, _-_, _*_}
+use mathlib.Core.Path.{_≡_, refl, ap, _∙_}
 use native.Mathlib.Nat.{le-antisymm}
 use Rattle.model.specs.Block.{allZero}
 use Rattle.block.proofs.Laws.{zero-step}
@@ -10,7 +9,7 @@ use Rattle.block.proofs.all_zero.Statement.{statement}
 use Rattle.block.proofs.all_zero.Tie as tie
 
 abbrev Inv-loop : tie.InvT-loop
-Inv-loop part from n zero₀ i₀ zero i = (i ≤ n) × (zero ≡ allZero part from i)
+Inv-loop part from n zero₀ i₀ zero i = (i ≤ n) × (zero ≡ allZero part from (4 * i))
 
 abbrev μ-loop : tie.MeasureT-loop
 μ-loop part from n zero₀ i₀ zero i = n - i
@@ -19,11 +18,14 @@ loop-holds : tie.Need-loop-holds Inv-loop μ-loop
 unfolding allZero
 loop-holds c = (search needs, refl)
 
-add-byte : tie.Need-add-byte Inv-loop μ-loop
-add-byte c = search needs
+mul-word : tie.Need-mul-word Inv-loop μ-loop
+mul-word c = search needs
 
-byte-requires : tie.Need-byte-requires Inv-loop μ-loop
-byte-requires c κs = search needs
+add-word : tie.Need-add-word Inv-loop μ-loop
+add-word c = search needs
+
+word-requires : tie.Need-word-requires Inv-loop μ-loop
+word-requires c κs = search needs
 
 add-i : tie.Need-add-i Inv-loop μ-loop
 add-i c = search needs
@@ -32,12 +34,22 @@ loop-less : tie.Need-loop-less Inv-loop μ-loop
 loop-less c = search needs
 
 loop-again : tie.Need-loop-again Inv-loop μ-loop
-loop-again c = (search needs, simp (c .before .before .loop .inv .1, c .byte .ensures) (zero-step _ _ _))
+loop-again c = (search needs, simp (c .before .before .loop .inv .1, c .word .ensures) (zero-step _ _ _))
 
 returns : tie.Need-returns Inv-loop μ-loop
-returns c = c .before .loop .inv .1 ∙ ap (allZero _ _) (le-antisymm (c .before .loop .inv .0) (c .loop-test .left))
+returns c = c .before .loop .inv .1 ∙ ap (λ (k : ℕ). allZero (c .before .before .before .args .part .now) (c .before .before .before .args .from) (4 * k)) (le-antisymm (c .before .loop .inv .0) (c .loop-test .left))
 
 pub all-zero-spec : {M : Type 1} → statement M
 all-zero-spec =
     tie.close
-    (tie.spec Inv-loop μ-loop loop-holds add-byte byte-requires add-i loop-less loop-again returns)
+    (tie.spec
+    Inv-loop
+    μ-loop
+    loop-holds
+    mul-word
+    add-word
+    word-requires
+    add-i
+    loop-less
+    loop-again
+    returns)

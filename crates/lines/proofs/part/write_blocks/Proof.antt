@@ -8,7 +8,8 @@ use lib.ListN.{length}
 use lib.Ieee.{binary32}
 use Rattle.model.specs.Sheet.{wholeAnswers, linesFrom, totalsFrom}
 use Rattle.lines.specs.Put.{Put}
-use Rattle.lines.specs.Part.{Below, countLimit, longestLine}
+use Rattle.model.specs.Parts.{countLimit}
+use Rattle.lines.specs.Part.{Below, longestLine}
 use Rattle.lines.proofs.Pasted.{put-nothing}
 use Rattle.lines.proofs.Pieces.{ends, length-line}
 use Rattle.lines.proofs.Parts.{below-less, below-more, line-step, totals-step}

@@ -1,0 +1,171 @@
+// A file that a program writes anew. What is written is collected beside it, in a file that has no name from the start on, so that nothing is left
+// where the run fails or is ended; only a run that succeeded puts it under a name beside, and then in the place of the file.
+use libc::PATH_MAX;
+use libc::STDERR_FILENO;
+ghost use Prim.Native.Nat.{_≤_, _<_};
+ghost use lib.ListN.{length};
+ghost use Rattle.io.specs.Counts.{Counts};
+ghost use Rattle.libc.specs.Io.{Ended};
+
+fn tell(name: &[u8], what: &[u8]) {
+    io::write_all(STDERR_FILENO, name);
+    io::write_all(STDERR_FILENO, what);
+}
+
+// The program's one argument at the start of name, and its length: 0, and told, where it has none or more, or it is empty or too long.
+pub fn argument(program: &[u8], name: &mut [u8]) -> usize
+    ensures { λ r. ⌜ Counts r (now (name .exit)) ⌝ }
+{
+    let count = os::arg_count();
+    let n = os::arg(1, name);
+    if (count == 2) & (n > 0) {
+        return n;
+    }
+    if (count == 2) & (os::errno() == libc::ENAMETOOLONG) {
+        os::fail(program);
+        return 0;
+    }
+    tell(
+        program,
+        b": one argument is taken, the name of the file to write\n",
+    );
+    0
+}
+
+// A path as C reads it.
+fn ended(name: &[u8]) -> [u8; PATH_MAX]
+    requires { ⌜ length (now name) < 4096 ⌝ }
+    ensures { λ r. ⌜ Ended r ⌝ }
+{
+    let mut path = io::buffer();
+    bytes::copy(name, &mut path);
+    path[4095] = 0;
+    path
+}
+
+// Whether an open file is regular: that one can be sought beyond its end. A pipe cannot be sought, a disk ends at its end, and a device as /dev/null
+// has no places.
+fn is_regular(fd: i32) -> bool {
+    let end = libc::lseek(fd, 0, libc::SEEK_END);
+    let beyond = libc::lseek(fd, 1, libc::SEEK_END);
+    (end >= 0) & (beyond > end)
+}
+
+// Whether what is there, and is no link, is a regular file that may be written; else that is told.
+fn is_writable(name: &[u8]) -> bool {
+    let fd = os::open_update(name);
+    if fd < 0 {
+        os::fail(name);
+        return false;
+    }
+    let regular = is_regular(fd);
+    libc::close(fd);
+    if !regular {
+        tell(name, b": not a regular file\n");
+    }
+    regular
+}
+
+// Whether the file may be written anew: it is regular and may be written, or there is none. Else that is told, and it is left alone. A link is told
+// apart by its text, and what is no link by having none.
+pub fn may_be_replaced(name: &[u8]) -> bool {
+    if name.len() >= PATH_MAX {
+        tell(name, b": File name too long\n");
+        return false;
+    }
+    let path = ended(name);
+    let mut text = [0u8; 1];
+    if libc::readlink(&path, &mut text) >= 0 {
+        tell(name, b": not a regular file\n");
+        return false;
+    }
+    let error = os::errno();
+    if error == libc::ENOENT {
+        return true;
+    }
+    if error == libc::EINVAL {
+        return is_writable(name);
+    }
+    os::fail(name);
+    false
+}
+
+// The place after the last slash.
+fn after_folder(name: &[u8]) -> usize
+    ensures { λ r. ⌜ r ≤ length (now (name .entry)) ⌝ }
+{
+    let mut i = name.len();
+    while i > 0 {
+        let last = i - 1;
+        if name[last] == b'/' {
+            return i;
+        }
+        i = last;
+    }
+    0
+}
+
+// A name beside the file, yet to be completed by `begin`, at the start of beside, and its length.
+pub fn name_beside(name: &[u8], beside: &mut [u8]) -> usize
+    ensures { λ r. ⌜ Counts r (now (beside .exit)) ⌝ }
+{
+    let folder = after_folder(name);
+    let at = text::put_text(beside, 0, &name[..folder]);
+    text::put_text(beside, at, b".foldflake-XXXXXX")
+}
+
+// Begins to collect: completes the name, and answers a file that had it and has none now, or -1, and told.
+pub fn begin(name: &[u8], beside: &mut [u8]) -> i32 {
+    let fd = os::create_temp(beside);
+    if fd < 0 {
+        os::fail(name);
+        return -1;
+    }
+    if os::unlink(beside) < 0 {
+        os::fail(name);
+        return -1;
+    }
+    fd
+}
+
+// Copies all that was collected to a descriptor.
+fn copied(fd: i32, to: i32) -> bool {
+    if libc::lseek(fd, 0, libc::SEEK_SET) < 0 {
+        return false;
+    }
+    for turn in 0..u64::MAX {
+        let mut buffer = io::large_buffer();
+        let filled = input::fill(fd, &mut buffer);
+        if filled.failed {
+            return false;
+        }
+        let n = filled.count;
+        if n == 0 {
+            return true;
+        }
+        if !io::write_all(to, &buffer[..n]) {
+            return false;
+        }
+    }
+    false
+}
+
+// Writes what was collected under the name beside.
+fn written(fd: i32, beside: &[u8]) -> bool {
+    let made = os::create(beside);
+    if made < 0 {
+        return false;
+    }
+    let whole = copied(fd, made);
+    whole & (libc::close(made) >= 0)
+}
+
+// Puts what was collected in the place of the file. Told where that fails, and then the file is as it was, and nothing is left beside it.
+pub fn finish(name: &[u8], beside: &[u8], fd: i32) -> bool {
+    let done = written(fd, beside) && os::rename(beside, name) >= 0;
+    if !done {
+        os::fail(name);
+        os::unlink(beside);
+    }
+    done
+}
