@@ -3,6 +3,7 @@
 //!   oracle distance SEED COUNT           a pool and rows of distance calls with their answers (distance.rs)
 //!   oracle sweep SEED COUNT [EFFORT]     a pool and rows of sweeps with their answers (sweep.rs)
 //!   oracle batch SEED COUNT              a batch of COUNT blocks (sheet.rs)
+//!   oracle carts|convex SEED COUNT      a batch of one family, to measure speed (families.rs)
 //!   oracle lines SEED COUNT              rows of blocks with their lines
 //!   oracle known                         a pool, sweeps and blocks whose answers are well known (known.rs)
 //!   oracle sheet                         the sheet of the batch on standard input
@@ -14,6 +15,7 @@ mod counts;
 mod cuboid;
 mod distance;
 mod domain;
+mod families;
 mod ground;
 mod known;
 mod pool;
@@ -46,6 +48,7 @@ fn main() {
         "distance" => distance::rows(number(2), number(3) as usize),
         "sweep" => sweep::rows(number(2), number(3) as usize, word(4).parse().unwrap_or(100)),
         "batch" => sheet::batch(number(2), number(3)),
+        family @ ("carts" | "convex") => families::batch(family, number(2), number(3)),
         "lines" => sheet::rows(number(2), number(3)),
         "known" => known::rows(),
         "sheet" => sheet::sheet(),

@@ -1,41 +1,63 @@
 #!/usr/bin/env bash
-# speed.sh SRC [RUSTC]: `sheet` beside the oracle's sheet on the same 20,000 mixed blocks, in the same conditions: the best user time of seven runs of
-# each, taking turns, and their ratio; then `sheet` alone at 1,024, 10,240 and 102,400 blocks with its largest memory, to show that time grows
-# with the batch and memory does not. Memory is what the system tells of the program itself (VmHWM of /proc/PID/status). Both are x86-64 programs;
-# on Arm give a RUSTC that writes such programs, and in RUN the emulator for both: then neither seconds nor memory are the programs' own.
+# speed.sh SRC [RUSTC]: `sheet` beside the oracle's sheet on the same 20,000 blocks of each family: mixed, carts, convex, and copies of one block that
+# takes 8,000 root steps. Of seven runs of each, taking turns, the least processor time (user and system), the ratio, and the largest memory that the
+# system tells of the program itself; instructions on the first 2,000 blocks beside them where valgrind is installed. Then `sheet` alone at 1,024,
+# 10,240 and 102,400 mixed blocks, to show that time grows with the batch and memory does not. Both are x86-64 programs; on Arm give a RUSTC that
+# writes such programs, and in RUN the emulator for both: then neither seconds nor memory are the programs' own.
 # SRC is the folder that holds query/sweep_toi/*.rs of parry2d 0.31.1.
 set -eu
 cd "$(dirname "$0")/.."
 oracle/build.sh "$1" target/oracle "${2:-rustc}"
 rt check sheet > /dev/null
 python3 - <<'PY'
-import os, shutil, subprocess, tempfile, threading
+import os, re, shutil, subprocess, tempfile, threading
 
+RUNS, COUNT, FEW, BLOCK = 7, 20000, 2000, 512
 run = os.environ.get("RUN", "").split()
 ours, theirs = run + ["target/bin/sheet"], run + ["target/oracle/oracle", "sheet"]
 
 
-def batch(count):
+def made(family, count):
+    return subprocess.run(run + ["target/oracle/oracle", family, "1", str(count)], stdout=subprocess.PIPE, check=True).stdout
+
+
+def worst(count):
+    """Copies of the first mixed block that takes 8,000 root steps."""
+    blocks = made("batch", 2000)
+    lines = subprocess.run(theirs, input=blocks, stdout=subprocess.PIPE, check=True).stdout.decode().splitlines()
+    number = next(i for i, line in enumerate(lines) if len(line.split()) > 11 and line.split()[11] == "8000")
+    return blocks[BLOCK * number : BLOCK * (number + 1)] * count
+
+
+def stored(data):
     file = tempfile.TemporaryFile()
-    subprocess.run(run + ["target/oracle/oracle", "batch", "1", str(count)], stdout=file, check=True)
+    file.write(data)
     return file
 
 
-def seconds(command, file):
-    """User seconds of one run."""
+def used(command, file):
+    """Processor seconds of one run."""
     file.seek(0)
     process = subprocess.Popen(command, stdin=file, stdout=subprocess.DEVNULL)
-    _, status, used = os.wait4(process.pid, 0)
+    _, status, spent = os.wait4(process.pid, 0)
     assert status == 0, command
-    return used.ru_utime
+    return spent.ru_utime + spent.ru_stime
 
 
-def memory(file, count):
+def instructions(command, data):
+    if run or not shutil.which("valgrind"):
+        return None
+    with tempfile.TemporaryDirectory() as folder:
+        told = subprocess.run(["valgrind", "--tool=callgrind", f"--callgrind-out-file={folder}/out"] + command, input=data,
+                              stdout=subprocess.DEVNULL, stderr=subprocess.PIPE, check=True).stderr.decode()
+    return int(re.search(r"Collected : (\d+)", told).group(1))
+
+
+def memory(command, data, count):
     """The largest resident set in KiB once `count` blocks are worked: a multiple of 128, since lines come when a part of 128 blocks is full. The
     input stays open meanwhile, so that the program is still there to be asked about."""
-    file.seek(0)
-    process = subprocess.Popen(ours, stdin=subprocess.PIPE, stdout=subprocess.PIPE)
-    feeder = threading.Thread(target=lambda: (shutil.copyfileobj(file, process.stdin), process.stdin.flush()))
+    process = subprocess.Popen(command, stdin=subprocess.PIPE, stdout=subprocess.PIPE)
+    feeder = threading.Thread(target=lambda: (process.stdin.write(data), process.stdin.flush()))
     feeder.start()
     for _ in range(count):
         assert process.stdout.readline()
@@ -47,14 +69,25 @@ def memory(file, count):
     return largest
 
 
-file = batch(20000)
-times = {"ours": [], "theirs": []}
-for _ in range(7):
-    times["ours"].append(seconds(ours, file))
-    times["theirs"].append(seconds(theirs, file))
-best = {name: min(taken) for name, taken in times.items()}
-print(f"20,000 mixed blocks: ours {best['ours']:.3f} s, the Rust's {best['theirs']:.3f} s, ratio {best['ours'] / best['theirs']:.2f}")
+families = {
+    "mixed": made("batch", COUNT),
+    "carts": made("carts", COUNT),
+    "convex": made("convex", COUNT),
+    "8,000 root steps": worst(COUNT),
+}
+for name, data in families.items():
+    file, times = stored(data), ([], [])
+    for _ in range(RUNS):
+        for command, taken in zip((ours, theirs), times):
+            taken.append(used(command, file))
+    mine, other = map(min, times)
+    told = f"{name}: ours {mine:.3f} s, the Rust's {other:.3f} s, ratio {mine / other:.2f}"
+    counted = [instructions(command, data[: BLOCK * FEW]) for command in (ours, theirs)]
+    if all(counted):
+        told += f"; instructions of {FEW:,} blocks {counted[0]:,} to {counted[1]:,}, ratio {counted[0] / counted[1]:.2f}"
+    print(told)
 for count in (1024, 10240, 102400):
-    file = batch(count)
-    print(f"{count:,} blocks: {min(seconds(ours, file) for _ in range(3)):.3f} s, {memory(file, count)} KiB")
+    data = made("batch", count)
+    file = stored(data)
+    print(f"{count:,} mixed blocks: {min(used(ours, file) for _ in range(3)):.3f} s, {memory(ours, data, count)} KiB")
 PY

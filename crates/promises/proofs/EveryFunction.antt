@@ -350,6 +350,20 @@ module _ {M : Type 1} (𝓤 : URA M) (H : Heap 𝓤) (A : Atoms 𝓤) (mem : Mem
   }
 
   -- ---- separation
+  pub separation-end-a : OneResult 𝓤 H A separation.end_a.ended (separation.end_a.spec 𝓤 H A mem run)
+  separation-end-a = record {
+    clauses = separation.end_a.clauses 𝓤 H A mem run;
+    of-contract = refl;
+    once = λ κs a g r r' v v'. told 𝓤 (λ p q. (search same-value, refl));
+  }
+
+  pub separation-end-b : OneResult 𝓤 H A separation.end_b.ended (separation.end_b.spec 𝓤 H A mem run)
+  separation-end-b = record {
+    clauses = separation.end_b.clauses 𝓤 H A mem run;
+    of-contract = refl;
+    once = λ κs a g r r' v v'. told 𝓤 (λ p q. (search same-value, refl));
+  }
+
   pub separation-evaluate : OneResult 𝓤 H A separation.evaluate.ended (separation.evaluate.spec 𝓤 H A mem run)
   separation-evaluate = record {
     clauses = separation.evaluate.clauses 𝓤 H A mem run;

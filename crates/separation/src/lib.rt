@@ -2,6 +2,8 @@
 mod separation;
 mod sweep;
 
+pub use separation::end_a;
+pub use separation::end_b;
 pub use separation::evaluate;
 pub use separation::find_min_separation;
 pub use separation::new_separation;

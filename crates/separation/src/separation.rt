@@ -1,5 +1,4 @@
 // The separation function: its axis from the cached corners, and the separation along it at a time, of given corners or of the deepest.
-use crate::sweep::transform_at;
 use ground::add;
 use ground::dot;
 use ground::inv_rotate_vec;
@@ -24,7 +23,8 @@ use outline::support_pair;
 ghost use mathlib.Core.Path.{_≡_};
 ghost use lib.Ieee.{binary32};
 ghost use Rattle.model.specs.Separation as Separation;
-ghost use Rattle.model.specs.Corners.{noCorner, cornersA, cornersB, search};
+ghost use Rattle.model.specs.Corners.{noCorner, cornersA, cornersB};
+ghost use Rattle.separation.specs.ByPoses as ByPoses;
 
 // The index that a face has no corner for.
 const INVALID_INDEX: u32 = 4294967295;
@@ -146,19 +146,18 @@ fn of_face_b(
     }
 }
 
-// The separation function at time t1, by the cached corners: one of each, or two of A or B. Three are treated as two.
+// The separation function by the poses at a time and the cached corners: one of each, or two of A or B. Three are treated as two.
 pub fn new_separation(
     cache: SimplexCache,
     points_a: &[f32],
     sweep_a: Sweep,
     points_b: &[f32],
     sweep_b: Sweep,
-    t1: f32,
+    xf_a: Pose,
+    xf_b: Pose,
 ) -> SeparationFunction
-    ensures { λ r. ⌜ r ≡ Separation.newSeparation binary32 «sweep_a» «sweep_b» (now («points_a» .entry)) (now («points_b» .entry)) cache t1 ⌝ }
+    ensures { λ r. ⌜ r ≡ ByPoses.newSeparationBy binary32 «sweep_a» «sweep_b» (now («points_a» .entry)) (now («points_b» .entry)) cache «xf_a» «xf_b» ⌝ }
 {
-    let xf_a = transform_at(sweep_a, t1);
-    let xf_b = transform_at(sweep_b, t1);
     let index_a = cache.index_a;
     let index_b = cache.index_b;
     let count = cache.count;
@@ -201,54 +200,42 @@ pub fn new_separation(
     }
 }
 
-// From a corner of A to a corner of B, by the poses at a time; a face has its own point in place of its corner.
-fn separation_of(
-    fcn: SeparationFunction,
-    points_a: &[f32],
-    points_b: &[f32],
-    xf_a: Pose,
-    xf_b: Pose,
-    index_a: u32,
-    index_b: u32,
-) -> f32
-    ensures { λ r. ⌜ r ≡ Separation.separationOf binary32 (now («points_a» .entry)) (now («points_b» .entry)) fcn «xf_a» «xf_b» (fcn .ty) «index_a» «index_b» ⌝ }
+// The point of A that a separation is measured from: a corner, or the own point of a face of A.
+pub fn end_a(fcn: SeparationFunction, points_a: &[f32], index_a: u32) -> Vector
+    ensures { λ r. ⌜ r ≡ ByPoses.endA binary32 (now («points_a» .entry)) fcn (fcn .ty) «index_a» ⌝ }
 {
     let ty = fcn.ty;
     match ty {
-        SeparationType::Points => {
-            let point_a = transform_point(xf_a, point(points_a, index_a));
-            let point_b = transform_point(xf_b, point(points_b, index_b));
-            dot(sub(point_b, point_a), fcn.axis)
-        }
-        SeparationType::FaceA => {
-            let axis = rotate_vec(xf_a.rotation, fcn.axis);
-            let point_a = transform_point(xf_a, fcn.local_point);
-            let point_b = transform_point(xf_b, point(points_b, index_b));
-            dot(sub(point_b, point_a), axis)
-        }
-        SeparationType::FaceB => {
-            let axis = rotate_vec(xf_b.rotation, fcn.axis);
-            let point_a = transform_point(xf_a, point(points_a, index_a));
-            let point_b = transform_point(xf_b, fcn.local_point);
-            dot(sub(point_a, point_b), axis)
-        }
+        SeparationType::Points => point(points_a, index_a),
+        SeparationType::FaceA => fcn.local_point,
+        SeparationType::FaceB => point(points_a, index_a),
     }
 }
 
-// The separation of given corners at time t.
-pub fn evaluate(
-    fcn: SeparationFunction,
-    points_a: &[f32],
-    points_b: &[f32],
-    index_a: u32,
-    index_b: u32,
-    t: f32,
-) -> f32
-    ensures { λ r. ⌜ r ≡ Separation.evaluate binary32 (now («points_a» .entry)) (now («points_b» .entry)) fcn «index_a» «index_b» t ⌝ }
+// The point of B, likewise.
+pub fn end_b(fcn: SeparationFunction, points_b: &[f32], index_b: u32) -> Vector
+    ensures { λ r. ⌜ r ≡ ByPoses.endB binary32 (now («points_b» .entry)) fcn (fcn .ty) «index_b» ⌝ }
 {
-    let xf_a = transform_at(fcn.sweep_a, t);
-    let xf_b = transform_at(fcn.sweep_b, t);
-    separation_of(fcn, points_a, points_b, xf_a, xf_b, index_a, index_b)
+    let ty = fcn.ty;
+    match ty {
+        SeparationType::Points => point(points_b, index_b),
+        SeparationType::FaceA => point(points_b, index_b),
+        SeparationType::FaceB => fcn.local_point,
+    }
+}
+
+// How far apart the two points are along the axis, by the poses at a time.
+pub fn evaluate(fcn: SeparationFunction, a: Vector, b: Vector, xf_a: Pose, xf_b: Pose) -> f32
+    ensures { λ r. ⌜ r ≡ ByPoses.between binary32 a b (fcn .axis) «xf_a» «xf_b» (fcn .ty) ⌝ }
+{
+    let point_a = transform_point(xf_a, a);
+    let point_b = transform_point(xf_b, b);
+    let ty = fcn.ty;
+    match ty {
+        SeparationType::Points => dot(sub(point_b, point_a), fcn.axis),
+        SeparationType::FaceA => dot(sub(point_b, point_a), rotate_vec(xf_a.rotation, fcn.axis)),
+        SeparationType::FaceB => dot(sub(point_a, point_b), rotate_vec(xf_b.rotation, fcn.axis)),
+    }
 }
 
 // What a face side has.
@@ -294,20 +281,21 @@ fn deepest_b(fcn: SeparationFunction, points_b: &[f32], xf_a: Pose, xf_b: Pose) 
     }
 }
 
-// The least separation at time t, with the corners that have it.
+// The least separation by the poses at a time, with the corners that have it.
 pub fn find_min_separation(
     fcn: SeparationFunction,
     points_a: &[f32],
     points_b: &[f32],
-    t: f32,
+    xf_a: Pose,
+    xf_b: Pose,
 ) -> Search
-    ensures { λ r. ⌜ r ≡ search binary32 (now («points_a» .entry)) (now («points_b» .entry)) fcn t ⌝ }
+    ensures { λ r. ⌜ r ≡ ByPoses.searchBy binary32 (now («points_a» .entry)) (now («points_b» .entry)) fcn «xf_a» «xf_b» ⌝ }
 {
-    let xf_a = transform_at(fcn.sweep_a, t);
-    let xf_b = transform_at(fcn.sweep_b, t);
     let a = deepest_a(fcn, points_a, xf_a, xf_b);
     let b = deepest_b(fcn, points_b, xf_a, xf_b);
-    let separation = separation_of(fcn, points_a, points_b, xf_a, xf_b, a.first, b.first);
+    let end_a = end_a(fcn, points_a, a.first);
+    let end_b = end_b(fcn, points_b, b.first);
+    let separation = evaluate(fcn, end_a, end_b, xf_a, xf_b);
     let least = MinSeparation {
         separation,
         index_a: a.first,

@@ -1,33 +1,52 @@
 -- What each loop of a sweep meets. What is left at the head of a loop gives the whole answer, and with the corners of the search before it those of the
 -- last; here is one law for each way that a turn goes on from there. Assumes nothing.
-use Prim.Native.Nat.{ℕ, zero, suc, _+_, _-_, _<_, _≤_}
+use Prim.Native.Nat.{ℕ, zero, suc, _+_, _-_, _≤_}
 use native.Mathlib.Omega.{arith}
-use mathlib.Core.Bool.{true, false, cond}
-use mathlib.Core.List.{List, [], _∷_, _++_}
-use mathlib.Core.Path.{_≡_, refl, sym, ap, _∙_}
-use lib.Ieee.{Float, Format, sub, lt, le}
-use Rattle.model.specs.declared.Pose.{Pose}
+use mathlib.Core.Bool.{Bool, true, false, _&&_, _||_}
+use mathlib.Core.List.{List, [], _++_}
+use mathlib.Core.Path.{_≡_, refl, sym, ap, subst, _∙_}
+use lib.Dec.{eqb}
+use lib.Ieee.{Float, Format, le}
+use borrow.Author.Tests.{eqb-true, eqb-false}
+use Rattle.model.specs.declared.Sweep.{Sweep}
 use Rattle.model.specs.declared.SimplexCache.{SimplexCache}
-use Rattle.model.specs.declared.Measurement.{Measurement}
 use Rattle.model.specs.declared.SeparationFunction.{SeparationFunction}
-use Rattle.model.specs.declared.MinSeparation.{MinSeparation}
 use Rattle.model.specs.declared.SweepTask.{SweepTask}
 use Rattle.model.specs.declared.Closest.{Closest}
-use Rattle.model.specs.declared.RootSearch.{RootSearch}
 use Rattle.model.specs.declared.Counts.{Counts}
 use Rattle.model.specs.declared.Corners.{Corners}
-use Rattle.model.specs.declared.Search.{Search}
 use Rattle.model.specs.declared.SweepAnswer.{SweepAnswer}
 use Rattle.model.specs.declared.Swept.{Swept}
-use Rattle.model.specs.Ground.{abs, inverseTimes}
 use Rattle.model.specs.Ground as Ground
-use Rattle.model.specs.Distance.{measure}
 use Rattle.model.specs.Sweep.{transformAt}
-use Rattle.model.specs.Separation.{newSeparation, evaluate, findMinSeparation}
-use Rattle.model.specs.SweepToi.{called, searched, stepped, overlapped, hit, separated, failed, failedAt, PushEnd, ended, moved, onward, found}
-use Rattle.model.specs.Corners.{noSearch, lastOf, cornersAt, search, afterwards, pushSearches, searchesBy, searchesFrom, swept, advanced}
-use Rattle.model.proofs.SweepToi.{Bounded, Ready, next-is-ready}
-use Rattle.model.specs.SweepToi.{sweepPair, noCorners, noCounts, closestBy, closestAt, tried, rootFrom, low, high, pushFrom, advanceBy, advanceFrom, advance}
+use Rattle.model.specs.Separation.{function, newSeparation}
+use Rattle.model.specs.SweepToi.{called, overlapped, hit, failedAt, PushEnd, moved, onward}
+use Rattle.model.specs.Corners.{noSearch, lastOf, afterwards, pushSearches, searchesBy, searchesFrom, swept, advanced}
+use Rattle.model.specs.SweepToi.{noCorners, noCounts, closestAt, high, pushFrom, advanceBy, advanceFrom}
+use Rattle.model.specs.Repeats.{since, further}
+use Rattle.model.proofs.Searches.{last-append}
+use Rattle.model.proofs.Repeats.{FixedCall, calls-repeat, call-corners-stay}
+use Rattle.separation.specs.ByPoses.{newSeparationBy}
+use Rattle.separation.proofs.Laws.{Keeps, moves-are-kept, new-at}
+use Rattle.sweep_toi.specs.declared.moment.Moment.{Moment}
+use Rattle.sweep_toi.specs.declared.push_back.PushKind.{PushKind}
+use Rattle.sweep_toi.specs.declared.push_back.PushKind.the-variants.{Separated, Failed, Hit, Landed, Held}
+use Rattle.sweep_toi.specs.declared.push_back.Pushed.{Pushed}
+use Rattle.sweep_toi.specs.Rounds.{momentAt, closestIn, pushBy, isOver, isHeld, endBy}
+use Rattle.sweep_toi.proofs.Rounds.{clash, closest-in, toldAs, PushedAs, push-is, Grown, round-grows}
+use Rattle.sweep_toi.proofs.Steps.{both-true}
+
+none-left : (n : Counts) → n .«distance_calls» ≡ 20 → 20 - n .«distance_calls» ≡ 0
+none-left n h = omega (arith, h)
+
+one-left : (n : Counts) → n .«distance_calls» ≤ 20 → (n .«distance_calls» ≡ 20 → ⊥) → 20 - n .«distance_calls» ≡ suc (19 - n .«distance_calls»)
+one-left n h d = omega (arith, h, d)
+
+-- whatever was searched before k + 1 push-backs
+some-search : (f : Format) (w : SweepTask) (a b : List Float) (g : SeparationFunction) (t1 : Float) (k : ℕ) (t2 : Float) (c : Corners) →
+    lastOf c (pushSearches f w a b g t1 (suc k) t2) ≡ lastOf noSearch (pushSearches f w a b g t1 (suc k) t2)
+unfolding pushSearches lastOf
+some-search f w a b g t1 k t2 c = refl
 
 module _ (f : Format) (w : SweepTask) (a b : List Float) where
   -- ---- what is left; e has the corners of the search before it
@@ -45,153 +64,15 @@ module _ (f : Format) (w : SweepTask) (a b : List Float) where
   calling t1 c n e =
       swept (advanceFrom f w a b (19 - n .«distance_calls») t1 c n) (lastOf e (searchesFrom f w a b (19 - n .«distance_calls») t1 c n))
 
-  -- where the push-backs after one are left at t1 with no answer
-  abbrev pub resuming : Closest → Float → Counts → Corners → Swept
-  resuming x t1 n e = swept (after (20 - n .«distance_calls») x t1 n) (lastOf e (searchesAfter (20 - n .«distance_calls») x t1 n))
-
-  -- push-backs that end so, after the searches given, where k calls may follow
-  abbrev pub pushed : ℕ → Closest → PushEnd → Corners → List Corners → Swept
-  pushed k x r e made = swept (onward r (after k x)) (lastOf e (made ++ afterwards f r (searchesAfter k x)))
-
-  -- at the head of a push-back, p of them made
-  unfoldable pub pushing : SeparationFunction → Closest → Float → Float → ℕ → Counts → Corners → Swept
-  pushing g x t1 t2 p n e =
-      pushed (20 - n .«distance_calls») x (pushFrom f w a b g t1 x (8 - p) t2 n) e (pushSearches f w a b g t1 (8 - p) t2)
-
-  -- the root search of a push-back whose deepest corners are those of m, k steps made
-  abbrev pub rootAt : SeparationFunction → Float → MinSeparation → Float → Float → Float → Float → ℕ → RootSearch
-  rootAt g t2 m a1 a2 s1 s2 k = rootFrom f w a b g (m .«index_a») (m .«index_b») t2 (50 - k) a1 a2 s1 s2 k
-
-  -- at the head of a root step
-  unfoldable pub searching : SeparationFunction → Closest → Float → Float → ℕ → Counts → Corners → MinSeparation →
-      Float → Float → Float → Float → ℕ → Swept
-  searching g x t1 t2 p n e m a1 a2 s1 s2 k =
-      let r = rootAt g t2 m a1 a2 s1 s2 k in
-      pushing g x t1 (r .t) (p + 1) (stepped n (r .steps)) e
+  -- where a round ends so, and l calls may follow
+  abbrev pub Resumes : Float → Closest → PushKind → Moment → Counts → Corners → ℕ → Type 0
+  Resumes t1 x kind m n c l =
+      let end = toldAs f w t1 x kind m n in
+      swept (onward end (after l x)) (lastOf c (afterwards f end (searchesAfter l x))) ≡ advanced f w a b
 
   pub at-the-start : calling (Ground.zero f) noCorners noCounts noSearch ≡ advanced f w a b
   unfolding calling advanced
   at-the-start = refl
-
--- ---- a root step: t is tried, and s is found there, d from the target
-pub record Tried (f : Format) (w : SweepTask) (a b : List Float) (g : SeparationFunction) (x : Closest) (t1 t2 : Float) (p : ℕ) (n : Counts) (e : Corners)
-    (m : MinSeparation) (a1 a2 s1 s2 : Float) (k : ℕ) (t s d : Float) : Type 0 where
-  pub left : k < 50
-  pub time : t ≡ tried f w k a1 a2 s1 s2
-  pub value : s ≡ evaluate f a b g (m .«index_a») (m .«index_b») t
-  pub off : d ≡ abs (sub f s (w .target))
-  pub rest : searching f w a b g x t1 t2 p n e m a1 a2 s1 s2 k ≡ advanced f w a b
-
-module _ {f : Format} {w : SweepTask} {a b : List Float} {g : SeparationFunction} {x : Closest} {t1 t2 : Float} {p : ℕ} {n : Counts} {e : Corners}
-    {m : MinSeparation} {a1 a2 s1 s2 : Float} {k : ℕ} {t s d : Float} (made : Tried f w a b g x t1 t2 p n e m a1 a2 s1 s2 k t s d) where
-  step : let up = lt (w .target) s in
-      rootAt f w a b g t2 m a1 a2 s1 s2 k
-      ≡ cond (le d (w .tolerance)) (found t (k + 1))
-      (rootAt f w a b g t2 m (cond up t a1) (cond up a2 t) (cond up s s1) (cond up s2 s) (k + 1))
-  unfolding rootFrom
-  step =
-      let h = made .left in
-      let y : 50 - k ≡ suc (49 - k) = omega arith in
-      let z : 50 - (k + 1) ≡ 49 - k = omega arith in
-      rw (y, z, made .off, made .value, made .time)
-
-  -- the push-backs go on as the search r ends
-  as-found : (r : RootSearch) → rootAt f w a b g t2 m a1 a2 s1 s2 k ≡ r →
-      pushing f w a b g x t1 (r .t) (p + 1) (stepped n (r .steps)) e ≡ advanced f w a b
-  unfolding searching
-  as-found r y = rw y at (made .rest)
-
-  pub root-lands : le d (w .tolerance) ≡ true → pushing f w a b g x t1 t (p + 1) (stepped n (k + 1)) e ≡ advanced f w a b
-  root-lands h = as-found (found t (k + 1)) (step ∙ rw h)
-
-  module _ (h : le d (w .tolerance) ≡ false) where
-    pub root-above : lt (w .target) s ≡ true → searching f w a b g x t1 t2 p n e m t a2 s s2 (k + 1) ≡ advanced f w a b
-    unfolding searching
-    root-above u = as-found (rootAt f w a b g t2 m t a2 s s2 (k + 1)) (step ∙ rw (h, u))
-
-    pub root-below : lt (w .target) s ≡ false → searching f w a b g x t1 t2 p n e m a1 t s1 s (k + 1) ≡ advanced f w a b
-    unfolding searching
-    root-below u = as-found (rootAt f w a b g t2 m a1 t s1 s (k + 1)) (step ∙ rw (h, u))
-
-    pub root-runs-out : k + 1 ≡ 50 → pushing f w a b g x t1 t2 (p + 1) (stepped n (k + 1)) e ≡ advanced f w a b
-    unfolding rootFrom
-    root-runs-out l = let y : 50 - (k + 1) ≡ 0 = omega arith in as-found (found t2 (k + 1)) (step ∙ rw (h, y))
-
--- ---- a push-back: v is the search at t2, o the counts with it
-pub record Searched (f : Format) (w : SweepTask) (a b : List Float) (g : SeparationFunction) (x : Closest) (t1 t2 : Float) (p : ℕ) (n : Counts)
-    (e : Corners) (v : Search) (o : Counts) : Type 0 where
-  pub left : p < 8
-  pub least : v ≡ search f a b g t2
-  pub counted : o ≡ searched n
-  pub rest : pushing f w a b g x t1 t2 p n e ≡ advanced f w a b
-
-module _ {f : Format} {w : SweepTask} {a b : List Float} {g : SeparationFunction} {x : Closest} {t1 t2 : Float} {p : ℕ} {n : Counts} {e : Corners}
-    {v : Search} {o : Counts} (made : Searched f w a b g x t1 t2 p n e v o) where
-  -- s1 is the separation of the same corners at t1
-  push : (s1 : Float) → s1 ≡ evaluate f a b g (v .least .«index_a») (v .least .«index_b») t1 →
-      let r = rootAt f w a b g t2 (v .least) t1 t2 s1 (v .least .separation) 0 in
-      pushFrom f w a b g t1 x (8 - p) t2 n
-      ≡ cond (lt (w .tolerance) (sub f (v .least .separation) (w .target))) (ended (separated f (w .«t_max») o))
-      (cond (le (low f w) (v .least .separation)) (moved t2 o)
-      (cond (lt s1 (low f w)) (ended (failed f t1 o))
-      (cond (le s1 (high f w)) (ended (hit t1 x o))
-      (pushFrom f w a b g t1 x (8 - (p + 1)) (r .t) (stepped o (r .steps))))))
-  unfolding pushFrom
-  push s1 q =
-      let h = made .left in
-      let y : 8 - p ≡ suc (7 - p) = omega arith in
-      let z : 8 - (p + 1) ≡ 7 - p = omega arith in
-      rw (y, z, q, made .least, made .counted)
-
-  -- and the searches by the same tests
-  push-tells : (s1 : Float) → s1 ≡ evaluate f a b g (v .least .«index_a») (v .least .«index_b») t1 →
-      let r = rootAt f w a b g t2 (v .least) t1 t2 s1 (v .least .separation) 0 in
-      pushSearches f w a b g t1 (8 - p) t2
-      ≡ v .corners ∷ cond (lt (w .tolerance) (sub f (v .least .separation) (w .target))) []
-      (cond (le (low f w) (v .least .separation)) []
-      (cond (lt s1 (low f w)) []
-      (cond (le s1 (high f w)) []
-      (pushSearches f w a b g t1 (8 - (p + 1)) (r .t)))))
-  unfolding pushSearches
-  push-tells s1 q =
-      let h = made .left in
-      let y : 8 - p ≡ suc (7 - p) = omega arith in
-      let z : 8 - (p + 1) ≡ 7 - p = omega arith in
-      rw (y, z, q, made .least)
-
-  -- the sweep goes on as the push-backs end
-  as-pushed : (r : PushEnd) (xs : List Corners) → pushFrom f w a b g t1 x (8 - p) t2 n ≡ r → pushSearches f w a b g t1 (8 - p) t2 ≡ v .corners ∷ xs →
-      pushed f w a b (20 - o .«distance_calls») x r (v .corners) xs ≡ advanced f w a b
-  unfolding pushing lastOf
-  as-pushed r xs y z = rw (made .counted) (rw (y, z) at (made .rest))
-
-  pub push-separates : lt (w .tolerance) (sub f (v .least .separation) (w .target)) ≡ true →
-      swept (separated f (w .«t_max») o) (v .corners) ≡ advanced f w a b
-  unfolding lastOf
-  push-separates h = as-pushed (ended (separated f (w .«t_max») o)) [] (push _ refl ∙ rw h) (push-tells _ refl ∙ rw h)
-
-  module _ (h : lt (w .tolerance) (sub f (v .least .separation) (w .target)) ≡ false) where
-    pub push-moves : le (low f w) (v .least .separation) ≡ true → resuming f w a b x t2 o (v .corners) ≡ advanced f w a b
-    push-moves k = as-pushed (moved t2 o) [] (push _ refl ∙ rw (h, k)) (push-tells _ refl ∙ rw (h, k))
-
-    module _ (k : le (low f w) (v .least .separation) ≡ false) (s1 : Float)
-        (q : s1 ≡ evaluate f a b g (v .least .«index_a») (v .least .«index_b») t1) where
-      pub push-fails : lt s1 (low f w) ≡ true → swept (failed f t1 o) (v .corners) ≡ advanced f w a b
-      unfolding lastOf
-      push-fails l = as-pushed (ended (failed f t1 o)) [] (push s1 q ∙ rw (h, k, l)) (push-tells s1 q ∙ rw (h, k, l))
-
-      module _ (l : lt s1 (low f w) ≡ false) where
-        pub push-hits : le s1 (high f w) ≡ true → swept (hit t1 x o) (v .corners) ≡ advanced f w a b
-        unfolding lastOf
-        push-hits u = as-pushed (ended (hit t1 x o)) [] (push s1 q ∙ rw (h, k, l, u)) (push-tells s1 q ∙ rw (h, k, l, u))
-
-        pub push-searches : le s1 (high f w) ≡ false →
-            searching f w a b g x t1 t2 p o (v .corners) (v .least) t1 t2 s1 (v .least .separation) 0 ≡ advanced f w a b
-        unfolding searching pushing
-        push-searches u =
-            let r = rootAt f w a b g t2 (v .least) t1 t2 s1 (v .least .separation) 0 in
-            as-pushed (pushFrom f w a b g t1 x (8 - (p + 1)) (r .t) (stepped o (r .steps))) (pushSearches f w a b g t1 (8 - (p + 1)) (r .t))
-            (push s1 q ∙ rw (h, k, l, u)) (push-tells s1 q ∙ rw (h, k, l, u))
 
 -- ---- a distance call at t1: x is what it found, o the counts with it
 pub record Called (f : Format) (w : SweepTask) (a b : List Float) (t1 : Float) (k : SimplexCache) (n : Counts) (e : Corners) (x : Closest)
@@ -229,50 +110,206 @@ module _ {f : Format} {w : SweepTask} {a b : List Float} {t1 : Float} {k : Simpl
     unfolding lastOf
     call-hits v = rw (h, v) at call
 
-    pub call-goes-on : le (x .distance) (high f w) ≡ false → (g : SeparationFunction) →
-        g ≡ newSeparation f (w .«sweep_a») (w .«sweep_b») a b (x .cache) t1 → pushing f w a b g x t1 (w .«t_max») 0 o e ≡ advanced f w a b
-    unfolding pushing
-    call-goes-on v g y = rw y (rw (h, v) at call)
+    -- where it gives no verdict: p is how the push-backs along the new axis end
+    module _ (far : le (x .distance) (high f w) ≡ false) (p : Pushed) where
+      abbrev g : SeparationFunction
+      g = newSeparation f (w .«sweep_a») (w .«sweep_b») a b (x .cache) t1
 
--- ---- between two calls: the push-backs of one are left at the time t with no answer; n were the counts before it, and o are they now
-pub record Resumed (f : Format) (w : SweepTask) (a b : List Float) (x : Closest) (t : Float) (n o : Counts) (e : Corners) : Type 0 where
-  pub one-call : o .«distance_calls» ≡ n .«distance_calls» + 1
-  pub bounded : Bounded o
-  pub rest : resuming f w a b x t o e ≡ advanced f w a b
+      abbrev end : PushEnd
+      end = toldAs f w t1 x (p .kind) (p .at) (p .counts)
 
--- u and v are the counts before and after a search
-pub one-call-made : (n u : Counts) {o v : Counts} → v ≡ searched u → u .«distance_calls» ≡ o .«distance_calls» → o ≡ called n →
-    v .«distance_calls» ≡ n .«distance_calls» + 1
-one-call-made n u p q r = rw p (q ∙ rw r)
+      pub round-told : PushedAs f w t1 x p (pushFrom f w a b g t1 x 8 (w .«t_max») o) (pushSearches f w a b g t1 8 (w .«t_max»)) →
+          Resumes f w a b t1 x (p .kind) (p .at) (p .counts) (p .corners) (20 - o .«distance_calls»)
+      round-told told =
+          let by = rw (h, far) at call in
+          let l = 20 - o .«distance_calls» in
+          let made = pushSearches f w a b g t1 8 (w .«t_max») in
+          let go = after f w a b l x in
+          let then = searchesAfter f w a b l x in
+          let last = some-search f w a b g t1 7 (w .«t_max») e ∙ told .last in
+          sym
+          (ap (λ (y : PushEnd). swept (onward y go) (lastOf e (made ++ afterwards f y then))) (told .same)
+          ∙ ap (swept (onward end go))
+          (last-append e made (afterwards f end then) ∙ ap (λ (c : Corners). lastOf c (afterwards f end then)) last))
+          ∙ by
 
--- a push-back that is made has corners of its own
-pub whatever-before : (f : Format) (w : SweepTask) (a b : List Float) (g : SeparationFunction) (x : Closest) (t1 t2 : Float) (p : ℕ) (n : Counts)
-    (e d : Corners) → p < 8 → pushing f w a b g x t1 t2 p n e ≡ pushing f w a b g x t1 t2 p n d
-unfolding pushing pushSearches lastOf
-whatever-before f w a b g x t1 t2 p n e d h = let y : 8 - p ≡ suc (7 - p) = omega arith in rw y
-
-pub all-pushed : (f : Format) (w : SweepTask) (a b : List Float) (g : SeparationFunction) (x : Closest) (t1 t2 : Float) (p : ℕ) (n : Counts) (e : Corners) →
-    p ≡ 8 → pushing f w a b g x t1 t2 p n e ≡ advanced f w a b → resuming f w a b x t1 n e ≡ advanced f w a b
-unfolding pushing pushFrom pushSearches
-all-pushed f w a b g x t1 t2 p n e h rest = let y : 8 - p ≡ 0 = omega arith in rw y at rest
-
-module _ {f : Format} {w : SweepTask} {a b : List Float} {x : Closest} {t : Float} {n o : Counts} {e : Corners} (made : Resumed f w a b x t n o e) where
-  pub last-call : o .«distance_calls» ≡ 20 → swept (failedAt t x o) e ≡ advanced f w a b
+-- ---- after a round
+module _ (f : Format) (w : SweepTask) (a b : List Float) (t1 : Float) (x : Closest) where
+  -- it has the answer, or was the last
+  pub round-ends : (kind : PushKind) (m : Moment) (n : Counts) (c : Corners) → (isHeld kind ≡ true → m .t ≡ t1) →
+      Resumes f w a b t1 x kind m n c (20 - n .«distance_calls») → (isOver kind || eqb (n .«distance_calls») 20) ≡ true →
+      endBy f w t1 x kind m n c ≡ advanced f w a b
   unfolding after searchesAfter lastOf
-  last-call h = let y : 20 - o .«distance_calls» ≡ 0 = omega arith in rw y at (made .rest)
+  round-ends Separated m n c at r d = r
+  round-ends Failed m n c at r d = r
+  round-ends Hit m n c at r d = r
+  round-ends Landed m n c at r d = rw (none-left n (eqb-true _ _ d)) at r
+  round-ends Held m n c at r d = ap (λ (t : Float). swept (failedAt t x n) c) (at refl) ∙ (rw (none-left n (eqb-true _ _ d)) at r)
 
-  module _ (not-last : o .«distance_calls» ≡ 20 → ⊥) where
-    pub next-ready : Ready (19 - o .«distance_calls») o
-    next-ready = next-is-ready (19 - o .«distance_calls») (made .bounded) (omega (arith, made .bounded .few-calls, not-last))
+  -- a call follows it
+  pub round-goes-on : (kind : PushKind) (m : Moment) (n : Counts) (c : Corners) → (isHeld kind ≡ true → m .t ≡ t1) → n .«distance_calls» ≤ 20 →
+      Resumes f w a b t1 x kind m n c (20 - n .«distance_calls») → (isOver kind || eqb (n .«distance_calls») 20) ≡ false →
+      calling f w a b (m .t) (x .cache) n c ≡ advanced f w a b
+  unfolding after searchesAfter calling
+  round-goes-on Separated m n c at few r d = absurd (clash (sym d))
+  round-goes-on Failed m n c at few r d = absurd (clash (sym d))
+  round-goes-on Hit m n c at few r d = absurd (clash (sym d))
+  round-goes-on Landed m n c at few r d = rw (one-left n few (eqb-false _ _ d)) at r
+  round-goes-on Held m n c at few r d =
+      ap (λ (t : Float). calling f w a b t (x .cache) n c) (at refl) ∙ (rw (one-left n few (eqb-false _ _ d)) at r)
 
-    pub next-call : calling f w a b t (x .cache) o e ≡ advanced f w a b
-    unfolding after searchesAfter calling
-    next-call =
-        let y : 20 - o .«distance_calls» ≡ suc (19 - o .«distance_calls») = omega (arith, made .bounded .few-calls, not-last) in
-        rw y at (made .rest)
+-- ---- the calls that are left where the time and the cache stay
+module _ {f : Format} {w : SweepTask} {a b : List Float} {t1 : Float} {k : SimplexCache} {x : Closest} {n m : Counts}
+    (fixed : FixedCall f w a b t1 k x n m) (few : m .«distance_calls» ≤ 20) where
+  pub calls-stay : (kind : PushKind) (i : Moment) (c : Corners) → isHeld kind ≡ true →
+      lastOf noSearch (pushSearches f w a b (newSeparation f (w .«sweep_a») (w .«sweep_b») a b (x .cache) t1) t1 8 (w .«t_max»)) ≡ c →
+      Resumes f w a b t1 x kind i m c (20 - m .«distance_calls») → (m .«distance_calls» ≡ 20 → ⊥) →
+      swept (failedAt t1 x (further m (20 - m .«distance_calls») (since n m))) c ≡ advanced f w a b
+  unfolding after searchesAfter
+  calls-stay Separated i c is last r d = absurd (clash is)
+  calls-stay Failed i c is last r d = absurd (clash is)
+  calls-stay Hit i c is last r d = absurd (clash is)
+  calls-stay Landed i c is last r d = absurd (clash is)
+  calls-stay Held i c is last r d =
+      let j = 19 - m .«distance_calls» in
+      let z : 20 - m .«distance_calls» ≡ j + 1 = omega (arith, few, d) in
+      ap (λ (q : ℕ). swept (failedAt t1 x (further m q (since n m))) c) z ∙ sym (stays j) ∙ (rw (one-left m few d) at r)
+    where
+      stays : (j : ℕ) →
+          swept (after f w a b (suc j) x t1 m) (lastOf c (searchesAfter f w a b (suc j) x t1 m))
+          ≡ swept (failedAt t1 x (further m (j + 1) (since n m))) c
+      stays j =
+          ap (λ (y : SimplexCache). swept (advanceFrom f w a b j t1 y m) (lastOf c (searchesFrom f w a b j t1 y m))) (fixed .kept)
+          ∙ ap (λ (y : SweepAnswer). swept y (lastOf c (searchesFrom f w a b j t1 k m))) (calls-repeat f w a b t1 k x n m fixed j m)
+          ∙ ap (swept (failedAt t1 x (further m (j + 1) (since n m)))) (rw (sym last) (call-corners-stay f w a b t1 k x n m fixed j m noSearch))
 
-pub closest : (f : Format) (w : SweepTask) (a b : List Float) (t : Float) (k : SimplexCache) (pa pb p : Pose) (m : Measurement) →
-    pa ≡ transformAt f (w .«sweep_a») t → pb ≡ transformAt f (w .«sweep_b») t → p ≡ inverseTimes f pa pb →
-    m ≡ measure f p a (w .«radius_a») b (w .«radius_b») false sweepPair k → closestBy f w pa m ≡ closestAt f w a b t k
-unfolding closestAt
-closest f w a b t k pa pb p m e g h r = rw (r, h, g, e)
+-- ---- a round after a call, by what the code has of it
+-- a function with the task's moves
+made-of : (w : SweepTask) (s : SeparationFunction) → s .«sweep_a» ≡ w .«sweep_a» → s .«sweep_b» ≡ w .«sweep_b» →
+    s ≡ function (w .«sweep_a») (w .«sweep_b») (s .«local_point») (s .axis) (s .ty)
+made-of w s p q =
+    ap (λ (y : Sweep). function y (s .«sweep_b») (s .«local_point») (s .axis) (s .ty)) p
+    ∙ ap (λ (y : Sweep). function (w .«sweep_a») y (s .«local_point») (s .axis) (s .ty)) q
+
+module _ (f : Format) (w : SweepTask) (a b : List Float) where
+  pub closest-there : (m : Moment) (c : SimplexCache) (x : Closest) → m ≡ momentAt f w (m .t) → x ≡ closestIn f w a b m c → x ≡ closestAt f w a b (m .t) c
+  closest-there m c x there is = is ∙ ap (λ (i : Moment). closestIn f w a b i c) there ∙ closest-in f w a b (m .t) c
+
+  -- p is how the push-backs from the time t1 end
+  abbrev pub Told : Float → Closest → Counts → Pushed → Type 0
+  Told t1 x o p =
+      let g = newSeparation f (w .«sweep_a») (w .«sweep_b») a b (x .cache) t1 in
+      PushedAs f w t1 x p (pushFrom f w a b g t1 x 8 (w .«t_max») o) (pushSearches f w a b g t1 8 (w .«t_max»))
+
+  pub told-as : (m1 end : Moment) (x : Closest) (o : Counts) (g : SeparationFunction) (p : Pushed) →
+      m1 ≡ momentAt f w (m1 .t) → end ≡ momentAt f w (w .«t_max») →
+      g ≡ newSeparationBy f (w .«sweep_a») (w .«sweep_b») a b (x .cache) (m1 .«xf_a») (m1 .«xf_b») → p ≡ pushBy f w a b g m1 8 end o → Told (m1 .t) x o p
+  told-as m1 end x o g p there at is made =
+      subst (λ (q : Pushed). PushedAs f w t1 x q (pushFrom f w a b n t1 x 8 (w .«t_max») o) (pushSearches f w a b n t1 8 (w .«t_max»))) (sym whole)
+      (subst Along (new-at f a b (w .«sweep_a») (w .«sweep_b») (x .cache) t1)
+      (subst Along (sym (made-of w h (kept .of-a) (kept .of-b))) (push-is f w a b (h .«local_point») (h .axis) (h .ty) t1 x 7 (w .«t_max») o)))
+    where
+      t1 : Float
+      t1 = m1 .t
+
+      h : SeparationFunction
+      h = newSeparationBy f (w .«sweep_a») (w .«sweep_b») a b (x .cache) (transformAt f (w .«sweep_a») t1) (transformAt f (w .«sweep_b») t1)
+
+      kept : Keeps f a b (w .«sweep_a») (w .«sweep_b») h
+      kept = moves-are-kept f a b (w .«sweep_a») (w .«sweep_b») (x .cache) (transformAt f (w .«sweep_a») t1) (transformAt f (w .«sweep_b») t1)
+
+      n : SeparationFunction
+      n = newSeparation f (w .«sweep_a») (w .«sweep_b») a b (x .cache) t1
+
+      Along : SeparationFunction → Type 0
+      Along s =
+          PushedAs f w t1 x (pushBy f w a b s (momentAt f w t1) 8 (momentAt f w (w .«t_max»)) o) (pushFrom f w a b s t1 x 8 (w .«t_max») o)
+          (pushSearches f w a b s t1 8 (w .«t_max»))
+
+      same : g ≡ n
+      same =
+          is
+          ∙ ap (λ (m : Moment). newSeparationBy f (w .«sweep_a») (w .«sweep_b») a b (x .cache) (m .«xf_a») (m .«xf_b»)) there
+          ∙ new-at f a b (w .«sweep_a») (w .«sweep_b») (x .cache) t1
+
+      whole : p ≡ pushBy f w a b n (momentAt f w t1) 8 (momentAt f w (w .«t_max»)) o
+      whole =
+          made
+          ∙ ap (λ (s : SeparationFunction). pushBy f w a b s m1 8 end o) same
+          ∙ ap (λ (m : Moment). pushBy f w a b n m 8 end o) there
+          ∙ ap (λ (m : Moment). pushBy f w a b n (momentAt f w t1) 8 m o) at
+
+  pub grown-so : (g : SeparationFunction) (m1 end : Moment) (n o : Counts) (p : Pushed) → o ≡ called n → p ≡ pushBy f w a b g m1 8 end o →
+      Grown 8 (called n) (p .counts)
+  grown-so g m1 end n o p counted made =
+      subst (λ (y : Counts). Grown 8 y (p .counts)) counted
+      (subst (λ (q : Pushed). Grown 8 o (q .counts)) (sym made) (round-grows f w a b g m1 8 end o))
+
+held-told : (f : Format) (w : SweepTask) (t1 : Float) (x : Closest) (kind : PushKind) (m : Moment) (n : Counts) → isHeld kind ≡ true →
+    toldAs f w t1 x kind m n ≡ moved t1 n
+held-told f w t1 x Separated m n h = absurd (clash h)
+held-told f w t1 x Failed m n h = absurd (clash h)
+held-told f w t1 x Hit m n h = absurd (clash h)
+held-told f w t1 x Landed m n h = absurd (clash h)
+held-told f w t1 x Held m n h = refl
+
+not-last : (v : Bool) (k : ℕ) → (v || eqb k 20) ≡ false → k ≡ 20 → ⊥
+not-last true k d = absurd (clash (sym d))
+not-last false k d = eqb-false k 20 d
+
+pub record Rounded (f : Format) (w : SweepTask) (a b : List Float) (m1 : Moment) (k : SimplexCache) (n : Counts) (e : Corners) (x : Closest) (o : Counts)
+    (p : Pushed) : Type 0 where
+  pub call : Called f w a b (m1 .t) k n e x o
+  pub apart : le (x .distance) (Ground.zero f) ≡ false
+  pub far : le (x .distance) (high f w) ≡ false
+  pub told : Told f w a b (m1 .t) x o p
+  pub grown : Grown 8 (called n) (p .counts)
+  pub few : n .«distance_calls» ≤ 19
+
+module _ {f : Format} {w : SweepTask} {a b : List Float} {m1 : Moment} {k : SimplexCache} {n : Counts} {e : Corners} {x : Closest} {o : Counts} {p : Pushed}
+    (made : Rounded f w a b m1 k n e x o p) where
+  resumes : Resumes f w a b (m1 .t) x (p .kind) (p .at) (p .counts) (p .corners) (20 - p .counts .«distance_calls»)
+  resumes =
+      let same : 20 - o .«distance_calls» ≡ 20 - p .counts .«distance_calls» = rw (made .call .counted) (omega (arith, made .grown .calls)) in
+      subst (λ (l : ℕ). Resumes f w a b (m1 .t) x (p .kind) (p .at) (p .counts) (p .corners) l) same
+      (round-told (made .call) (made .apart) (made .far) p (made .told))
+
+  pub calls-counted : p .counts .«distance_calls» ≤ 20
+  calls-counted = omega (arith, made .grown .calls, made .few)
+
+  -- v says whether it is over
+  module _ (v : Bool) (is : v ≡ isOver (p .kind)) where
+    as-it-is : {t : Bool} → (v || eqb (p .counts .«distance_calls») 20) ≡ t → (isOver (p .kind) || eqb (p .counts .«distance_calls») 20) ≡ t
+    as-it-is d = ap (λ (y : Bool). y || eqb (p .counts .«distance_calls») 20) (sym is) ∙ d
+
+    pub ends-there : (v || eqb (p .counts .«distance_calls») 20) ≡ true →
+        endBy f w (m1 .t) x (p .kind) (p .at) (p .counts) (p .corners) ≡ advanced f w a b
+    ends-there d = round-ends f w a b (m1 .t) x (p .kind) (p .at) (p .counts) (p .corners) (made .told .held) resumes (as-it-is d)
+
+    module _ (d : (v || eqb (p .counts .«distance_calls») 20) ≡ false) where
+      pub call-left : p .counts .«distance_calls» ≤ 19
+      call-left = omega (arith, calls-counted, not-last v (p .counts .«distance_calls») d)
+
+      pub goes-on-there : calling f w a b (p .at .t) (x .cache) (p .counts) (p .corners) ≡ advanced f w a b
+      goes-on-there =
+          round-goes-on f w a b (m1 .t) x (p .kind) (p .at) (p .counts) (p .corners) (made .told .held) calls-counted resumes (as-it-is d)
+
+      -- h says whether it was held, and s that the cache is the same
+      pub stays-there : (h s : Bool) → h ≡ isHeld (p .kind) → (s ≡ true → k ≡ x .cache) → (h && s) ≡ true →
+          swept (failedAt (m1 .t) x (further (p .counts) (20 - p .counts .«distance_calls») (since n (p .counts)))) (p .corners) ≡ advanced f w a b
+      stays-there h s eh es both =
+          let u = both-true h s both in
+          let held = sym eh ∙ u .0 in
+          let g = newSeparation f (w .«sweep_a») (w .«sweep_b») a b (x .cache) (m1 .t) in
+          calls-stay
+          (record {
+            there = made .call .there;
+            kept = sym (es (u .1));
+            apart = made .apart;
+            far = made .far;
+            held =
+                ap (λ (y : Counts). pushFrom f w a b g (m1 .t) x 8 (w .«t_max») y) (sym (made .call .counted))
+                ∙ made .told .same
+                ∙ held-told f w (m1 .t) x (p .kind) (p .at) (p .counts) held;
+          })
+          calls-counted (p .kind) (p .at) (p .corners) held (made .told .last) resumes (not-last v (p .counts .«distance_calls») d)

@@ -1,25 +1,22 @@
 // The sweep by conservative advancement: a distance call gives an axis, and a push-back along it brings the time closer to the first contact.
-use distance::proxy_distance::measure;
+use crate::moment::at_time;
+use crate::moment::closest_at;
+use crate::push_back::PushKind;
+use crate::push_back::Pushed;
+use crate::push_back::push_back;
+use crate::trail::called;
+use crate::trail::called_on;
 use domain::check_fraction;
 use domain::check_pair;
 use domain::check_slop;
 use domain::check_sweeps;
 use domain::refusal;
-use ground::abs;
-use ground::add;
-use ground::inv_mul;
 use ground::max;
-use ground::rotate_vec;
-use ground::scale;
-use ground::sub;
-use ground::transform_point;
 use model::Checked;
 use model::Closest;
 use model::Contact;
 use model::Corners;
 use model::Counts;
-use model::Measurement;
-use model::Pose;
 use model::SimplexCache;
 use model::SupportPair;
 use model::Sweep;
@@ -27,119 +24,17 @@ use model::SweepAnswer;
 use model::SweepTask;
 use model::Swept;
 use model::Vector;
-use separation::evaluate;
-use separation::find_min_separation;
 use separation::new_separation;
 use separation::shifted;
-use separation::transform_at;
 ghost use Prim.Native.Nat.{_<_, _≤_, _+_};
 ghost use mathlib.Core.Path.{_≡_};
+ghost use mathlib.Core.Bool.{true};
 ghost use lib.Ieee.{binary32};
 ghost use Rattle.model.specs.SweepToi as SweepToi;
+ghost use Rattle.sweep_toi.specs.Rounds as Rounds;
 ghost use Rattle.model.specs.Corners.{swept, noSearch, advanced, sweep};
 
 const MAX_DISTANCE_ITERATIONS: u32 = 20;
-
-const MAX_PUSH_BACK_ITERATIONS: u32 = 8;
-
-const MAX_ROOT_ITERATIONS: u32 = 50;
-
-// The one number of a sweep's pair.
-const PAIR: u32 = 0;
-
-// What a distance call tells, put into the world by the pose of A: the normal, and the point midway between the two rounded outlines.
-fn in_world(task: SweepTask, xf_a: Pose, measured: Measurement) -> Closest
-    ensures { λ r. ⌜ r ≡ SweepToi.closestBy binary32 task «xf_a» measured ⌝ }
-{
-    let normal = rotate_vec(xf_a.rotation, measured.output.normal);
-    let point_a = add(
-        transform_point(xf_a, measured.output.point_a),
-        scale(normal, task.radius_a),
-    );
-    let point_b = sub(
-        transform_point(xf_a, measured.output.point_b),
-        scale(normal, task.radius_b),
-    );
-    let point = add(scale(add(point_a, point_b), 0.5), task.origin);
-    let cache = measured.cache;
-    Closest {
-        distance: measured.output.distance,
-        point,
-        normal,
-        cache,
-    }
-}
-
-// The distance call at time t.
-fn closest_at(
-    task: SweepTask,
-    points_a: &[f32],
-    points_b: &[f32],
-    t: f32,
-    cache: SimplexCache,
-) -> Closest
-    ensures { λ r. ⌜ r ≡ SweepToi.closestAt binary32 task (now («points_a» .entry)) (now («points_b» .entry)) t cache ⌝ }
-{
-    let xf_a = transform_at(task.sweep_a, t);
-    let xf_b = transform_at(task.sweep_b, t);
-    let pos12 = inv_mul(xf_a, xf_b);
-    let measured = measure(
-        pos12,
-        points_a,
-        task.radius_a,
-        points_b,
-        task.radius_b,
-        false,
-        PAIR,
-        cache,
-    );
-    in_world(task, xf_a, measured)
-}
-
-// The time that root step n tries: the bracket's middle where n is even, to guarantee progress; the secant where it is odd, to converge.
-fn tried(task: SweepTask, n: u32, a1: f32, a2: f32, s1: f32, s2: f32) -> f32
-    ensures { λ r. ⌜ r ≡ SweepToi.tried binary32 task n a1 a2 s1 s2 ⌝ }
-{
-    if n % 2 == 1 {
-        a1 + (task.target - s1) * (a2 - a1) / (s2 - s1)
-    } else {
-        0.5 * (a1 + a2)
-    }
-}
-
-// The trail, with one more distance call, one more search, n more root steps.
-fn called(counts: Counts) -> Counts
-    requires { ⌜ counts .«distance_calls» < SweepToi.maxDistanceIterations ⌝ }
-    ensures { λ r. ⌜ r ≡ SweepToi.called counts ⌝ }
-{
-    Counts {
-        distance_calls: counts.distance_calls + 1,
-        searches: counts.searches,
-        root_steps: counts.root_steps,
-    }
-}
-
-fn searched(counts: Counts) -> Counts
-    requires { ⌜ counts .searches < 160 ⌝ }
-    ensures { λ r. ⌜ r ≡ SweepToi.searched counts ⌝ }
-{
-    Counts {
-        distance_calls: counts.distance_calls,
-        searches: counts.searches + 1,
-        root_steps: counts.root_steps,
-    }
-}
-
-fn stepped(counts: Counts, n: u32) -> Counts
-    requires { ⌜ counts .«root_steps» + n ≤ 8000 ⌝ }
-    ensures { λ r. ⌜ r ≡ SweepToi.stepped counts n ⌝ }
-{
-    Counts {
-        distance_calls: counts.distance_calls,
-        searches: counts.searches,
-        root_steps: counts.root_steps + n,
-    }
-}
 
 // The exits: with no place, or with the one that the distance call found; and with the corners of the last search.
 fn overlapped(counts: Counts, corners: Corners) -> Swept
@@ -231,16 +126,74 @@ fn refused(number: u32) -> Swept
     }
 }
 
-// The answer of a task. Three loops inside one another: a distance call gives an axis, the push-backs along it look for the time at which the
-// deepest corners reach the target, and the root search ends with the new t2.
+fn is_over(kind: PushKind) -> bool
+    ensures { λ r. ⌜ r ≡ Rounds.isOver kind ⌝ }
+{
+    match kind {
+        PushKind::Separated => true,
+        PushKind::Failed => true,
+        PushKind::Hit => true,
+        PushKind::Landed => false,
+        PushKind::Held => false,
+    }
+}
+
+fn is_held(kind: PushKind) -> bool
+    ensures { λ r. ⌜ r ≡ Rounds.isHeld kind ⌝ }
+{
+    match kind {
+        PushKind::Separated => false,
+        PushKind::Failed => false,
+        PushKind::Hit => false,
+        PushKind::Landed => false,
+        PushKind::Held => true,
+    }
+}
+
+// The answer where a round of push-backs from t1 has a verdict, or was the last.
+fn ended_by(task: SweepTask, t1: f32, closest: Closest, round: Pushed) -> Swept
+    ensures { λ r. ⌜ r ≡ Rounds.endBy binary32 task t1 closest (round .kind) (round .at) (round .counts) (round .corners) ⌝ }
+{
+    let kind = round.kind;
+    let at = round.at;
+    let counts = round.counts;
+    let corners = round.corners;
+    match kind {
+        PushKind::Separated => separated(task.t_max, counts, corners),
+        PushKind::Failed => failed(t1, counts, corners),
+        PushKind::Hit => hit(t1, closest, counts, corners),
+        PushKind::Landed => failed_at(at.t, closest, counts, corners),
+        PushKind::Held => failed_at(at.t, closest, counts, corners),
+    }
+}
+
+fn same_three(x: [u32; 3], y: [u32; 3]) -> bool
+    ensures { λ r. ⌜ (r ≡ true → x ≡ y) ⌝ }
+{
+    (x[0] == y[0]) & (x[1] == y[1]) & (x[2] == y[2])
+}
+
+fn same_cache(x: SimplexCache, y: SimplexCache) -> bool
+    ensures { λ r. ⌜ (r ≡ true → x ≡ y) ⌝ }
+{
+    let x_a = x.index_a;
+    let x_b = x.index_b;
+    let y_a = y.index_a;
+    let y_b = y.index_b;
+    let of_a = same_three(x_a, y_a);
+    let of_b = same_three(x_b, y_b);
+    (x.pair == y.pair) & (x.count == y.count) & of_a & of_b
+}
+
+// The answer of a task: a distance call gives an axis, and a round of push-backs along it a verdict or a time nearer to the first contact. Where a
+// round leaves both the time and the cache as they were, the calls that are left are this one again: only their counts are told.
 pub fn advance(task: SweepTask, points_a: &[f32], points_b: &[f32]) -> Swept
     ensures { λ r. ⌜ r ≡ advanced binary32 task (now («points_a» .entry)) (now («points_b» .entry)) ⌝ }
 {
-    let target = task.target;
-    let tolerance = task.tolerance;
-    let mut t1 = 0.0;
+    let end = at_time(task, task.t_max);
+    let mut m1 = at_time(task, 0.0);
     let mut cache = SimplexCache {
-        pair: PAIR,
+        pair: 0,
         count: 0,
         index_a: [0; 3],
         index_b: [0; 3],
@@ -251,78 +204,39 @@ pub fn advance(task: SweepTask, points_a: &[f32], points_b: &[f32]) -> Swept
         root_steps: 0,
     };
     let mut corners = no_search();
-    'advance: loop {
-        let closest = closest_at(task, points_a, points_b, t1, cache);
-        cache = closest.cache;
-        counts = called(counts);
+    loop {
+        let closest = closest_at(task, points_a, points_b, m1, cache);
+        let one_more = called(counts);
         if closest.distance <= 0.0 {
-            break 'advance overlapped(counts, corners);
+            return overlapped(one_more, corners);
         }
-        if closest.distance <= target + tolerance {
-            break 'advance hit(t1, closest, counts, corners);
+        if closest.distance <= task.target + task.tolerance {
+            return hit(m1.t, closest, one_more, corners);
         }
-        let fcn = new_separation(cache, points_a, task.sweep_a, points_b, task.sweep_b, t1);
-        let mut t2 = task.t_max;
-        let mut push_back_iterations = 0u32;
-        'push_back: loop {
-            let found = find_min_separation(fcn, points_a, points_b, t2);
-            let deepest = found.least;
-            corners = found.corners;
-            counts = searched(counts);
-            let mut s2 = deepest.separation;
-            if s2 - target > tolerance {
-                break 'advance separated(task.t_max, counts, corners);
-            }
-            if s2 >= target - tolerance {
-                t1 = t2;
-                break 'push_back;
-            }
-            let mut s1 = evaluate(
-                fcn,
-                points_a,
-                points_b,
-                deepest.index_a,
-                deepest.index_b,
-                t1,
-            );
-            // the root search before this one may have run out of steps
-            if s1 < target - tolerance {
-                break 'advance failed(t1, counts, corners);
-            }
-            if s1 <= target + tolerance {
-                break 'advance hit(t1, closest, counts, corners);
-            }
-            let mut a1 = t1;
-            let mut a2 = t2;
-            let mut root_iteration_count = 0u32;
-            t2 = loop {
-                let t = tried(task, root_iteration_count, a1, a2, s1, s2);
-                root_iteration_count += 1;
-                let s = evaluate(fcn, points_a, points_b, deepest.index_a, deepest.index_b, t);
-                if abs(s - target) <= tolerance {
-                    break t;
-                }
-                // keep the root between a1 and a2
-                if s > target {
-                    a1 = t;
-                    s1 = s;
-                } else {
-                    a2 = t;
-                    s2 = s;
-                }
-                if root_iteration_count == MAX_ROOT_ITERATIONS {
-                    break t2;
-                }
-            };
-            counts = stepped(counts, root_iteration_count);
-            push_back_iterations += 1;
-            if push_back_iterations == MAX_PUSH_BACK_ITERATIONS {
-                break 'push_back;
-            }
+        let found = closest.cache;
+        let fcn = new_separation(
+            found,
+            points_a,
+            task.sweep_a,
+            points_b,
+            task.sweep_b,
+            m1.xf_a,
+            m1.xf_b,
+        );
+        let round = push_back(task, points_a, points_b, fcn, m1, end, one_more);
+        let kind = round.kind;
+        let after = round.counts;
+        if is_over(kind) | (after.distance_calls == MAX_DISTANCE_ITERATIONS) {
+            return ended_by(task, m1.t, closest, round);
         }
-        if counts.distance_calls == MAX_DISTANCE_ITERATIONS {
-            break 'advance failed_at(t1, closest, counts, corners);
+        corners = round.corners;
+        if is_held(kind) & same_cache(cache, found) {
+            let left = MAX_DISTANCE_ITERATIONS - after.distance_calls;
+            return failed_at(m1.t, closest, called_on(after, left, counts), corners);
         }
+        m1 = round.at;
+        cache = found;
+        counts = after;
     }
 }
 

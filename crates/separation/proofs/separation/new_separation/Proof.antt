@@ -1,15 +1,8 @@
 -- `separation::new_separation` meets its contract, by its tests and what its callees ensure. Assumes nothing.
 use borrow.Author.Tests.{eq-eqb, ne-eqb}
-use Rattle.model.specs.Separation.{newSeparation}
 use borrow.Author.Needs.{needs}
 use Rattle.separation.proofs.separation.new_separation.Statement.{statement}
 use Rattle.separation.proofs.separation.new_separation.Tie as tie
-
-transform-at-requires : tie.Need-transform-at-requires
-transform-at-requires c κs = search needs
-
-transform-at-requires-2 : tie.Need-transform-at-requires-2
-transform-at-requires-2 c κs = search needs
 
 array-read-of-points : tie.Need-array-read-of-points
 array-read-of-points c = search needs
@@ -21,10 +14,8 @@ of-points-requires : tie.Need-of-points-requires
 of-points-requires c κs = search needs
 
 returns : tie.Need-returns
-unfolding newSeparation
 returns c =
-    let x = c .before .before .before .before in
-    simp (eq-eqb _ _ (c .before .if1 .taken), c .of-points .ensures, x .transform-at2 .ensures, x .before .transform-at .ensures)
+    simp (eq-eqb _ _ (c .before .if1 .taken), c .of-points .ensures)
 
 array-read-if2 : tie.Need-array-read-if2
 array-read-if2 c = search needs
@@ -57,25 +48,19 @@ of-face-a-requires : tie.Need-of-face-a-requires
 of-face-a-requires c κs = search needs
 
 returns-2 : tie.Need-returns-2
-unfolding newSeparation
 returns-2 c =
     let t = c .before .before in
-    let x = t .before .before .before in
-    simp (ne-eqb _ _ (t .if1 .left), eq-eqb _ _ (c .before .if2 .taken), c .of-face-b .ensures, x .transform-at2 .ensures, x .before .transform-at .ensures)
+    simp (ne-eqb _ _ (t .if1 .left), eq-eqb _ _ (c .before .if2 .taken), c .of-face-b .ensures)
 
 returns-3 : tie.Need-returns-3
-unfolding newSeparation
 returns-3 c =
     let t = c .before .before in
-    let x = t .before .before .before in
-    simp (ne-eqb _ _ (t .if1 .left), ne-eqb _ _ (c .before .if2 .left), c .of-face-a .ensures, x .transform-at2 .ensures, x .before .transform-at .ensures)
+    simp (ne-eqb _ _ (t .if1 .left), ne-eqb _ _ (c .before .if2 .left), c .of-face-a .ensures)
 
 pub new-separation-spec : {M : Type 1} → statement M
 new-separation-spec =
     tie.close
     (tie.spec
-    transform-at-requires
-    transform-at-requires-2
     array-read-of-points
     array-read-of-points-2
     of-points-requires

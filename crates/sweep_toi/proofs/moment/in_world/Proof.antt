@@ -1,7 +1,7 @@
 -- `sweep_toi::in_world` meets its contract, by what its callees ensure. Assumes nothing.
 use borrow.Author.Needs.{needs}
-use Rattle.sweep_toi.proofs.sweep_toi.in_world.Statement.{statement}
-use Rattle.sweep_toi.proofs.sweep_toi.in_world.Tie as tie
+use Rattle.sweep_toi.proofs.moment.in_world.Statement.{statement}
+use Rattle.sweep_toi.proofs.moment.in_world.Tie as tie
 
 rotate-vec-requires : tie.Need-rotate-vec-requires
 rotate-vec-requires c κs = search needs

@@ -1,8 +1,8 @@
 -- `sweep_toi::tried` meets its contract, by its test. Assumes nothing.
 use borrow.Author.Tests.{eq-eqb, ne-eqb}
 use Rattle.model.specs.SweepToi.{tried}
-use Rattle.sweep_toi.proofs.sweep_toi.tried.Statement.{statement}
-use Rattle.sweep_toi.proofs.sweep_toi.tried.Tie as tie
+use Rattle.sweep_toi.proofs.root_search.tried.Statement.{statement}
+use Rattle.sweep_toi.proofs.root_search.tried.Tie as tie
 
 returns : tie.Need-returns
 unfolding tried
