@@ -8,7 +8,7 @@ ghost use Rattle.model.specs.Block.{blockOf, sumOfWords, allZero, badCount, zer
 ghost use Rattle.model.specs.Wire.{byte};
 
 // All 128 words, the check among them, added modulo 2^32.
-fn sum_of_words(part: &[u8]) -> u32
+pub fn sum_of_words(part: &[u8]) -> u32
     ensures { λ r. ⌜ r ≡ sumOfWords (now (part .entry)) 128 % 2 ^ 32 ⌝ }
 {
     let mut sum: u32 = 0;

@@ -66,9 +66,9 @@ pub fn fill_from_input(buf: &mut [u8]) -> Filled
 }
 
 // Writes the first n bytes of a text; false where it has not so many, or they could not all be written.
-fn write_first(text: &[u8], n: usize) -> bool {
+fn write_first(fd: i32, text: &[u8], n: usize) -> bool {
     if n <= text.len() {
-        io::write_all(STDOUT_FILENO, &text[..n])
+        io::write_all(fd, &text[..n])
     } else {
         false
     }
@@ -76,9 +76,18 @@ fn write_first(text: &[u8], n: usize) -> bool {
 
 // Writes the first n bytes of a text to standard output; false, and told, where they could not all be written.
 pub fn write_to_output(text: &[u8], n: usize) -> bool {
-    let written = write_first(text, n);
+    let written = write_first(STDOUT_FILENO, text, n);
     if !written {
         os::fail(b"standard output");
+    }
+    written
+}
+
+// The same to standard error.
+pub fn write_to_error(text: &[u8], n: usize) -> bool {
+    let written = write_first(STDERR_FILENO, text, n);
+    if !written {
+        os::fail(b"standard error");
     }
     written
 }

@@ -5,14 +5,11 @@ use lib.Ieee.{binary32, Float}
 use Rattle.model.specs.declared.Contact.{Contact}
 use Rattle.model.specs.Text.{decimal, hexFloat, line}
 
-abbrev pub number : ℕ → ℕ → List ℕ
-number n end = decimal n ++ (end ∷ [])
-
-abbrev pub hex : Float → List ℕ
-hex x = hexFloat binary32 x ++ (32 ∷ [])
+abbrev pub hexOf : Float → List ℕ
+hexOf x = hexFloat binary32 x ++ (32 ∷ [])
 
 unfoldable pub three : ℕ → ℕ → ℕ → List ℕ
 three a b c = line (decimal a ∷ decimal b ∷ decimal c ∷ [])
 
 unfoldable pub floats : Contact → List ℕ
-floats c = hex (c .fraction) ++ hex (c .point .x) ++ hex (c .point .y) ++ hex (c .normal .x) ++ hex (c .normal .y)
+floats c = hexOf (c .fraction) ++ hexOf (c .point .x) ++ hexOf (c .point .y) ++ hexOf (c .normal .x) ++ hexOf (c .normal .y)

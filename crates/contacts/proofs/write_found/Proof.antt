@@ -4,7 +4,7 @@ use borrow.Author.Needs.{needs}
 use borrow.Author.Tests.{lt-ltb, le-ltb, eq-eqb, ne-eqb}
 use native.Mathlib.Omega.{arith}
 use lib.ListN.{length}
-use Rattle.lines.proofs.Pasted.{put-nothing}
+use Rattle.text.proofs.Pasted.{put-nothing}
 use Rattle.contacts.proofs.write_found.Statement.{statement}
 use Rattle.contacts.proofs.write_found.Tie as tie
 

@@ -1,0 +1,4 @@
+pub mod Pasted
+mod Digits
+pub mod ReadBack
+pub mod Lengths

@@ -1,0 +1,77 @@
+// Texts copied to where there is room for them; the answer is the place after.
+ghost use mathlib.Core.Path.{_≡_};
+ghost use Prim.Native.Nat.{_+_, _≤_, _<_};
+ghost use mathlib.Core.List.{[], _∷_, _++_};
+ghost use lib.Dec.{ltb};
+ghost use lib.ListN.{length};
+ghost use Rattle.model.specs.Text.{capital, hexBy};
+ghost use Rattle.text.specs.Put.{Put, number};
+
+// Whether so many bytes are fewer than n from a place on.
+pub fn lacks(size: usize, at: usize, n: usize) -> bool
+    ensures { λ r. ⌜ r ≡ ltb size (at + n) ⌝ }
+{
+    if size < at {
+        return true;
+    }
+    size - at < n
+}
+
+// A text as it stands.
+pub fn copy(out: &mut [u8], at: usize, text: &[u8]) -> usize
+    requires { ⌜ at + length (now text) ≤ length (now out) ⌝ }
+    ensures { λ r. ⌜ Put (now (out .entry)) at (now (text .entry)) (now (out .exit)) r ⌝ }
+{
+    let mut to = at;
+    let mut i: usize = 0;
+    while i < text.len() {
+        out[to] = text[i];
+        to += 1;
+        i += 1;
+    }
+    to
+}
+
+// A number in decimal digits, and a byte after it.
+pub fn copy_number(out: &mut [u8], at: usize, n: u64, end: u8) -> usize
+    requires { ⌜ at + 21 ≤ length (now out) ⌝ }
+    ensures { λ r. ⌜ Put (now (out .entry)) at (number n end) (now (out .exit)) r ⌝ }
+{
+    let mut digits = [0u8; 20];
+    let k = io::decimal(n, &mut digits);
+    let e = copy(out, at, &digits[..k]);
+    out[e] = end;
+    e + 1
+}
+
+// 0 to 9, then A to F.
+fn capital_digit(d: u32) -> u8
+    requires { ⌜ d < 16 ⌝ }
+    ensures { λ r. ⌜ r ≡ capital d ⌝ }
+{
+    if d < 10 { 48 + d as u8 } else { 55 + d as u8 }
+}
+
+// The eight digits of a word, and a byte after them.
+pub fn hex_digits(n: u32, end: u8) -> [u8; 9]
+    ensures { λ r. ⌜ r ≡ hexBy 8 n ++ (end ∷ []) ⌝ }
+{
+    let n1 = n / 16;
+    let n2 = n1 / 16;
+    let n3 = n2 / 16;
+    let n4 = n3 / 16;
+    let n5 = n4 / 16;
+    let n6 = n5 / 16;
+    let n7 = n6 / 16;
+    [
+        capital_digit(n7 % 16),
+        capital_digit(n6 % 16),
+        capital_digit(n5 % 16),
+        capital_digit(n4 % 16),
+        capital_digit(n3 % 16),
+        capital_digit(n2 % 16),
+        capital_digit(n1 % 16),
+        capital_digit(n % 16),
+        end,
+    ]
+}
