@@ -2,6 +2,7 @@
 // of its rows came before, two words of 0, and rows. A part of table 0 is the pool that the rows after it refer to. Prints, by table and kind, how
 // many rows there were, how many differ, and how many were noticed to differ when the stored answer was spoiled on purpose.
 mod blocks;
+mod cases;
 mod distances;
 mod first_contacts;
 mod operations;

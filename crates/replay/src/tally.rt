@@ -4,19 +4,19 @@ ghost use Prim.Native.Nat.{_+_, _≤_};
 
 const KINDS: u32 = 32;
 
-const TABLES: u32 = 8;
+const TABLES: u32 = 16;
 
 // For each kind of each table: how many rows there were, how many differ from the stored answer, and how many were noticed to differ when the stored
 // answer was spoiled on purpose.
-pub type Counts = [u32; 768];
+pub type Counts = [u32; 1536];
 
 pub fn nothing() -> Counts {
-    [0u32; 768]
+    [0u32; 1536]
 }
 
 // Where the three numbers of a kind stand.
 fn place(table: u32, kind: u32) -> usize
-    ensures { λ r. ⌜ r + 3 ≤ 768 ⌝ }
+    ensures { λ r. ⌜ r + 3 ≤ 1536 ⌝ }
 {
     (3 * (table % TABLES * KINDS + kind % KINDS)) as usize
 }
@@ -53,7 +53,7 @@ fn line(table: u32, kind: u32, rows: u32, differ: u32, noticed: u32) {
 
 // A line for each kind that has rows.
 pub fn print(counts: &Counts) {
-    for k in 0u32..256u32 {
+    for k in 0u32..512u32 {
         let table = k / KINDS;
         let kind = k % KINDS;
         let i = place(table, kind);

@@ -5,10 +5,10 @@ use Rattle.replay.proofs.tally.print.Statement.{statement}
 use Rattle.replay.proofs.tally.print.Tie as tie
 
 abbrev Inv-loop : tie.InvT-loop
-Inv-loop counts k₀ k = k ≤ 256
+Inv-loop counts k₀ k = k ≤ 512
 
 abbrev μ-loop : tie.MeasureT-loop
-μ-loop counts k₀ k = 256 - k
+μ-loop counts k₀ k = 512 - k
 
 loop-holds : tie.Need-loop-holds Inv-loop μ-loop
 loop-holds c = search needs
