@@ -1,5 +1,7 @@
 #!/usr/bin/env python3
-"""pack.py JOBS BATCH: packs jobs written as text into blocks of 512 bytes.
+"""pack.py JOBS: turns jobs written as friendly text into the lines that `pack` makes blocks of, on standard output:
+
+    python3 examples/pack.py examples/shift.txt | target/bin/pack > shift.batch
 
 A job is a paragraph of lines `name: numbers`, the numbers parted by blanks; `#` starts a comment. Lengths are in the shop's unit, angles in
 degrees, counterclockwise. Names, and what a missing line means:
@@ -15,7 +17,7 @@ degrees, counterclockwise. Names, and what a missing line means:
     a turned         0 (one angle: turned but not turning; two: from the first to the second, less than 180 degrees apart)
 
 and plate, bar and the last three for b. A file in which anything does not fit is refused whole, each fault told with its line and its job, and
-BATCH is not touched. That a number lies in the domain is not looked at, since `sheet` refuses the block; only a half size below 0 is refused here,
+nothing is written. That a number lies in the domain is not looked at, since `sheet` refuses the block; only a half size below 0 is refused here,
 since its corners do not show it."""
 import math
 import struct
@@ -46,12 +48,17 @@ def paragraphs(text):
             job = []
 
 
+def rounded(x):
+    """The nearest number that f32 has."""
+    return struct.unpack("<f", struct.pack("<f", x))[0]
+
+
 def number(word):
     """A number that f32 can hold; Python's own `nan`, `inf` and `1_000` are words here."""
     if word.strip("+-.0123456789eE"):
         raise Fault(f"{word!r} is not a number" + (": blanks part numbers, not commas" if "," in word else ""))
     try:
-        struct.pack("<f", float(word))
+        rounded(float(word))
         return float(word)
     except ValueError:
         raise Fault(f"{word!r} is not a number") from None
@@ -79,7 +86,7 @@ def field(name, words):
         raise Fault(f"{name!r} takes {takes}, not {len(numbers)}")
     if name.endswith("turned") and abs(numbers[-1] - numbers[0]) >= 180:
         raise Fault("a turn of 180 degrees or more goes another way round: cut it into steps")
-    if name.endswith("plate") and min(numbers) < 0:
+    if name.endswith("plate") and min(map(rounded, numbers)) < 0:
         raise Fault("a half size is not below 0")
     return numbers
 
@@ -98,8 +105,8 @@ def turn(degrees):
     return quarter.get(degrees % 360) or (math.cos(math.radians(degrees)), math.sin(math.radians(degrees)))
 
 
-def block(job):
-    """The 512 bytes of a job whose fields fit."""
+def line(job):
+    """The line of a job whose fields fit: job and counts, then each float by its bits."""
     get = job.get
     a, b = corners(job, "a"), corners(job, "b")
     floats = [get("radius a", [0])[0], get("radius b", [0])[0], get("fraction", [1])[0], get("slop", [0.005])[0]]
@@ -107,11 +114,8 @@ def block(job):
         first = get(f"{side} from", [0, 0])
         turned = get(f"{side} turned", [0, 0])
         floats += get(f"{side} centre", [0, 0]) + first + get(f"{side} to", first) + [*turn(turned[0]), *turn(turned[-1])]
-    for outline in (a, b):
-        floats += outline + [0] * (32 - len(outline))
-    words = [job["job"][0], len(a) // 2 | len(b) // 2 << 8]
-    words += struct.unpack("<88I", struct.pack("<88f", *floats)) + (0,) * 37
-    return struct.pack("<128I", *words, 0xFFFFFFFF - sum(words) % 2**32)
+    words = [struct.pack(">f", x).hex().upper() for x in floats + a + b]
+    return " ".join([str(job["job"][0]), str(len(a) // 2), str(len(b) // 2), *words])
 
 
 def read_job(lines, tell):
@@ -139,22 +143,21 @@ def read_job(lines, tell):
     return job
 
 
-def main(jobs, batch):
+def main(jobs):
     with open(jobs, encoding="utf-8") as file:
         text = file.read()
     faults = []
     read = [read_job(lines, lambda at, job, fault: faults.append(f"{jobs}, line {at}, {job}: {fault}")) for lines in paragraphs(text)]
     if faults:
-        sys.exit("\n".join(faults + [f"{batch} was not written"]))
-    blocks = b"".join(map(block, read))
-    with open(batch, "wb") as file:
-        file.write(blocks)
+        sys.exit("\n".join(faults + ["nothing was written"]))
+    for job in read:
+        print(line(job))
 
 
 if __name__ == "__main__":
-    if len(sys.argv) != 3:
-        sys.exit("usage: pack.py JOBS BATCH")
+    if len(sys.argv) != 2:
+        sys.exit("usage: pack.py JOBS")
     try:
-        main(*sys.argv[1:])
+        main(sys.argv[1])
     except (OSError, UnicodeDecodeError) as error:
         sys.exit(f"pack.py: {error}")

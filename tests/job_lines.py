@@ -2,7 +2,9 @@
 """What `pack` and `unpack` must write, worked out from the rules of the two forms alone, and the cases that both are tried on.
 
   job_lines.py pack|unpack FOLDER    write each case's input, standard output and standard error to FOLDER/NAME.{in,out,err}
+  job_lines.py rows                  write the rows of `replay`'s tables 8 and 9 to standard output
 """
+import case_rows
 import pathlib
 import random
 import re
@@ -106,66 +108,83 @@ def put(place, text):
 
 
 def pack_cases():
-    single = {
-        "a good line": GOOD,
-        "the least job": line(1, 1, 1, 2),
-        "the largest job": line(ONES, 16, 16, 3),
-        "one point and sixteen": line(99, 1, 16, 4),
-        "sixteen points and one": line(100, 16, 1, 5),
-        "a NaN that signals": put(3, b"7F800001"),
-        "a NaN with its sign and payload": put(26, b"FFBFFFFF"),
-        "a zero with its sign": put(27, b"80000000"),
-        "a negative slop": put(6, b"BF800000"),
-        "an empty line": b"",
-        "a blank alone": b" ",
-        "job 0": put(0, b"0"),
-        "a job with a leading zero": put(0, b"07"),
-        "a job above the largest": put(0, b"4294967296"),
-        "a job of twenty digits": put(0, b"18446744073709551623"),
-        "a job with a sign": put(0, b"+7"),
-        "a job in hexadecimal": put(0, b"A"),
-        "count A of 0": put(1, b"0"),
-        "count B of 0": job(7, 4, 0, some_words(32, 6)),
-        "17 points": job(7, 17, 3, some_words(24 + 34 + 6, 7)),
-        "17 points of B": job(7, 3, 17, some_words(24 + 6 + 34, 8)),
-        "a count of 256 more": put(1, b"260"),
-        "a count with a leading zero": put(2, b"03"),
-        "small letters": put(5, b"3f800000"),
-        "one small letter": put(5, b"3F80000a"),
-        "seven digits": put(5, b"3F80000"),
-        "nine digits": put(5, b"03F800000"),
-        "a letter past F": put(5, b"3F80000G"),
-        "a byte between digits and letters": put(5, b"3F80000:"),
-        "a byte past all": put(5, b"3F80000\xff"),
-        "a leading blank": b" " + GOOD,
-        "a blank at the end": GOOD + b" ",
-        "a double blank": GOOD.replace(b" ", b"  ", 1),
-        "a tab": GOOD.replace(b" ", b"\t", 1),
-        "a missing field": GOOD.rsplit(b" ", 1)[0],
-        "an extra field": GOOD + b" 00000000",
-        "a missing job": GOOD.split(b" ", 1)[1],
-        "CR before the newline": GOOD + b"\r",
-        "a zero byte": GOOD + b"\0",
-        "a comma": GOOD.replace(b" ", b",", 1),
-        "words only": b"no job at all",
-        "the longest line and a byte": line(ONES, 16, 16, 9) + b"0",
-        "a line of 855 bytes": b"8" * 854,
-        "a line of 856 bytes": b"8" * 855,
-        "a line longer than the buffer": b"9" * 5000,
-        "a job after a long line's start": b"7" * 900 + b" " + GOOD,
+    """By kind: name and text."""
+    alone = {
+        1: {
+            "a good line": GOOD,
+            "the least job": line(1, 1, 1, 2),
+            "the largest job": line(ONES, 16, 16, 3),
+            "one point and sixteen": line(99, 1, 16, 4),
+            "sixteen points and one": line(100, 16, 1, 5),
+            "a NaN that signals": put(3, b"7F800001"),
+            "a NaN with its sign and payload": put(26, b"FFBFFFFF"),
+            "a zero with its sign": put(27, b"80000000"),
+            "a negative slop": put(6, b"BF800000"),
+        },
+        2: {
+            "job 0": put(0, b"0"),
+            "a job with a leading zero": put(0, b"07"),
+            "a job above the largest": put(0, b"4294967296"),
+            "a job of twenty digits": put(0, b"18446744073709551623"),
+            "a job with a sign": put(0, b"+7"),
+            "a job in hexadecimal": put(0, b"A"),
+            "a missing job": GOOD.split(b" ", 1)[1],
+        },
+        3: {
+            "count A of 0": put(1, b"0"),
+            "count B of 0": job(7, 4, 0, some_words(32, 6)),
+            "17 points": job(7, 17, 3, some_words(24 + 34 + 6, 7)),
+            "17 points of B": job(7, 3, 17, some_words(24 + 6 + 34, 8)),
+            "a count of 256 more": put(1, b"260"),
+            "a count with a leading zero": put(2, b"03"),
+        },
+        4: {
+            "small letters": put(5, b"3f800000"),
+            "one small letter": put(5, b"3F80000a"),
+            "seven digits": put(5, b"3F80000"),
+            "nine digits": put(5, b"03F800000"),
+            "a letter past F": put(5, b"3F80000G"),
+            "a byte between digits and letters": put(5, b"3F80000:"),
+            "a byte past all": put(5, b"3F80000\xff"),
+        },
+        5: {
+            "an empty line": b"",
+            "a blank alone": b" ",
+            "a leading blank": b" " + GOOD,
+            "a blank at the end": GOOD + b" ",
+            "a double blank": GOOD.replace(b" ", b"  ", 1),
+            "a missing field": GOOD.rsplit(b" ", 1)[0],
+            "an extra field": GOOD + b" 00000000",
+        },
+        6: {
+            "a tab": GOOD.replace(b" ", b"\t", 1),
+            "a comma": GOOD.replace(b" ", b",", 1),
+            "CR before the newline": GOOD + b"\r",
+            "a zero byte": GOOD + b"\0",
+            "words only": b"no job at all",
+        },
+        7: {
+            "the longest job and a byte": line(ONES, 16, 16, 9) + b"0",
+            "a line as long as the buffer": b"8" * 854,
+            "a line one byte longer": b"8" * 855,
+            "a line of 5000 bytes": b"9" * 5000,
+            "a job after a long line's start": b"7" * 900 + b" " + GOOD,
+        },
     }
-    cases = {name: text + b"\n" for name, text in single.items()}
-    cases |= {
-        "nothing": b"",
-        "newlines alone": b"\n" * 150,
+    cases = {kind: {name: text + b"\n" for name, text in texts.items()} for kind, texts in alone.items()}
+    cases[8] = {
         "a last line without its newline": GOOD,
         "input cut in the middle": GOOD + b"\n" + GOOD[:200],
-        "a bad line between good ones": GOOD + b"\nnone\n" + line(8, 2, 2, 10) + b"\n",
+    }
+    cases[9] = {
+        "nothing": b"",
+        "newlines alone": b"\n" * 150,
         "good lines": b"".join(line(n, 1 + n % 3, 1 + n % 4, n) + b"\n" for n in range(1, 6)),
+        "a bad line between good ones": GOOD + b"\nnone\n" + line(8, 2, 2, 10) + b"\n",
         "a long line between good ones": GOOD + b"\n" + b"1 " * 1000 + b"\n" + GOOD + b"\n",
         "CR and newline after a good line": GOOD + b"\r\n" + GOOD + b"\n",
     }
-    return {name: (text,) + pack(text) for name, text in cases.items()}
+    return cases
 
 
 def spoiled(block, place, value, mend=True):
@@ -177,37 +196,50 @@ def spoiled(block, place, value, mend=True):
 
 def unpack_cases():
     block = block_of(GOOD)
-    cases = {
-        "nothing": b"",
-        "a good block": block,
-        "the least job": block_of(line(1, 1, 1, 2)),
-        "the largest job": block_of(line(ONES, 16, 16, 3)),
-        "NaNs and zeros with their signs": block_of(put(9, b"FFBFFFFF")),
-        "refused by 8 alone": block_of(put(6, b"BF800000")),
-        "refused by 3 alone": block_of(put(27, b"7F800000")),
-        "refused by 5 alone": block_of(put(13, b"00000000")),
-        "a short block": block[:511],
-        "one byte": b"\x07",
-        "a short block after a good one": block + block[:100],
-        "a wrong check": spoiled(block, 20, 1 ^ block[20], mend=False),
-        "job 0": with_check((0,) + struct.unpack("<126I", block[4:508])),
-        "count A of 0": spoiled(block, 4, 0),
-        "count A of 17": spoiled(block, 4, 17),
-        "count B of 0": spoiled(block, 5, 0),
-        "count B of 255": spoiled(block, 5, 255),
-        "byte 6 of 1": spoiled(block, 6, 1),
-        "byte 6 of 2, its check by form 1": spoiled(block, 6, 2),
-        "byte 6 of 2, its check wrong": spoiled(block, 6, 2, mend=False),
-        "byte 6 of 2, its check by form 2": form_2(block),
-        "byte 7": spoiled(block, 7, 1),
-        "an unused point of A": spoiled(block, 104 + 8 * 4, 1),
-        "the last unused byte of A": spoiled(block, 231, 1),
-        "an unused point of B": spoiled(block, 232 + 8 * 3, 1),
-        "a byte before the check": spoiled(block, 507, 1),
-        "refused ones between good ones": block + spoiled(block, 7, 1) + block + bytes(512) + block,
-        "zeros": bytes(1024),
+    return {
+        1: {
+            "a good block": block,
+            "the least job": block_of(line(1, 1, 1, 2)),
+            "the largest job": block_of(line(ONES, 16, 16, 3)),
+            "NaNs and zeros with their signs": block_of(put(9, b"FFBFFFFF")),
+        },
+        2: {
+            "refused by 8 alone": block_of(put(6, b"BF800000")),
+            "refused by 3 alone": block_of(put(27, b"7F800000")),
+            "refused by 5 alone": block_of(put(13, b"00000000")),
+        },
+        3: {
+            "a short block": block[:511],
+            "one byte": b"\x07",
+            "a short block after a good one": block + block[:100],
+        },
+        4: {
+            "a wrong check": spoiled(block, 20, 1 ^ block[20], mend=False),
+            "zeros": bytes(1024),
+        },
+        5: {
+            "job 0": with_check((0,) + struct.unpack("<126I", block[4:508])),
+            "count A of 0": spoiled(block, 4, 0),
+            "count A of 17": spoiled(block, 4, 17),
+            "count B of 0": spoiled(block, 5, 0),
+            "count B of 255": spoiled(block, 5, 255),
+            "byte 7": spoiled(block, 7, 1),
+            "an unused point of A": spoiled(block, 104 + 8 * 4, 1),
+            "the last unused byte of A": spoiled(block, 231, 1),
+            "an unused point of B": spoiled(block, 232 + 8 * 3, 1),
+            "a byte before the check": spoiled(block, 507, 1),
+        },
+        6: {
+            "byte 6 of 1": spoiled(block, 6, 1),
+            "byte 6 of 2, its check by form 1": spoiled(block, 6, 2),
+            "byte 6 of 2, its check wrong": spoiled(block, 6, 2, mend=False),
+            "byte 6 of 2, its check by form 2": form_2(block),
+        },
+        7: {
+            "nothing": b"",
+            "refused ones between good ones": block + spoiled(block, 7, 1) + block + bytes(512) + block,
+        },
     }
-    return {name: (data,) + unpack(data) for name, data in cases.items()}
 
 
 def form_2(block):
@@ -217,15 +249,21 @@ def form_2(block):
     return struct.pack("<128I", *words, (ONES - sum(w * (k + 1) for k, w in enumerate(words))) & ONES)
 
 
-CASES = {"pack": pack_cases, "unpack": unpack_cases}
+TABLES = {"pack": (8, pack, pack_cases), "unpack": (9, unpack, unpack_cases)}
 
 
-def main():
-    folder = pathlib.Path(sys.argv[2])
-    for name, parts in CASES[sys.argv[1]]().items():
-        for part, ending in zip(parts, ("in", "out", "err")):
-            (folder / f"{name.replace(' ', '_')}.{ending}").write_bytes(part)
+def write_files(program, folder):
+    table, work, cases = TABLES[program]
+    for texts in cases().values():
+        for name, text in texts.items():
+            for part, ending in zip((text, *work(text)), ("in", "out", "err")):
+                (folder / f"{name.replace(' ', '_')}.{ending}").write_bytes(part)
+
+
+def write_rows():
+    for table, work, cases in TABLES.values():
+        case_rows.write(table, [case_rows.row(kind, text, *work(text)) for kind, texts in cases().items() for text in texts.values()])
 
 
 if __name__ == "__main__":
-    main()
+    write_rows() if sys.argv[1:] == ["rows"] else write_files(sys.argv[1], pathlib.Path(sys.argv[2]))

@@ -1,23 +1,28 @@
 #!/usr/bin/env bash
-# pack.sh: that examples/pack.py packs the sample shift as it is stored, packs plates and bars as their corners, and refuses each wrong job below
-# with its line and job, writing nothing.
+# pack.sh: that examples/pack.py and `pack` make the sample shift as it is stored, that plates and bars give the line of their corners, and that each
+# wrong job below is refused with its line and job, and nothing is written. PROGRAMS and RUN are those of tests/programs.sh.
 set -u
 cd "$(dirname "$0")/.."
+run="${RUN:-}"; bin="${PROGRAMS:-}"
+if [ -z "$bin" ]; then
+  rt check pack > /dev/null || { echo "pack is not proved"; exit 1; }
+  bin=target/bin
+fi
 work="$(mktemp -d)"; trap 'rm -r "$work"' EXIT
 bad=0
-python3 examples/pack.py examples/shift.txt "$work/shift.batch" && cmp "$work/shift.batch" examples/shift.batch || bad=1
-same() { # same LINES CORNERS: both ways of giving the outlines pack into one block
-  for way in 1 2; do printf 'job: 7\n%b\n' "${!way}" > "$work/jobs$way"; python3 examples/pack.py "$work/jobs$way" "$work/same$way" || bad=1; done
-  cmp "$work/same1" "$work/same2" && echo "one block: ${1/\\n/; }" || bad=1
-  rm -f "$work"/same?
+python3 examples/pack.py examples/shift.txt | $run "$bin/pack" 2> "$work/told" | cmp - examples/shift.batch && [ ! -s "$work/told" ] || bad=1
+same() { # same LINES CORNERS: both ways of giving the outlines make one line
+  for way in 1 2; do printf 'job: 7\n%b\n' "${!way}" > "$work/jobs$way"; python3 examples/pack.py "$work/jobs$way" > "$work/same$way" || bad=1; done
+  cmp "$work/same1" "$work/same2" && echo "one line: ${1/\\n/; }" || bad=1
 }
 same 'a plate: 6 4\nb bar: 1 2 -3 4' 'a: 6 4  -6 4  6 -4  -6 -4\nb: 1 2  -3 4'
 same 'a bar: 1 2 1 2\nb plate: 0 2' 'a: 1 2  1 2\nb: 0 2  -0 2  0 -2  -0 -2'
 same 'a plate: -0 0\nb: 1 1' 'a: -0 0  0 0  -0 -0  0 -0\nb: 1 1'
+same 'a plate: -1e-50 2\nb: 1 1' 'a: -0 2  0 2  -0 -2  0 -2\nb: 1 1'
 refused() { # refused LINE JOB TEXT TOLD: the text of jobs gets TOLD (a part of it) at that line and job, and nothing is written
   printf '%b' "$3" > "$work/jobs"
-  told="$(python3 examples/pack.py "$work/jobs" "$work/batch" 2>&1)" && { echo "packed: $3"; bad=1; }
-  [ ! -e "$work/batch" ] || { echo "written: $3"; bad=1; }
+  told="$(python3 examples/pack.py "$work/jobs" 2>&1 > "$work/lines")" && { echo "packed: $3"; bad=1; }
+  [ ! -s "$work/lines" ] || { echo "written: $3"; bad=1; }
   case "$told" in
   "$work/jobs, line $1, $2: "*"$4"*) told="${told%%$'\n'*}"; echo "${told#"$work/"}" ;;
   *) echo "told '$told', not line $1, $2: $4"; bad=1 ;;

@@ -1,12 +1,12 @@
 #!/usr/bin/env bash
-# programs.sh: runs `any_contact`, and `sheet` beside it, on the cases below, and compares all that they write, standard error included. Exit
-# status 1 where one differs. Both are x86-64 programs: on another machine RUN names what runs such a program (an emulator).
-# PROGRAMS names another folder than target/bin; where it is not given both are proved and built first.
+# programs.sh: runs `any_contact`, and `sheet` beside it, on the cases below, `pack` and `unpack` on those of tests/job_lines.py, and compares all that
+# they write, standard error included. Exit status 1 where one differs. They are x86-64 programs: on another machine RUN names what runs such a program
+# (an emulator). PROGRAMS names another folder than target/bin; where it is not given they are proved and built first.
 set -u
 cd "$(dirname "$0")/.."
 run="${RUN:-}"; bin="${PROGRAMS:-}"
 if [ -z "$bin" ]; then
-  rt check any_contact sheet > /dev/null || { echo "any_contact or sheet is not proved"; exit 1; }
+  rt check any_contact sheet pack unpack > /dev/null || { echo "any_contact, sheet, pack or unpack is not proved"; exit 1; }
   bin=target/bin
 fi
 work="$(mktemp -d)"; trap 'rm -r "$work"' EXIT
@@ -86,4 +86,38 @@ left "the same from a pipe" $((3 * 65536))
 { many 128 S; block O; many 383 H; } > "$work/long"
 { timeout 60 $run "$bin/any_contact" > "$work/out" 2> "$work/err"; ended=$?; cat > "$work/left"; } < "$work/long"
 wrote "a contact in the second part" 0 $'129\n' ""; left "the same" $((2 * 65536))
+
+# faults PROGRAM INPUT: what it tells where it cannot write, cannot read, or is given an argument
+faults() {
+  : > "$work/out"
+  timeout 60 $run "$bin/$1" < "$2" > /dev/full 2> "$work/err"; ended=$?
+  wrote "$1, full output" 0 "" $'standard output: No space left on device\n'
+  timeout 60 $run "$bin/$1" < "$work" > "$work/out" 2> "$work/err"; ended=$?
+  wrote "$1, a directory as input" 0 "" $'standard input: Is a directory\n'
+  timeout 60 $run "$bin/$1" word < "$2" > "$work/out" 2> "$work/err"; ended=$?
+  wrote "$1, an argument" 0 "" "$1"$': no argument is taken\n'
+}
+for program in pack unpack; do
+  mkdir "$work/$program"; python3 tests/job_lines.py $program "$work/$program"
+  for input in "$work/$program"/*.in; do
+    want="${input%.in}"; name="$program, $(basename "$want" | tr _ ' ')"
+    timeout 60 $run "$bin/$program" < "$input" > "$work/out" 2> "$work/err"; ended=$?
+    if [ $ended = 0 ] && cmp -s "$work/out" "$want.out" && cmp -s "$work/err" "$want.err"; then
+      echo "$name: $(wc -c < "$want.out") bytes, told: $(head -n 3 "$want.err" | tr '\n' ';')"
+    else
+      echo "$name: WRONG: status $ended, $(wc -c < "$work/out") bytes, told '$(head -n 3 "$work/err")'"; bad=1
+    fi
+  done
+  faults $program "$work/$program/$([ $program = pack ] && echo a_good_line || echo a_good_block).in"
+done
+
+# there and back: the blocks that are not refused come back in all their bytes; 10, 11, 14, 21 and the short 25 are refused
+timeout 60 $run "$bin/unpack" < examples/every-answer.batch 2> "$work/err" > "$work/lines"; ended=$?
+for at in $(seq 24); do
+  case $at in 10 | 11 | 14 | 21) ;; *) tail -c +$((512 * (at - 1) + 1)) examples/every-answer.batch | head -c 512 ;; esac
+done > "$work/want"
+: > "$work/out"; wrote "every answer, to lines" 0 "" $'10 11\n11 11\n14 10\n21 10\n25 9\n'
+timeout 60 $run "$bin/pack" < "$work/lines" > "$work/back" 2> "$work/err"; ended=$?
+wrote "and back" 0 "" ""
+cmp "$work/back" "$work/want" || bad=1
 exit $bad

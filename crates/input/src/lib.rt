@@ -92,6 +92,14 @@ pub fn write_to_error(text: &[u8], n: usize) -> bool {
     written
 }
 
+// Writes what stands at the start of one text to standard output, and of the other to standard error.
+pub fn write_both(out: &[u8], n: usize, err: &[u8], m: usize) -> bool {
+    if !write_to_output(out, n) {
+        return false;
+    }
+    write_to_error(err, m)
+}
+
 // Whether the program was started with no argument; else that is told, under the program's name.
 pub fn no_argument(program: &[u8]) -> bool {
     if os::arg_count() <= 1 {

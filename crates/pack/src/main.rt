@@ -11,18 +11,10 @@ struct Step {
     held: Held,
 }
 
-// Writes what stands at the start of both.
-fn write(out: &[u8], at: usize, err: &[u8], told: usize) -> bool {
-    if !input::write_to_output(out, at) {
-        return false;
-    }
-    input::write_to_error(err, told)
-}
-
 fn pack_part(part: &[u8], held: Held, out: &mut [u8], err: &mut [u8]) -> Step {
     let packed = job_text::pack_part(part, held, out, err);
     let line = packed.held;
-    let written = write(out, packed.at, err, packed.told);
+    let written = input::write_both(out, packed.at, err, packed.told);
     Step {
         more: written,
         held: line,

@@ -6,11 +6,13 @@ mod cases;
 mod distances;
 mod first_contacts;
 mod operations;
+mod packed;
 mod plates;
 mod pool;
 mod sweeps;
 mod table;
 mod tally;
+mod unpacked;
 mod words;
 
 use libc::STDIN_FILENO;

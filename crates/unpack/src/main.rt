@@ -10,14 +10,6 @@ struct Step {
     blocks: u64,
 }
 
-// Writes what stands at the start of both.
-fn write(out: &[u8], at: usize, err: &[u8], told: usize) -> bool {
-    if !input::write_to_output(out, at) {
-        return false;
-    }
-    input::write_to_error(err, told)
-}
-
 // The rest of fewer bytes than a block that the input ends in, where it does.
 fn end(rest: usize, blocks: u64, err: &mut [u8]) {
     let told = job_text::tell_rest(rest, blocks, err);
@@ -36,7 +28,7 @@ fn next_part(before: u64, out: &mut [u8], err: &mut [u8]) -> Step {
     }
     let unpacked = job_text::unpack_part(&buffer[..n], before, out, err);
     let blocks = unpacked.blocks;
-    if !write(out, unpacked.at, err, unpacked.told) {
+    if !input::write_both(out, unpacked.at, err, unpacked.told) {
         return Step {
             more: false,
             blocks,
@@ -44,11 +36,12 @@ fn next_part(before: u64, out: &mut [u8], err: &mut [u8]) -> Step {
     }
     if n < PART_SIZE {
         end(n % 512, blocks, err);
+        return Step {
+            more: false,
+            blocks,
+        };
     }
-    Step {
-        more: n == PART_SIZE,
-        blocks,
-    }
+    Step { more: true, blocks }
 }
 
 // A proved loop has to end, and nothing says that the input does: so the turns are counted, to a number that no run reaches.
