@@ -7,3 +7,5 @@ pub mod Read
 pub mod RoundTrip
 pub mod Runs
 mod Blocks
+pub mod Alone
+mod Shown

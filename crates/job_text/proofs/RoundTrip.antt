@@ -255,3 +255,35 @@ line-block-line l e = same-list (jobLine (blockFor l)) l (both-true (passes (pla
 pub job-accepted : (l : List ℕ) → isJob l ≡ true → checkedBlock (blockFor l) ≡ Good (blockOf (blockFor l))
 unfolding isJob
 job-accepted l e = what-passed (blockFor l) (both-true (passes (plainBlock (blockFor l))) (Job.same (jobLine (blockFor l)) l) e .0) .accepted
+
+-- ---- by its bits
+word-is-bytes : (w : ℕ) → Bytes (wordBytes w)
+word-is-bytes w zero = omega arith
+word-is-bytes w (suc zero) = omega arith
+word-is-bytes w (suc (suc zero)) = omega arith
+word-is-bytes w (suc (suc (suc zero))) = omega arith
+word-is-bytes w (suc (suc (suc (suc k)))) = omega arith
+
+bytes-then : (xs ys : List ℕ) → Bytes xs → Bytes ys → Bytes (xs ++ ys)
+bytes-then [] ys h g k = g k
+bytes-then (x ∷ xs) ys h g zero = h 0
+bytes-then (x ∷ xs) ys h g (suc k) = bytes-then xs ys (λ i. h (suc i)) g k
+
+words-are-bytes : (ns : List ℕ) (n : ℕ) → Bytes (firstWords ns n)
+unfolding firstWords
+words-are-bytes ns zero k = omega arith
+words-are-bytes ns (suc n) k = bytes-then (firstWords ns n) (wordBytes (wordAt ns n)) (words-are-bytes ns n) (word-is-bytes (wordAt ns n)) k
+
+block-is-bytes : (ns : List ℕ) → Bytes (blockFrom ns)
+unfolding blockFrom
+block-is-bytes ns =
+    bytes-then (firstWords ns 127) (wordBytes (4294967295 - sumOfFirst ns 127 % 2 ^ 32)) (words-are-bytes ns 127)
+    (word-is-bytes (4294967295 - sumOfFirst ns 127 % 2 ^ 32))
+
+-- the numbers that a job's line has are its block's, each in its place: job, counts, and the words that `sheet` takes for its floats
+built-is-bytes : (l : List ℕ) → Bytes (blockFor l)
+unfolding blockFor
+built-is-bytes l = block-is-bytes (numbersOf l)
+
+pub job-by-its-bits : (l : List ℕ) → isJob l ≡ true → numbersOf l ≡ sets (replicate mostNumbers 0) 0 (fieldsOf (blockFor l))
+job-by-its-bits l e = ap numbersOf (sym (line-block-line l e)) ∙ numbers-of-line (blockFor l) (built-is-bytes l)

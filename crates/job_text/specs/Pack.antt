@@ -71,6 +71,29 @@ runIn h part out err = runOver (fresh h) (take (usedBytes h part out err) part)
 abbrev pub lastFor : Held → ℕ → List ℕ
 lastFor h room = cond (eqb (h .size) 0) [] (toldFor (h .lines) 14 room)
 
+-- ---- a whole text
+abbrev pub atStart : Run
+atStart = record { out = []; told = []; line = []; lines = 0 }
+
+-- a line without its newline is no job
+abbrev pub unfinished : Run → List ℕ
+unfinished r = cond (eqb (length (r .line)) 0) [] (refusal (r .lines + 1) 14)
+
+abbrev pub packOut : List ℕ → List ℕ
+packOut b = runOver atStart b .out
+
+abbrev pub packTold : List ℕ → List ℕ
+packTold b = runOver atStart b .told ++ unfinished (runOver atStart b)
+
+-- the same by parts, each from what the one before it handed on
+unfoldable pub outOver : Held → List (List ℕ) → List ℕ
+outOver h [] = []
+outOver h (p ∷ ps) = runOver (fresh h) p .out ++ outOver (heldAfter (runOver (fresh h) p)) ps
+
+unfoldable pub toldOver : Held → List (List ℕ) → List ℕ
+toldOver h [] = cond (eqb (h .size) 0) [] (refusal (h .lines + 1) 14)
+toldOver h (p ∷ ps) = runOver (fresh h) p .told ++ toldOver (heldAfter (runOver (fresh h) p)) ps
+
 -- ---- what one byte does to the places after both texts, the size of the line and the count of lines
 module _ (x : ℕ) (l : List ℕ) (lines : ℕ) (out : List ℕ) (at : ℕ) (out' : List ℕ) (at' : ℕ) (err : List ℕ) (told : ℕ) (err' : List ℕ) (told' : ℕ) (size lines' : ℕ) where
   pub record Ends : Type 0 where

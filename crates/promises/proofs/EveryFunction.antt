@@ -21,14 +21,18 @@ use Rattle.separation.proofs as separation
 use Rattle.sweep_toi.proofs as sweep_toi
 use Rattle.toi_proxy.proofs as toi_proxy
 use Rattle.shapes.proofs as shapes
+use Rattle.text.proofs as text
 use Rattle.wire.proofs as wire
 use Rattle.block.proofs as block
 use Rattle.work.proofs as work
 use Rattle.lines.proofs as lines
 use Rattle.contacts.proofs as contacts
+use Rattle.job_text.proofs as job_text
 use Rattle.foldflake.proofs as foldflake
 use Rattle.toi_proxy.specs.declared.ToiProxy.{ToiProxy}
 use Rattle.lines.specs.declared.part.Written.{Written}
+use Rattle.job_text.specs.declared.pack.Packed.{Packed}
+use Rattle.job_text.specs.declared.unpack.Unpacked.{Unpacked}
 
 -- `ToiProxy`, where a contract tells its parts
 toi-proxy-by-parts : {x y : ToiProxy} → x .points ≡ y .points → x .radius ≡ y .radius → x ≡ y
@@ -37,6 +41,14 @@ toi-proxy-by-parts p0 p1 = λ i. record { points = p0 i; radius = p1 i }
 -- `Written`, where a contract tells its parts
 written-by-parts : {x y : Written} → x .at ≡ y .at → x .totals ≡ y .totals → x .last ≡ y .last → x ≡ y
 written-by-parts p0 p1 p2 = λ i. record { at = p0 i; totals = p1 i; last = p2 i }
+
+-- `Packed`, where a contract tells its parts
+packed-by-parts : {x y : Packed} → x .held ≡ y .held → x .at ≡ y .at → x .told ≡ y .told → x ≡ y
+packed-by-parts p0 p1 p2 = λ i. record { held = p0 i; at = p1 i; told = p2 i }
+
+-- `Unpacked`, where a contract tells its parts
+unpacked-by-parts : {x y : Unpacked} → x .blocks ≡ y .blocks → x .at ≡ y .at → x .told ≡ y .told → x ≡ y
+unpacked-by-parts p0 p1 p2 = λ i. record { blocks = p0 i; at = p1 i; told = p2 i }
 
 module _ {M : Type 1} (𝓤 : URA M) (H : Heap 𝓤) (A : Atoms 𝓤) (mem : Memory → SProp 𝓤) (run : Routine → Fun 𝓤) where
   -- ---- root_list
@@ -457,6 +469,35 @@ module _ {M : Type 1} (𝓤 : URA M) (H : Heap 𝓤) (A : Atoms 𝓤) (mem : Mem
     once = λ κs a g r r' v v'. told 𝓤 (λ p q. (search same-value, each-list shapes.plate.ended κs a v v' (search same-value depth 12)));
   }
 
+  -- ---- text
+  pub text-put-hex : OneResult 𝓤 H A text.put_hex.ended (text.put_hex.spec 𝓤 H A mem run)
+  text-put-hex = record {
+    clauses = text.put_hex.clauses 𝓤 H A mem run;
+    of-contract = refl;
+    once = λ κs a g r r' v v'. told 𝓤 (λ p q. (search same-value, each-list text.put_hex.ended κs a v v' (search same-value depth 12)));
+  }
+
+  pub text-put-number : OneResult 𝓤 H A text.put_number.ended (text.put_number.spec 𝓤 H A mem run)
+  text-put-number = record {
+    clauses = text.put_number.clauses 𝓤 H A mem run;
+    of-contract = refl;
+    once = λ κs a g r r' v v'. told 𝓤 (λ p q. (search same-value, each-list text.put_number.ended κs a v v' (search same-value depth 12)));
+  }
+
+  pub text-put-text : OneResult 𝓤 H A text.put_text.ended (text.put_text.spec 𝓤 H A mem run)
+  text-put-text = record {
+    clauses = text.put_text.clauses 𝓤 H A mem run;
+    of-contract = refl;
+    once = λ κs a g r r' v v'. told 𝓤 (λ p q. (search same-value, each-list text.put_text.ended κs a v v' (search same-value depth 12)));
+  }
+
+  pub text-read-numbers : OneResult 𝓤 H A text.read_numbers.ended (text.read_numbers.spec 𝓤 H A mem run)
+  text-read-numbers = record {
+    clauses = text.read_numbers.clauses 𝓤 H A mem run;
+    of-contract = refl;
+    once = λ κs a g r r' v v'. told 𝓤 (λ p q. (search same-value, each-list text.read_numbers.ended κs a v v' (search same-value depth 12)));
+  }
+
   -- ---- wire
   pub wire-byte : OneResult 𝓤 H A wire.byte.ended (wire.byte.spec 𝓤 H A mem run)
   wire-byte = record {
@@ -476,6 +517,13 @@ module _ {M : Type 1} (𝓤 : URA M) (H : Heap 𝓤) (A : Atoms 𝓤) (mem : Mem
   pub block-check-block : OneResult 𝓤 H A block.check_block.ended (block.check_block.spec 𝓤 H A mem run)
   block-check-block = record {
     clauses = block.check_block.clauses 𝓤 H A mem run;
+    of-contract = refl;
+    once = λ κs a g r r' v v'. told 𝓤 (λ p q. (search same-value, refl));
+  }
+
+  pub block-sum-of-words : OneResult 𝓤 H A block.sum_of_words.ended (block.sum_of_words.spec 𝓤 H A mem run)
+  block-sum-of-words = record {
+    clauses = block.sum_of_words.clauses 𝓤 H A mem run;
     of-contract = refl;
     once = λ κs a g r r' v v'. told 𝓤 (λ p q. (search same-value, refl));
   }
@@ -510,25 +558,11 @@ module _ {M : Type 1} (𝓤 : URA M) (H : Heap 𝓤) (A : Atoms 𝓤) (mem : Mem
     once = λ κs a g r r' v v'. told 𝓤 (λ p q. (search same-value, each-list lines.write_line.ended κs a v v' (search same-value depth 12)));
   }
 
-  pub lines-write-number : OneResult 𝓤 H A lines.write_number.ended (lines.write_number.spec 𝓤 H A mem run)
-  lines-write-number = record {
-    clauses = lines.write_number.clauses 𝓤 H A mem run;
-    of-contract = refl;
-    once = λ κs a g r r' v v'. told 𝓤 (λ p q. (search same-value, each-list lines.write_number.ended κs a v v' (search same-value depth 12)));
-  }
-
   pub lines-write-part : OneResult 𝓤 H A lines.write_part.ended (lines.write_part.spec 𝓤 H A mem run)
   lines-write-part = record {
     clauses = lines.write_part.clauses 𝓤 H A mem run;
     of-contract = refl;
     once = λ κs a g r r' v v'. told-in-two 𝓤 (λ p q. (search (same-value, written-by-parts), each-list lines.write_part.ended κs a v v' (search same-value depth 12)));
-  }
-
-  pub lines-write-text : OneResult 𝓤 H A lines.write_text.ended (lines.write_text.spec 𝓤 H A mem run)
-  lines-write-text = record {
-    clauses = lines.write_text.clauses 𝓤 H A mem run;
-    of-contract = refl;
-    once = λ κs a g r r' v v'. told 𝓤 (λ p q. (search same-value, each-list lines.write_text.ended κs a v v' (search same-value depth 12)));
   }
 
   -- ---- contacts
@@ -551,6 +585,49 @@ module _ {M : Type 1} (𝓤 : URA M) (H : Heap 𝓤) (A : Atoms 𝓤) (mem : Mem
     clauses = contacts.write_found.clauses 𝓤 H A mem run;
     of-contract = refl;
     once = λ κs a g r r' v v'. told 𝓤 (λ p q. (search same-value, each-list contacts.write_found.ended κs a v v' (search same-value depth 12)));
+  }
+
+  -- ---- job_text
+  pub job-text-check-plain : OneResult 𝓤 H A job_text.check_plain.ended (job_text.check_plain.spec 𝓤 H A mem run)
+  job-text-check-plain = record {
+    clauses = job_text.check_plain.clauses 𝓤 H A mem run;
+    of-contract = refl;
+    once = λ κs a g r r' v v'. told 𝓤 (λ p q. (search same-value, refl));
+  }
+
+  pub job-text-no-line : OneResult 𝓤 H A job_text.no_line.ended (job_text.no_line.spec 𝓤 H A mem run)
+  job-text-no-line = record {
+    clauses = job_text.no_line.clauses 𝓤 H A mem run;
+    of-contract = refl;
+    once = λ κs a g r r' v v'. told 𝓤 (λ p q. (search same-value, refl));
+  }
+
+  pub job-text-pack-part : OneResult 𝓤 H A job_text.pack_part.ended (job_text.pack_part.spec 𝓤 H A mem run)
+  job-text-pack-part = record {
+    clauses = job_text.pack_part.clauses 𝓤 H A mem run;
+    of-contract = refl;
+    once = λ κs a g r r' v v'. told-in-two 𝓤 (λ p q. (search (same-value, packed-by-parts), each-list job_text.pack_part.ended κs a v v' (search same-value depth 12)));
+  }
+
+  pub job-text-tell-last : OneResult 𝓤 H A job_text.tell_last.ended (job_text.tell_last.spec 𝓤 H A mem run)
+  job-text-tell-last = record {
+    clauses = job_text.tell_last.clauses 𝓤 H A mem run;
+    of-contract = refl;
+    once = λ κs a g r r' v v'. told 𝓤 (λ p q. (search same-value, each-list job_text.tell_last.ended κs a v v' (search same-value depth 12)));
+  }
+
+  pub job-text-tell-rest : OneResult 𝓤 H A job_text.tell_rest.ended (job_text.tell_rest.spec 𝓤 H A mem run)
+  job-text-tell-rest = record {
+    clauses = job_text.tell_rest.clauses 𝓤 H A mem run;
+    of-contract = refl;
+    once = λ κs a g r r' v v'. told 𝓤 (λ p q. (search same-value, each-list job_text.tell_rest.ended κs a v v' (search same-value depth 12)));
+  }
+
+  pub job-text-unpack-part : OneResult 𝓤 H A job_text.unpack_part.ended (job_text.unpack_part.spec 𝓤 H A mem run)
+  job-text-unpack-part = record {
+    clauses = job_text.unpack_part.clauses 𝓤 H A mem run;
+    of-contract = refl;
+    once = λ κs a g r r' v v'. told-in-two 𝓤 (λ p q. (search (same-value, unpacked-by-parts), each-list job_text.unpack_part.ended κs a v v' (search same-value depth 12)));
   }
 
   -- ---- foldflake
