@@ -16,8 +16,26 @@ use Rattle.job_text.specs.Job as Job
 use Rattle.job_text.specs.Job.{placeOf, wordsOf, jobLine, plainBlock, passes, blockFor, isJob}
 use Rattle.job_text.specs.Pieces.{headOf, spaced}
 use Rattle.job_text.specs.Room.{refusal}
-use Rattle.job_text.specs.Pack.{longestLine, packed, complaint, Run, longer, lineEnded, lineOn, byteMore, runOver, heldOf, heldAfter, fresh, atStart, unfinished,
-  packOut, packTold, outOver, toldOver}
+use Rattle.job_text.specs.Pack.{
+  longestLine,
+  packed,
+  complaint,
+  Run,
+  longer,
+  lineEnded,
+  lineOn,
+  byteMore,
+  runOver,
+  heldOf,
+  heldAfter,
+  fresh,
+  atStart,
+  unfinished,
+  packOut,
+  packTold,
+  outOver,
+  toldOver,
+}
 use Rattle.job_text.proofs.Lines.{job-line-is, length-job}
 use Rattle.job_text.proofs.Passed.{both-true, what-passed}
 use Rattle.job_text.proofs.RoundTrip.{line-block-line}
@@ -132,6 +150,7 @@ one-outcome r l one = go (ltb (length l) longestLine) refl
   where
     size : length (l ++ (10 ∷ [])) ≡ length l + 1
     size = length-append l (10 ∷ [])
+
     go : (t : Bool) → ltb (length l) longestLine ≡ t → lineEnded r (longer (grown [] l) 10) ≡ lineEnded r (l ++ (10 ∷ []))
     go true e =
         let short : length l < longestLine = ltb-true (length l) longestLine e in
@@ -147,7 +166,7 @@ one-outcome r l one = go (ltb (length l) longestLine) refl
 pub line-alone : (r : Run) (l rest : List ℕ) → OneLine l → r .line ≡ [] → runOver r (l ++ (10 ∷ rest)) ≡ runOver (lineEnded r (l ++ (10 ∷ []))) rest
 line-alone r l rest one between =
     let kept : runOver r l ≡ lineOn r (grown [] l) =
-      ap (λ (k : List ℕ). runOver (lineOn r k) l) between ∙ run-grown r [] l one in
+    ap (λ (k : List ℕ). runOver (lineOn r k) l) between ∙ run-grown r [] l one in
     run-append r l (10 ∷ rest) ∙ ap (λ (s : Run). runOver s (10 ∷ rest)) kept ∙ newline r (grown [] l) rest
     ∙ ap (λ (s : Run). runOver s rest) (one-outcome r l one)
 
@@ -161,6 +180,7 @@ behind-byte r s x = go (eqb x 10)
   where
     l : List ℕ
     l = longer (s .line) x
+
     go : (t : Bool) → cond t (lineEnded (behind r s) (longer (s .line) x)) (lineOn (behind r s) (longer (s .line) x))
         ≡ behind r (cond t (lineEnded s (longer (s .line) x)) (lineOn s (longer (s .line) x)))
     go true =
