@@ -24,16 +24,10 @@ done
 : > "$work/batch"; compare "no input"
 cp crates/sheet/stdin "$work/batch"; compare "the batch of the gate"
 
-# the swing, as one turn and cut into steps; a reader of the lines puts them into blocks
+# the swing, as one turn and cut into steps
 swing='a plate: 5 5\nb: 0 -20  4 -20  4 20  0 20\na turned: 0 90\nb from: 6 0\n'
 printf "job: 1\n$swing\njob: 11\n${swing}turn by: 10\n" > "$work/jobs"
-jobs_of "$work/jobs" 2> "$work/told" | python3 -c '
-import struct, sys
-for line in sys.stdin:
-    job, a, b, *words = line.split(" ")
-    a, b, words = 2 * int(a), 2 * int(b), [int(word, 16) for word in words]
-    words = [int(job), a // 2 | b // 2 << 8, *words[:24 + a], *[0] * (32 - a), *words[24 + a :], *[0] * (32 - b + 37)]
-    sys.stdout.buffer.write(struct.pack("<128I", *words, 0xFFFFFFFF - sum(words) % 2**32))' > "$work/batch"
+jobs_of "$work/jobs" 2> "$work/told" | $run target/bin/pack > "$work/batch"
 grep -q 'line 12, job 11: cut into 9 steps, jobs 11 to 19' "$work/told" || wrong "jobs told: $(cat "$work/told")"
 compare "the swing"
 grep -q '>the search says S, but at 0.50 of the move the outlines touch or overlap: do not clear<' "$work/page.html" || wrong "the swing's card is not red"
@@ -78,6 +72,7 @@ refused "no text named" 2 "usage: jobs" jobs_of
 full() { jobs_of examples/shift.txt > /dev/full; }
 refused "full output" 1 "standard output: No space left on device" full
 jobs_of - < examples/shift.txt | cmp - <(jobs_of examples/shift.txt) || wrong "standard input"
+jobs_of examples/shift.txt | $run target/bin/pack | cmp - examples/shift.batch || wrong "the sample shift from its text"
 
 # a long batch: told as it goes, within seconds
 for i in $(seq 667); do cat examples/shift.batch; done | head -c 5120000 > "$work/long"

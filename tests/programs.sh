@@ -1,12 +1,12 @@
 #!/usr/bin/env bash
-# programs.sh: runs `any_contact`, and `sheet` beside it, and `convert` on the cases below, and compares all that they write, standard error and files
-# included. Exit status 1 where one differs. They are x86-64 programs: on another machine RUN names what runs such a program (an emulator).
-# PROGRAMS names another folder than target/bin; where it is not given they are proved and built first.
+# programs.sh: runs `any_contact`, and `sheet` beside it, and `convert` on the cases below, `pack` and `unpack` on those of tests/job_lines.py, and
+# compares all that they write, standard error and files included. Exit status 1 where one differs. They are x86-64 programs: on another machine RUN
+# names what runs such a program (an emulator). PROGRAMS names another folder than target/bin; where it is not given they are proved and built first.
 set -u
 cd "$(dirname "$0")/.."
 run="${RUN:-}"; bin="${PROGRAMS:-}"
 if [ -z "$bin" ]; then
-  rt check any_contact sheet convert > /dev/null || { echo "any_contact, sheet or convert is not proved"; exit 1; }
+  rt check any_contact sheet convert pack unpack > /dev/null || { echo "any_contact, sheet, convert, pack or unpack is not proved"; exit 1; }
   bin="$PWD/target/bin"
 fi
 work="$(mktemp -d)"; trap 'rm -r "$work"' EXIT
@@ -153,4 +153,39 @@ did "a file that gets too large" "$work/no" $'file: File too large\n' file "$wor
 # the system ends a program that writes to a closed pipe: nothing is told, and the file is as it was
 old; (cd "$folder"; set +o pipefail; cat "$cases"/refused-throughout.in | { timeout 60 $run "$bin/convert" file; echo $? > "$work/status"; } | true) 2> "$work/err"
 ended=0; : > "$work/out"; did "a closed pipe, status $(cat "$work/status")" "$work/no" "" file "$work/before"
+
+# faults PROGRAM INPUT: what it tells where it cannot write, cannot read, or is given an argument
+faults() {
+  : > "$work/out"
+  timeout 60 $run "$bin/$1" < "$2" > /dev/full 2> "$work/err"; ended=$?
+  wrote "$1, full output" 0 "" $'standard output: No space left on device\n'
+  timeout 60 $run "$bin/$1" < "$work" > "$work/out" 2> "$work/err"; ended=$?
+  wrote "$1, a directory as input" 0 "" $'standard input: Is a directory\n'
+  timeout 60 $run "$bin/$1" word < "$2" > "$work/out" 2> "$work/err"; ended=$?
+  wrote "$1, an argument" 0 "" "$1"$': no argument is taken\n'
+}
+for program in pack unpack; do
+  mkdir "$work/$program"; python3 tests/job_lines.py $program "$work/$program"
+  for input in "$work/$program"/*.in; do
+    want="${input%.in}"; name="$program, $(basename "$want" | tr _ ' ')"
+    timeout 60 $run "$bin/$program" < "$input" > "$work/out" 2> "$work/err"; ended=$?
+    if [ $ended = 0 ] && cmp -s "$work/out" "$want.out" && cmp -s "$work/err" "$want.err"; then
+      echo "$name: $(wc -c < "$want.out") bytes, told: $(head -n 3 "$want.err" | tr '\n' ';')"
+    else
+      echo "$name: WRONG: status $ended, $(wc -c < "$work/out") bytes, told '$(head -n 3 "$work/err")'"; bad=1
+    fi
+  done
+  faults $program "$work/$program/$([ $program = pack ] && echo a_good_line || echo a_good_block).in"
+done
+
+# there and back: the blocks that are not refused come back in all their bytes; 10, 11, 14, 21, those with a form in byte 6 (25 to 30), and
+# the short 31 are refused
+timeout 60 $run "$bin/unpack" < examples/every-answer.batch 2> "$work/err" > "$work/lines"; ended=$?
+for at in $(seq 24); do
+  case $at in 10 | 11 | 14 | 21) ;; *) tail -c +$((512 * (at - 1) + 1)) examples/every-answer.batch | head -c 512 ;; esac
+done > "$work/want"
+: > "$work/out"; wrote "every answer, to lines" 0 "" $'10 11\n11 11\n14 10\n21 10\n25 10\n26 10\n27 10\n28 10\n29 10\n30 11\n31 9\n'
+timeout 60 $run "$bin/pack" < "$work/lines" > "$work/back" 2> "$work/err"; ended=$?
+wrote "and back" 0 "" ""
+cmp "$work/back" "$work/want" || bad=1
 exit $bad

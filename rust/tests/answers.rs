@@ -293,7 +293,7 @@ fn the_gap_is_a_distance_that_is_not_checked_again() {
             let (a, b) = (pose(&turns, t).unwrap(), pose(&stands, t).unwrap());
             let ([c, s], [x, y]) = (a.rotation, [b.translation[0] - a.translation[0], b.translation[1] - a.translation[1]]);
             let seen = [c * b.rotation[0] + s * b.rotation[1], c * b.rotation[1] - s * b.rotation[0]];
-            match distance(seen, [c * x + s * y, c * y - s * x], &SQUARE, 0.0, &SQUARE, 0.0, false, &mut Cache::default()) {
+            match distance(seen, [c * x + s * y, c * y - s * x], &SQUARE, 0.0, &SQUARE, 0.0, false, 41, &mut Cache::default()) {
                 Ok(measured) => assert!((measured.distance - apart).abs() < 1e-5, "{} {apart}", measured.distance),
                 Err(refusal) => {
                     assert!(refusal == Refusal(5) && seen[0] > 1.0);

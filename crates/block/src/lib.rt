@@ -51,6 +51,14 @@ pub fn sum_before(part: &[u8], form: u8) -> u32
     (weighed_sum(part) % 0x1_0000_0000) as u32
 }
 
+// All 128 words, the check among them, added modulo 2^32.
+pub fn sum_of_words(part: &[u8]) -> u32
+    ensures { λ r. ⌜ r ≡ sumOfWords (now (part .entry)) 128 % 2 ^ 32 ⌝ }
+{
+    let sum = sum_before(part, 0);
+    std::num::wrapping_add_u32(sum, wire::word(part, 508))
+}
+
 // Whether they and the check make FFFFFFFF, in the form that byte 6 says.
 fn check_holds(part: &[u8]) -> bool
     ensures { λ r. ⌜ r ≡ checkHolds (now (part .entry)) ⌝ }

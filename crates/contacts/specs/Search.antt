@@ -7,7 +7,7 @@ use lib.Ieee.{binary32}
 use lib.ListN.{length}
 use Rattle.model.specs.Block.{blockSize}
 use Rattle.model.specs.Sheet.{answers}
-use Rattle.lines.specs.Put.{whereRoom}
+use Rattle.text.specs.Put.{whereRoom}
 use Rattle.model.specs.Parts.{countLimit, isLast}
 use Rattle.contacts.specs.declared.Searched.{Searched}
 use Rattle.contacts.specs.First.{firstFrom, said}

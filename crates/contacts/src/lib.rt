@@ -7,7 +7,7 @@ ghost use lib.ListN.{length};
 ghost use lib.Ieee.{binary32};
 ghost use Rattle.model.specs.Block.{blockSize};
 ghost use Rattle.model.specs.Sheet.{wholeAnswers};
-ghost use Rattle.lines.specs.Put.{Put};
+ghost use Rattle.text.specs.Put.{Put};
 ghost use Rattle.model.specs.Parts.{countLimit};
 ghost use Rattle.contacts.specs.First.{touches, isContact, firstFrom, firstContact};
 ghost use Rattle.contacts.specs.Search.{searched, textIn};
@@ -110,9 +110,9 @@ pub fn write_found(found: u64, out: &mut [u8]) -> usize
         return 0;
     }
     if found == 0 {
-        return lines::write_text(b"none\n", out);
+        return text::put_text(out, 0, b"none\n");
     }
-    lines::write_number(found, b'\n', out)
+    text::put_number(out, 0, found, b'\n')
 }
 
 // The same for a whole batch that stands in memory.

@@ -10,7 +10,7 @@ use lib.Dec.{eqb, ltb}
 use lib.ListN.{length, drop}
 use lib.Ieee.{binary32}
 use Rattle.model.specs.Work.{blockAnswer}
-use Rattle.lines.specs.Put.{pasted, Put}
+use Rattle.text.specs.Put.{pasted, Put}
 use Rattle.model.specs.Parts.{countLimit}
 use Rattle.lines.specs.Part.{lineFor}
 use Rattle.foldflake.specs.Entry.{lineTo, LineTold}

@@ -88,6 +88,19 @@ pub fn write_to_output(text: &[u8], n: usize) -> bool {
     write_to(STDOUT_FILENO, b"standard output", text, n)
 }
 
+// The same to standard error.
+pub fn write_to_error(text: &[u8], n: usize) -> bool {
+    write_to(STDERR_FILENO, b"standard error", text, n)
+}
+
+// Writes what stands at the start of one text to standard output, and of the other to standard error.
+pub fn write_both(out: &[u8], n: usize, err: &[u8], m: usize) -> bool {
+    if !write_to_output(out, n) {
+        return false;
+    }
+    write_to_error(err, m)
+}
+
 // Whether a descriptor is open; else that is told under a name.
 fn is_open(fd: i32, name: &[u8]) -> bool {
     if libc::lseek(fd, 0, libc::SEEK_CUR) >= 0 {

@@ -1,5 +1,3 @@
-pub mod Pasted
-mod Digits
 mod Pieces
 mod Parts
 pub mod Run

@@ -18,10 +18,10 @@ use Rattle.model.specs.Work.{blockAnswer}
 use Rattle.model.specs.Sheet.{wholeAnswers, restAnswer, answers, answerLine, linesFrom, oneWorked, counted, totalsFrom}
 use Rattle.model.proofs.DistanceCall.{both}
 use Rattle.model.proofs.Sheet.{lines-append, totals-append, blocks-counted, answers-more, answers-counted}
-use Rattle.lines.specs.Put.{Put}
+use Rattle.text.specs.Put.{Put}
 use Rattle.model.specs.Parts.{countLimit}
 use Rattle.lines.specs.Part.{Below, countable, fits, longestLine}
-use Rattle.lines.proofs.Pasted.{put-then}
+use Rattle.text.proofs.Pasted.{put-then}
 use Rattle.lines.proofs.Pieces.{length-line}
 
 -- ---- the totals

@@ -18,23 +18,12 @@ use Rattle.model.specs.declared.Totals.{Totals}
 use Rattle.model.specs.Sheet.{letterOf, workedLine, refusedLine, answerLine, totalLine}
 use Rattle.model.specs.Separation.{noIndex}
 use Rattle.model.specs.Text.{decimalBy, decimal, hexBy, line}
-use Rattle.lines.specs.Put.{Put}
-use Rattle.lines.specs.Pieces.{number, hex, three, floats, corner, pairText, cornersText}
+use Rattle.text.specs.Put.{number}
+use Rattle.text.proofs.Lengths.{length-number}
+use Rattle.lines.specs.Pieces.{hexOf, three, floats, corner, pairText, cornersText}
 use Rattle.lines.specs.Part.{longestLine}
 
-one-digit-more : (k n : ℕ) (l : List ℕ) (short : Bool) → length l ≤ k → length (cond short ((48 + n) ∷ []) (l ++ ((48 + n % 10) ∷ []))) ≤ suc k
-one-digit-more k n l true h = omega arith
-one-digit-more k n l false h = rw length-append (omega arith)
-
-length-decimal : (k n : ℕ) → length (decimalBy k n) ≤ k
-unfolding decimalBy
-length-decimal zero n = omega arith
-length-decimal (suc k) n = one-digit-more k n (decimalBy k (n / 10)) (ltb n 10) (length-decimal k (n / 10))
-
-pub length-number : (n end : ℕ) → length (number n end) ≤ 21
-length-number n end = rw length-append (omega (arith, length-decimal 20 n))
-
-pub length-hex : (x : Float) → length (hex x) ≤ 9
+pub length-hex : (x : Float) → length (hexOf x) ≤ 9
 unfolding hexBy
 length-hex x = omega arith
 
@@ -80,10 +69,6 @@ length-pair p end =
 length-corners : (k : Corners) → length (cornersText k) ≤ 84
 unfolding cornersText
 length-corners k = rw (length-append (pairText (k .a) 32) (pairText (k .b) 10)) (omega (arith, length-pair (k .a) 32, length-pair (k .b) 10))
-
--- a piece of at most m bytes ends at most m places on
-pub ends : {d d' s : List ℕ} {k e m : ℕ} → Put d k s d' e → length s ≤ m → e ≤ k + m
-ends p short = omega (arith, p .place)
 
 pub length-floats : (c : Contact) → length (floats c) ≤ 45
 unfolding floats hexBy

@@ -7,5 +7,3 @@ mod write;
 pub use part::Written;
 pub use part::write_line;
 pub use part::write_part;
-pub use put::write_number;
-pub use put::write_text;

@@ -12,7 +12,7 @@ ghost use lib.Ieee.{binary32};
 ghost use Rattle.model.specs.Block.{blockSize};
 ghost use Rattle.model.specs.Sheet.{answerLine, wholeAnswers, restAnswer, linesFrom, totalsFrom};
 ghost use Rattle.model.specs.Sheet as Sheet;
-ghost use Rattle.lines.specs.Put.{Put};
+ghost use Rattle.text.specs.Put.{Put};
 ghost use Rattle.model.specs.Parts.{countLimit};
 ghost use Rattle.lines.specs.Part.{Below, longestLine, lineFor, textFor, totalsFor, lastFor};
 ghost use Rattle.lines.specs.Part as Part;

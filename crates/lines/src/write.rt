@@ -12,7 +12,7 @@ ghost use Prim.Native.Nat.{_+_, _≤_};
 ghost use lib.ListN.{length};
 ghost use lib.Ieee.{binary32};
 ghost use Rattle.model.specs.Sheet.{workedLine, answerLine, totalLine};
-ghost use Rattle.lines.specs.Put.{Put};
+ghost use Rattle.text.specs.Put.{Put};
 ghost use Rattle.lines.specs.Part.{longestLine};
 
 fn put_worked(out: &mut [u8], at: usize, n: u64, job: u32, v: Verdict) -> usize

@@ -29,10 +29,13 @@ use Rattle.work.proofs as work
 use Rattle.lines.proofs as lines
 use Rattle.contacts.proofs as contacts
 use Rattle.forms.proofs as forms
+use Rattle.job_text.proofs as job_text
 use Rattle.foldflake.proofs as foldflake
 use Rattle.toi_proxy.specs.declared.ToiProxy.{ToiProxy}
 use Rattle.lines.specs.declared.part.Written.{Written}
 use Rattle.forms.specs.declared.Converted.{Converted}
+use Rattle.job_text.specs.declared.pack.Packed.{Packed}
+use Rattle.job_text.specs.declared.unpack.Unpacked.{Unpacked}
 
 -- `ToiProxy`, where a contract tells its parts
 toi-proxy-by-parts : {x y : ToiProxy} → x .points ≡ y .points → x .radius ≡ y .radius → x ≡ y
@@ -45,6 +48,14 @@ written-by-parts p0 p1 p2 = λ i. record { at = p0 i; totals = p1 i; last = p2 i
 -- `Converted`, where a contract tells its parts
 converted-by-parts : {x y : Converted} → x .file ≡ y .file → x .text ≡ y .text → x .blocks ≡ y .blocks → x .last ≡ y .last → x ≡ y
 converted-by-parts p0 p1 p2 p3 = λ i. record { file = p0 i; text = p1 i; blocks = p2 i; last = p3 i }
+
+-- `Packed`, where a contract tells its parts
+packed-by-parts : {x y : Packed} → x .held ≡ y .held → x .at ≡ y .at → x .told ≡ y .told → x ≡ y
+packed-by-parts p0 p1 p2 = λ i. record { held = p0 i; at = p1 i; told = p2 i }
+
+-- `Unpacked`, where a contract tells its parts
+unpacked-by-parts : {x y : Unpacked} → x .blocks ≡ y .blocks → x .at ≡ y .at → x .told ≡ y .told → x ≡ y
+unpacked-by-parts p0 p1 p2 = λ i. record { blocks = p0 i; at = p1 i; told = p2 i }
 
 module _ {M : Type 1} (𝓤 : URA M) (H : Heap 𝓤) (A : Atoms 𝓤) (mem : Memory → SProp 𝓤) (run : Routine → Fun 𝓤) where
   -- ---- root_list
@@ -567,6 +578,13 @@ module _ {M : Type 1} (𝓤 : URA M) (H : Heap 𝓤) (A : Atoms 𝓤) (mem : Mem
     once = λ κs a g r r' v v'. told 𝓤 (λ p q. (search same-value, refl));
   }
 
+  pub block-sum-of-words : OneResult 𝓤 H A block.sum_of_words.ended (block.sum_of_words.spec 𝓤 H A mem run)
+  block-sum-of-words = record {
+    clauses = block.sum_of_words.clauses 𝓤 H A mem run;
+    of-contract = refl;
+    once = λ κs a g r r' v v'. told 𝓤 (λ p q. (search same-value, refl));
+  }
+
   -- ---- work
   pub work-answer-block : OneResult 𝓤 H A work.answer_block.ended (work.answer_block.spec 𝓤 H A mem run)
   work-answer-block = record {
@@ -604,25 +622,11 @@ module _ {M : Type 1} (𝓤 : URA M) (H : Heap 𝓤) (A : Atoms 𝓤) (mem : Mem
     once = λ κs a g r r' v v'. told 𝓤 (λ p q. (search same-value, each-list lines.write_line.ended κs a v v' (search same-value depth 12)));
   }
 
-  pub lines-write-number : OneResult 𝓤 H A lines.write_number.ended (lines.write_number.spec 𝓤 H A mem run)
-  lines-write-number = record {
-    clauses = lines.write_number.clauses 𝓤 H A mem run;
-    of-contract = refl;
-    once = λ κs a g r r' v v'. told 𝓤 (λ p q. (search same-value, each-list lines.write_number.ended κs a v v' (search same-value depth 12)));
-  }
-
   pub lines-write-part : OneResult 𝓤 H A lines.write_part.ended (lines.write_part.spec 𝓤 H A mem run)
   lines-write-part = record {
     clauses = lines.write_part.clauses 𝓤 H A mem run;
     of-contract = refl;
     once = λ κs a g r r' v v'. told-in-two 𝓤 (λ p q. (search (same-value, written-by-parts), each-list lines.write_part.ended κs a v v' (search same-value depth 12)));
-  }
-
-  pub lines-write-text : OneResult 𝓤 H A lines.write_text.ended (lines.write_text.spec 𝓤 H A mem run)
-  lines-write-text = record {
-    clauses = lines.write_text.clauses 𝓤 H A mem run;
-    of-contract = refl;
-    once = λ κs a g r r' v v'. told 𝓤 (λ p q. (search same-value, each-list lines.write_text.ended κs a v v' (search same-value depth 12)));
   }
 
   -- ---- contacts
@@ -653,6 +657,49 @@ module _ {M : Type 1} (𝓤 : URA M) (H : Heap 𝓤) (A : Atoms 𝓤) (mem : Mem
     clauses = forms.convert_part.clauses 𝓤 H A mem run;
     of-contract = refl;
     once = λ κs a g r r' v v'. told-in-two 𝓤 (λ p q. (search (same-value, converted-by-parts), each-list forms.convert_part.ended κs a v v' (search same-value depth 12)));
+  }
+
+  -- ---- job_text
+  pub job-text-check-plain : OneResult 𝓤 H A job_text.check_plain.ended (job_text.check_plain.spec 𝓤 H A mem run)
+  job-text-check-plain = record {
+    clauses = job_text.check_plain.clauses 𝓤 H A mem run;
+    of-contract = refl;
+    once = λ κs a g r r' v v'. told 𝓤 (λ p q. (search same-value, refl));
+  }
+
+  pub job-text-no-line : OneResult 𝓤 H A job_text.no_line.ended (job_text.no_line.spec 𝓤 H A mem run)
+  job-text-no-line = record {
+    clauses = job_text.no_line.clauses 𝓤 H A mem run;
+    of-contract = refl;
+    once = λ κs a g r r' v v'. told 𝓤 (λ p q. (search same-value, refl));
+  }
+
+  pub job-text-pack-part : OneResult 𝓤 H A job_text.pack_part.ended (job_text.pack_part.spec 𝓤 H A mem run)
+  job-text-pack-part = record {
+    clauses = job_text.pack_part.clauses 𝓤 H A mem run;
+    of-contract = refl;
+    once = λ κs a g r r' v v'. told-in-two 𝓤 (λ p q. (search (same-value, packed-by-parts), each-list job_text.pack_part.ended κs a v v' (search same-value depth 12)));
+  }
+
+  pub job-text-tell-last : OneResult 𝓤 H A job_text.tell_last.ended (job_text.tell_last.spec 𝓤 H A mem run)
+  job-text-tell-last = record {
+    clauses = job_text.tell_last.clauses 𝓤 H A mem run;
+    of-contract = refl;
+    once = λ κs a g r r' v v'. told 𝓤 (λ p q. (search same-value, each-list job_text.tell_last.ended κs a v v' (search same-value depth 12)));
+  }
+
+  pub job-text-tell-rest : OneResult 𝓤 H A job_text.tell_rest.ended (job_text.tell_rest.spec 𝓤 H A mem run)
+  job-text-tell-rest = record {
+    clauses = job_text.tell_rest.clauses 𝓤 H A mem run;
+    of-contract = refl;
+    once = λ κs a g r r' v v'. told 𝓤 (λ p q. (search same-value, each-list job_text.tell_rest.ended κs a v v' (search same-value depth 12)));
+  }
+
+  pub job-text-unpack-part : OneResult 𝓤 H A job_text.unpack_part.ended (job_text.unpack_part.spec 𝓤 H A mem run)
+  job-text-unpack-part = record {
+    clauses = job_text.unpack_part.clauses 𝓤 H A mem run;
+    of-contract = refl;
+    once = λ κs a g r r' v v'. told-in-two 𝓤 (λ p q. (search (same-value, unpacked-by-parts), each-list job_text.unpack_part.ended κs a v v' (search same-value depth 12)));
   }
 
   -- ---- foldflake

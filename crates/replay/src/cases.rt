@@ -47,3 +47,30 @@ pub fn tell(row: &[u8], end: usize, out: &[u8], err: &[u8], file: &[u8], words: 
     let file_same = check::same(&row[file_at..file_end], file);
     put(words, 3, (out_same & err_same & file_same) as u32);
 }
+
+// The first n bytes of a text behind what stands there already; the answer is the place after them.
+pub fn append(out: &mut [u8], at: usize, text: &[u8], n: usize) -> usize {
+    if text.len() < n {
+        return at;
+    }
+    text::put_text(out, at, &text[..n])
+}
+
+// The same as `tell`, of texts that stand at the start of their bytes, with no second file.
+pub fn tell_first(
+    row: &[u8],
+    end: usize,
+    out: &[u8],
+    at: usize,
+    err: &[u8],
+    told: usize,
+    words: &mut Words,
+) {
+    if out.len() < at {
+        return;
+    }
+    if err.len() < told {
+        return;
+    }
+    tell(row, end, &out[..at], &err[..told], b"", words);
+}

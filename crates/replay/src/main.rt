@@ -7,11 +7,13 @@ mod conversions;
 mod distances;
 mod first_contacts;
 mod operations;
+mod packed;
 mod plates;
 mod pool;
 mod sweeps;
 mod table;
 mod tally;
+mod unpacked;
 mod words;
 
 use libc::STDIN_FILENO;

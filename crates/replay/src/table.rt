@@ -4,11 +4,13 @@ use crate::conversions;
 use crate::distances;
 use crate::first_contacts;
 use crate::operations;
+use crate::packed;
 use crate::plates;
 use crate::pool::Numbers;
 use crate::sweeps;
 use crate::tally;
 use crate::tally::Counts;
+use crate::unpacked;
 use crate::words;
 use crate::words::Words;
 ghost use mathlib.Core.Path.{_≡_};
@@ -45,6 +47,8 @@ fn shape_of(table: u32) -> RowShape
         5 => shape(4644, 0, 12, 6),
         6 => shape(44, 0, 12, 8),
         7 => shape(10912, 0, 8, 4),
+        8 => shape(10912, 0, 8, 4),
+        9 => shape(10912, 0, 8, 4),
         _ => shape(65536, 0, 0, 0),
     }
 }
@@ -58,6 +62,8 @@ fn answer(table: u32, row: &[u8], n: u64, pool: &[u8], numbers: &[f32], words: &
         5 => first_contacts::answer(row, words),
         6 => plates::answer(row, words),
         7 => conversions::answer(row, words),
+        8 => packed::answer(row, words),
+        9 => unpacked::answer(row, words),
         _ => {}
     }
 }

@@ -7,11 +7,12 @@ use native.Mathlib.Nat.{le-antisymm}
 use lib.ListN.{length}
 use lib.Ieee.{binary32}
 use Rattle.model.specs.Sheet.{wholeAnswers, linesFrom, totalsFrom}
-use Rattle.lines.specs.Put.{Put}
+use Rattle.text.specs.Put.{Put}
 use Rattle.model.specs.Parts.{countLimit}
 use Rattle.lines.specs.Part.{Below, longestLine}
-use Rattle.lines.proofs.Pasted.{put-nothing}
-use Rattle.lines.proofs.Pieces.{ends, length-line}
+use Rattle.text.proofs.Pasted.{put-nothing}
+use Rattle.text.proofs.Lengths.{ends}
+use Rattle.lines.proofs.Pieces.{length-line}
 use Rattle.lines.proofs.Parts.{below-less, below-more, line-step, totals-step}
 use Rattle.lines.proofs.part.write_blocks.Statement.{statement}
 use Rattle.lines.proofs.part.write_blocks.Tie as tie

@@ -1,6 +1,6 @@
 -- `lines::part::write_line` meets its contract: nothing where there is no room, else the line. Assumes nothing.
 use borrow.Author.Tests.{lt-ltb, le-ltb}
-use Rattle.lines.proofs.Pasted.{put-nothing}
+use Rattle.text.proofs.Pasted.{put-nothing}
 use borrow.Author.Needs.{needs}
 use Rattle.lines.proofs.part.write_line.Statement.{statement}
 use Rattle.lines.proofs.part.write_line.Tie as tie

@@ -5,8 +5,8 @@ use Prim.Native.Nat.{_%_}
 use native.Mathlib.Omega.{arith}
 use lib.ListN.{length}
 use borrow.Author.Tests.{lt-ltb, le-ltb, not-true, not-false}
-use Rattle.lines.proofs.Pasted.{put-nothing, put-then}
-use Rattle.lines.proofs.Pieces.{ends}
+use Rattle.text.proofs.Pasted.{put-nothing, put-then}
+use Rattle.text.proofs.Lengths.{ends}
 use Rattle.lines.proofs.Parts.{fits-room, below-less, length-rest, all-lines, all-totals}
 use borrow.Author.Needs.{needs}
 use Rattle.lines.proofs.part.write_part.Statement.{statement}

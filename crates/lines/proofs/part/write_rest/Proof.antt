@@ -3,7 +3,7 @@ use mathlib.Core.Path.{refl}
 use mathlib.Core.List.{append-nil}
 use borrow.Author.Tests.{eq-eqb, ne-eqb}
 use Rattle.model.specs.Sheet.{linesFrom, totalsFrom}
-use Rattle.lines.proofs.Pasted.{put-nothing}
+use Rattle.text.proofs.Pasted.{put-nothing}
 use borrow.Author.Needs.{needs}
 use Rattle.lines.proofs.part.write_rest.Statement.{statement}
 use Rattle.lines.proofs.part.write_rest.Tie as tie

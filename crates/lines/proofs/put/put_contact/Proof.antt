@@ -1,8 +1,9 @@
 -- `lines::put::put_contact` meets its contract: five floats, one after the other. Assumes nothing.
 use native.Mathlib.Omega.{arith}
 use Rattle.lines.specs.Pieces.{floats}
-use Rattle.lines.proofs.Pasted.{put-then}
-use Rattle.lines.proofs.Pieces.{length-hex, ends}
+use Rattle.text.proofs.Pasted.{put-then}
+use Rattle.text.proofs.Lengths.{ends}
+use Rattle.lines.proofs.Pieces.{length-hex}
 use borrow.Author.Needs.{needs}
 use Rattle.lines.proofs.put.put_contact.Statement.{statement}
 use Rattle.lines.proofs.put.put_contact.Tie as tie

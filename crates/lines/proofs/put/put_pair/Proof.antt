@@ -1,7 +1,8 @@
 -- `lines::put::put_pair` meets its contract: its two pieces, one after the other. Assumes nothing.
 use native.Mathlib.Omega.{arith}
-use Rattle.lines.proofs.Pasted.{put-then}
-use Rattle.lines.proofs.Pieces.{length-corner, pair-is, ends}
+use Rattle.text.proofs.Pasted.{put-then}
+use Rattle.text.proofs.Lengths.{ends}
+use Rattle.lines.proofs.Pieces.{length-corner, pair-is}
 use borrow.Author.Needs.{needs}
 use Rattle.lines.proofs.put.put_pair.Statement.{statement}
 use Rattle.lines.proofs.put.put_pair.Tie as tie

@@ -1,7 +1,8 @@
 -- `lines::put::put_three` meets its contract: three numbers, one after the other. Assumes nothing.
 use native.Mathlib.Omega.{arith}
-use Rattle.lines.proofs.Pasted.{put-then}
-use Rattle.lines.proofs.Pieces.{length-number, three-is, ends}
+use Rattle.text.proofs.Pasted.{put-then}
+use Rattle.text.proofs.Lengths.{length-number, ends}
+use Rattle.lines.proofs.Pieces.{three-is}
 use borrow.Author.Needs.{needs}
 use Rattle.lines.proofs.put.put_three.Statement.{statement}
 use Rattle.lines.proofs.put.put_three.Tie as tie

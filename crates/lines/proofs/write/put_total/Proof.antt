@@ -1,7 +1,8 @@
 -- `lines::write::put_total` meets its contract: its pieces, one after the other. Assumes nothing.
 use native.Mathlib.Omega.{arith}
-use Rattle.lines.proofs.Pasted.{put-then}
-use Rattle.lines.proofs.Pieces.{length-number, total-is, ends}
+use Rattle.text.proofs.Pasted.{put-then}
+use Rattle.text.proofs.Lengths.{length-number, ends}
+use Rattle.lines.proofs.Pieces.{total-is}
 use borrow.Author.Needs.{needs}
 use Rattle.lines.proofs.write.put_total.Statement.{statement}
 use Rattle.lines.proofs.write.put_total.Tie as tie

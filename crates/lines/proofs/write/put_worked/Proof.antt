@@ -3,8 +3,9 @@ use mathlib.Core.Path.{_∙_}
 use native.Mathlib.Omega.{arith}
 use Prim.Native.Nat.{_≤_}
 use lib.ListN.{length}
-use Rattle.lines.proofs.Pasted.{put-then}
-use Rattle.lines.proofs.Pieces.{length-number, length-three, length-floats, worked-is, ends}
+use Rattle.text.proofs.Pasted.{put-then}
+use Rattle.text.proofs.Lengths.{length-number, ends}
+use Rattle.lines.proofs.Pieces.{length-three, length-floats, worked-is}
 use borrow.Author.Needs.{needs}
 use Rattle.lines.proofs.write.put_worked.Statement.{statement}
 use Rattle.lines.proofs.write.put_worked.Tie as tie

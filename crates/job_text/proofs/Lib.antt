@@ -1,0 +1,11 @@
+mod Built
+mod Held
+mod Lines
+pub mod Passed
+mod Compared
+pub mod Read
+pub mod RoundTrip
+pub mod Runs
+mod Blocks
+pub mod Alone
+mod Shown

@@ -1,0 +1,103 @@
+-- Lines to blocks, byte by byte: a run holds the line that it is in, and what it has written of both texts.
+use Prim.Native.Nat.{ℕ, _+_, _/_}
+use mathlib.Core.Bool.{Bool, cond}
+use mathlib.Core.List.{List, [], _∷_, _++_}
+use lib.Dec.{eqb, ltb}
+use lib.ListN.{length, take, replicate}
+use mathlib.Core.Path.{_≡_}
+use Rattle.model.specs.Block.{blockSize}
+use Rattle.text.specs.Put.{pasted, Put}
+use Rattle.job_text.specs.declared.pack.Held.{Held}
+use Rattle.job_text.specs.Job.{blockFor, isJob}
+use Rattle.job_text.specs.Room.{refusal, toldFor, usedOf}
+
+-- no job's line is longer, its newline included: three numbers of 21 bytes at most, and 88 words of nine
+abbrev pub longestLine : ℕ
+longestLine = 855
+
+-- what a whole line adds to standard output, and as line n to standard error
+abbrev pub packed : List ℕ → List ℕ
+packed l = cond (isJob l) (blockFor l) []
+
+abbrev pub complaint : ℕ → List ℕ → List ℕ
+complaint n l = cond (isJob l) [] (refusal n 14)
+
+pub record Run : Type 0 where
+  pub out : List ℕ
+  pub told : List ℕ
+  pub line : List ℕ
+  pub lines : ℕ
+
+-- of a line longer than any job's no more is kept: what is kept has no newline, and is no job either
+abbrev pub longer : List ℕ → ℕ → List ℕ
+longer l x = cond (ltb (length l) longestLine) (l ++ (x ∷ [])) l
+
+abbrev pub lineEnded : Run → List ℕ → Run
+lineEnded r l = record { out = r .out ++ packed l; told = r .told ++ complaint (r .lines + 1) l; line = []; lines = r .lines + 1 }
+
+abbrev pub lineOn : Run → List ℕ → Run
+lineOn r l = record { out = r .out; told = r .told; line = l; lines = r .lines }
+
+abbrev pub byteMore : Run → ℕ → Run
+byteMore r x = cond (eqb x 10) (lineEnded r (longer (r .line) x)) (lineOn r (longer (r .line) x))
+
+unfoldable pub runOver : Run → List ℕ → Run
+runOver r [] = r
+runOver r (x ∷ xs) = runOver (byteMore r x) xs
+
+-- ---- by parts
+abbrev pub held : List ℕ → ℕ → ℕ → Held
+held l size lines = record { line = l; size = size; lines = lines }
+
+-- a line, handed on with zeros after it
+abbrev pub heldOf : List ℕ → ℕ → Held
+heldOf l lines = held (pasted (replicate longestLine 0) 0 l) (length l) lines
+
+abbrev pub heldAfter : Run → Held
+heldAfter r = heldOf (r .line) (r .lines)
+
+-- nothing written yet, in the line that is held
+abbrev pub fresh : Held → Run
+fresh h = record { out = []; told = []; line = take (h .size) (h .line); lines = h .lines }
+
+-- how many bytes of a part are packed into such rooms, and the run over them
+abbrev pub usedBytes : Held → List ℕ → List ℕ → List ℕ → ℕ
+usedBytes h part out err = usedOf (length part) (length out / blockSize) (length err) (h .lines)
+
+abbrev pub runIn : Held → List ℕ → List ℕ → List ℕ → Run
+runIn h part out err = runOver (fresh h) (take (usedBytes h part out err) part)
+
+-- after the last part: a line without its newline is no job
+abbrev pub lastFor : Held → ℕ → List ℕ
+lastFor h room = cond (eqb (h .size) 0) [] (toldFor (h .lines) 14 room)
+
+-- ---- a whole text
+abbrev pub atStart : Run
+atStart = record { out = []; told = []; line = []; lines = 0 }
+
+-- a line without its newline is no job
+abbrev pub unfinished : Run → List ℕ
+unfinished r = cond (eqb (length (r .line)) 0) [] (refusal (r .lines + 1) 14)
+
+abbrev pub packOut : List ℕ → List ℕ
+packOut b = runOver atStart b .out
+
+abbrev pub packTold : List ℕ → List ℕ
+packTold b = runOver atStart b .told ++ unfinished (runOver atStart b)
+
+-- the same by parts, each from what the one before it handed on
+unfoldable pub outOver : Held → List (List ℕ) → List ℕ
+outOver h [] = []
+outOver h (p ∷ ps) = runOver (fresh h) p .out ++ outOver (heldAfter (runOver (fresh h) p)) ps
+
+unfoldable pub toldOver : Held → List (List ℕ) → List ℕ
+toldOver h [] = cond (eqb (h .size) 0) [] (refusal (h .lines + 1) 14)
+toldOver h (p ∷ ps) = runOver (fresh h) p .told ++ toldOver (heldAfter (runOver (fresh h) p)) ps
+
+-- ---- what one byte does to the places after both texts, the size of the line and the count of lines
+module _ (x : ℕ) (l : List ℕ) (lines : ℕ) (out : List ℕ) (at : ℕ) (out' : List ℕ) (at' : ℕ) (err : List ℕ) (told : ℕ) (err' : List ℕ) (told' : ℕ) (size lines' : ℕ) where
+  pub record Ends : Type 0 where
+    pub written : Put out at (cond (eqb x 10) (packed l) []) out' at'
+    pub complaints : Put err told (cond (eqb x 10) (complaint (lines + 1) l) []) err' told'
+    pub held : size ≡ cond (eqb x 10) 0 (length l)
+    pub ended : lines' ≡ cond (eqb x 10) (lines + 1) lines
