@@ -1,0 +1,82 @@
+-- `salvaging::tell_end` meets its contract: four pieces, for which there is room. Assumes nothing.
+use mathlib.Core.Path.{sym, _∙_}
+use native.Mathlib.Omega.{arith}
+use lib.Dec.{leb}
+use lib.ListN.{length}
+use borrow.Author.Tests.{not-true, not-false, lt-leb, le-leb}
+use Rattle.text.proofs.Pasted.{put-nothing}
+use Rattle.salvaging.specs.Part.{skippedOn}
+use Rattle.salvaging.proofs.Laws.{small, and-false, totals}
+use borrow.Author.Needs.{needs}
+use Rattle.salvaging.proofs.tell_end.Statement.{statement}
+use Rattle.salvaging.proofs.tell_end.Tie as tie
+
+returns : tie.Need-returns
+returns c = rw (lt-leb 90 (length (c .before .before .args .text .now)) (c .if1 .taken)) (put-nothing _ _)
+
+countable-requires : tie.Need-countable-requires
+countable-requires c κs = search needs
+
+returns-2 : tie.Need-returns-2
+returns-2 c =
+    let start = c .before .before .before .before in
+    let large = sym (c .before .countable .ensures) ∙ not-true (c .before .countable .result) (c .if2 .taken) in
+    rw (large, and-false (leb 90 (length (start .args .text .now)))) (put-nothing _ _)
+
+add-t13 : tie.Need-add-t13
+add-t13 c =
+    let start = c .before .before .before .before .before in
+    let few = small (start .args .left) (start .args .walk) (sym (c .before .before .countable .ensures) ∙ not-false (c .before .before .countable .result) (c .before .if2 .left)) in
+    omega (arith, few .part, few .run)
+
+put-run-requires : tie.Need-put-run-requires
+put-run-requires c κs =
+    let start = c .before .before .before .before .before .before in
+    let few = small (start .args .left) (start .args .walk) (sym (c .before .before .before .countable .ensures) ∙ not-false (c .before .before .before .countable .result) (c .before .before .if2 .left)) in
+    (omega (arith, c .before .before .before .before .if1 .left), omega (arith, few .kept, few .skipped))
+
+slice-aggregate-put-text : tie.Need-slice-aggregate-put-text
+slice-aggregate-put-text c = search needs
+
+put-text-requires : tie.Need-put-text-requires
+put-text-requires c κs = search needs
+
+put-number-requires : tie.Need-put-number-requires
+put-number-requires c κs = search needs
+
+add-put-number : tie.Need-add-put-number
+add-put-number c =
+    let start = c .before .before .before .before .before .before .before .before .before .before .before .before .before .before .before .before .before .before .before .before in
+    let few = small (start .args .left) (start .args .walk) (sym (c .before .before .before .before .before .before .before .before .before .before .before .before .before .before .before .before .before .countable .ensures) ∙ not-false (c .before .before .before .before .before .before .before .before .before .before .before .before .before .before .before .before .before .countable .result) (c .before .before .before .before .before .before .before .before .before .before .before .before .before .before .before .before .if2 .left)) in
+    omega (arith, few .part, few .skipped, few .run)
+
+put-number-requires-2 : tie.Need-put-number-requires-2
+put-number-requires-2 c κs = search needs
+
+same-length : tie.Need-same-length
+same-length c = search needs
+
+returns-3 : tie.Need-returns-3
+returns-3 c =
+    let start = c .before .before .before .before .before .before .before .before .before .before .before .before .before .before .before .before .before .before .before .before .before .before .before in
+    let room = c .before .before .before .before .before .before .before .before .before .before .before .before .before .before .before .before .before .before .before .before .before .if1 .left in
+    let fine = sym (c .before .before .before .before .before .before .before .before .before .before .before .before .before .before .before .before .before .before .before .before .countable .ensures) ∙ not-false (c .before .before .before .before .before .before .before .before .before .before .before .before .before .before .before .before .before .before .before .before .countable .result) (c .before .before .before .before .before .before .before .before .before .before .before .before .before .before .before .before .before .before .before .if2 .left) in
+    rw (fine, le-leb 90 (length (start .args .text .now)) room)
+    (totals (skippedOn (start .args .left) (start .args .walk)) room (c .before .before .before .before .before .before .before .before .before .before .before .before .before .before .before .before .put-run .ensures) (c .before .before .before .before .before .before .before .before .before .before .before .put-text .ensures) (c .before .before .before .before .before .before .before .put-number .ensures) (c .before .before .put-number2 .ensures))
+
+pub tell-end-spec : {M : Type 1} → statement M
+tell-end-spec =
+    tie.close
+    (tie.spec
+    returns
+    countable-requires
+    returns-2
+    add-t13
+    put-run-requires
+    slice-aggregate-put-text
+    put-text-requires
+    put-number-requires
+    add-put-number
+    put-number-requires-2
+    same-length
+    returns-3)
