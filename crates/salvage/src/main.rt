@@ -54,16 +54,9 @@ fn next_part(name: &[u8], fd: i32, buffer: &mut [u8], left: usize, walk: Walk) -
     write_part(name, fd, buffer, left + filled.count, walk)
 }
 
-fn tell_end(turn: Turn) -> bool {
-    let mut text = io::buffer();
-    let walk = turn.walk;
-    let n = salvaging::tell_end(turn.left, walk, &mut text);
-    input::write_to_output(&text, n)
-}
-
-// Whether all parts were walked. A proved loop has to end, and nothing says that the input does: so the turns are counted, to a number that no run
+// The turn that the run ends with. A proved loop has to end, and nothing says that the input does: so the turns are counted, to a number that no run
 // reaches.
-fn salvage(name: &[u8], fd: i32) -> bool {
+fn walk_all(name: &[u8], fd: i32) -> Turn {
     let mut buffer = io::large_buffer();
     let mut left: usize = 0;
     let mut walk = Walk {
@@ -73,26 +66,48 @@ fn salvage(name: &[u8], fd: i32) -> bool {
     };
     for turn in 0..u64::MAX {
         let turned = next_part(name, fd, &mut buffer, left, walk);
-        if turned.failed {
-            return false;
-        }
         if !turned.more {
-            return tell_end(turned);
+            return turned;
         }
         left = turned.left;
         walk = turned.walk;
     }
-    false
+    failed(walk)
 }
 
-// Collects what is to be written, and puts it in the place of the file.
+fn tell_last_run(left: usize, walk: Walk) -> bool {
+    let mut text = io::buffer();
+    let n = salvaging::tell_last_run(left, walk, &mut text);
+    input::write_to_output(&text, n)
+}
+
+fn tell_total(left: usize, walk: Walk) -> bool {
+    let mut text = io::buffer();
+    let n = salvaging::tell_total(left, walk, &mut text);
+    input::write_to_output(&text, n)
+}
+
+// Collects what is to be written and tells the runs. The totals come when all is written, and then the file takes its place.
 fn replace(name: &[u8], beside: &mut [u8]) {
     let fd = outfile::begin(name, beside);
     if fd < 0 {
         return;
     }
-    if salvage(name, fd) {
-        outfile::finish(name, beside, fd);
+    let turned = walk_all(name, fd);
+    let walk = turned.walk;
+    if turned.failed {
+        return;
+    }
+    if !tell_last_run(turned.left, walk) {
+        return;
+    }
+    if !outfile::prepare(name, beside, fd) {
+        return;
+    }
+    if tell_total(turned.left, walk) {
+        outfile::put_in_place(name, beside);
+    } else {
+        outfile::abandon(beside);
     }
 }
 

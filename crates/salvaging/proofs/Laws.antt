@@ -14,7 +14,7 @@ use Rattle.text.proofs.Lengths.{length-number, ends, roomy}
 use Rattle.forms.specs.Convert.{passes}
 use Rattle.forms.proofs.Kept.{whole-if-passes}
 use Rattle.salvaging.specs.declared.Walk.{Walk}
-use Rattle.salvaging.specs.Walk.{Step, bytesOf, stepAt, keptBy, keptBytes, next, after, runLine, toldBy, runLines, totalText, lastLines}
+use Rattle.salvaging.specs.Walk.{Step, bytesOf, stepAt, keptBy, keptBytes, next, after, runLine, toldBy, runLines, totalText, totalLine}
 use Rattle.salvaging.specs.Walk.Step.{kept, skipped}
 use Rattle.salvaging.specs.Part.{stepsIn, allBytes, restOf, placeLimit, countable, fits, SalvagedTo}
 use Rattle.salvaging.proofs.Steps.{Kind, keeps, skips, kind, Goes, goes, behind, none-left, first-step, over, bytes-append, kept-append, after-append, lines-append}
@@ -83,16 +83,14 @@ two-numbers {d} {d₁} {d₂} {k} {e₁} {e₂} n x m y h p q =
     let size = same-size first (omega (arith, h, length-number n x)) in
     put-then (omega (arith, h)) first (roomy 21 q (omega (arith, h, size, ends first (length-number n x))))
 
-pub totals : {d d₁ d₂ d₃ d₄ : List ℕ} {e₁ e₂ e₃ e₄ : ℕ} (w : Walk) → 90 ≤ length d → Put d 0 (runLine w) d₁ e₁
-    → Put d₁ e₁ (whereRoom (e₁ + 6) (length d₁) totalText) d₂ e₂ → Put d₂ e₂ (whereRoom (e₂ + 21) (length d₂) (number (w .kept) 32)) d₃ e₃
-    → Put d₃ e₃ (whereRoom (e₃ + 21) (length d₃) (number (w .skipped + w .run) 10)) d₄ e₄ → Put d 0 (lastLines w) d₄ e₄
-unfolding lastLines
-totals {d} {d₁} {d₂} {d₃} {d₄} {e₁} {e₂} {e₃} {e₄} w h run word p q =
-    let size₁ = same-size run (omega (arith, h, length-run w)) in
-    let word' = roomy 6 word (omega (arith, h, size₁, ends run (length-run w))) in
-    let size₂ = same-size word' (omega (arith, h, size₁, ends run (length-run w))) in
-    let numbers = two-numbers (w .kept) 32 (w .skipped + w .run) 10 (omega (arith, h, size₁, size₂, ends run (length-run w), word' .place)) p q in
-    put-then (omega arith) run (put-then (omega (arith, h, size₁, ends run (length-run w))) word' numbers)
+pub totals : {d d₁ d₂ d₃ : List ℕ} {e₁ e₂ e₃ : ℕ} (w : Walk) → 48 ≤ length d
+    → Put d 0 (whereRoom (0 + 6) (length d) totalText) d₁ e₁ → Put d₁ e₁ (whereRoom (e₁ + 21) (length d₁) (number (w .kept) 32)) d₂ e₂
+    → Put d₂ e₂ (whereRoom (e₂ + 21) (length d₂) (number (w .skipped + w .run) 10)) d₃ e₃ → Put d 0 (totalLine w) d₃ e₃
+unfolding totalLine
+totals {d} {d₁} {d₂} {d₃} {e₁} {e₂} {e₃} w h word p q =
+    let first = roomy 6 word (omega (arith, h)) in
+    let size = same-size first (omega (arith, h)) in
+    put-then (omega arith) first (two-numbers (w .kept) 32 (w .skipped + w .run) 10 (omega (arith, h, size, first .place)) p q)
 
 -- ---- a step in numbers
 module _ (b : List ℕ) (w : Walk) where
@@ -181,7 +179,7 @@ module _ (b : List ℕ) (w : Walk) (file₀ text₀ : List ℕ) where
   }
 
   module _ (at : ℕ) (now : Walk) (file : List ℕ) (fileAt : ℕ) (text : List ℕ) (textAt : ℕ) (before : Walked at now file fileAt text textAt)
-    (more : at + 512 ≤ length b) where
+      (more : at + 512 ≤ length b) where
     abbrev here : List ℕ
     here = drop at b
 

@@ -9,7 +9,7 @@ use Rattle.model.specs.Block.{blockSize}
 use Rattle.text.specs.Put.{Put}
 use Rattle.salvaging.specs.declared.Walk.{Walk}
 use Rattle.salvaging.specs.declared.Salvaged.{Salvaged}
-use Rattle.salvaging.specs.Walk.{Step, bytesOf, stepsBy, keptBytes, after, runLines, lastLines}
+use Rattle.salvaging.specs.Walk.{Step, bytesOf, stepsBy, keptBytes, after, runLine, runLines, totalLine}
 
 abbrev pub stepsIn : List ℕ → List Step
 stepsIn b = stepsBy blockSize (length b) b
@@ -64,8 +64,11 @@ module _ (b : List ℕ) (w : Walk) (buffer buffer' file file' text text' : List 
 abbrev pub skippedOn : ℕ → Walk → Walk
 skippedOn n w = record { kept = w .kept; skipped = w .skipped; run = w .run + n }
 
-abbrev pub lastFor : ℕ → Walk → ℕ → List ℕ
-lastFor n w textRoom = cond (leb 90 textRoom && countable n w) (lastLines (skippedOn n w)) []
+abbrev pub lastRunFor : ℕ → Walk → ℕ → List ℕ
+lastRunFor n w textRoom = cond (leb 42 textRoom && countable n w) (runLine (skippedOn n w)) []
+
+abbrev pub totalFor : ℕ → Walk → ℕ → List ℕ
+totalFor n w textRoom = cond (leb 48 textRoom && countable n w) (totalLine (skippedOn n w)) []
 
 -- ---- a run over parts, with these rooms for each
 module _ (room textRoom : ℕ) where
@@ -75,7 +78,7 @@ module _ (room textRoom : ℕ) where
       fileFor (held ++ p) w room textRoom ++ fileBy (restFor (held ++ p) w room textRoom) (walkFor (held ++ p) w room textRoom) ps
 
   unfoldable pub textBy : List ℕ → Walk → List (List ℕ) → List ℕ
-  textBy held w [] = lastFor (length held) w textRoom
+  textBy held w [] = lastRunFor (length held) w textRoom ++ totalFor (length held) w textRoom
   textBy held w (p ∷ ps) =
       textFor (held ++ p) w room textRoom ++ textBy (restFor (held ++ p) w room textRoom) (walkFor (held ++ p) w room textRoom) ps
 

@@ -67,8 +67,12 @@ runLines w (s ∷ r) = toldBy w s ++ runLines (next w s) r
 abbrev pub totalText : List ℕ
 totalText = 84 ∷ 79 ∷ 84 ∷ 65 ∷ 76 ∷ 32 ∷ []
 
-unfoldable pub lastLines : Walk → List ℕ
-lastLines w = runLine w ++ (totalText ++ (number (w .kept) 32 ++ number (w .skipped + w .run) 10))
+unfoldable pub totalLine : Walk → List ℕ
+totalLine w = totalText ++ (number (w .kept) 32 ++ number (w .skipped + w .run) 10)
+
+-- at the end
+abbrev pub lastLines : Walk → List ℕ
+lastLines w = runLine w ++ totalLine w
 
 -- ---- a file
 abbrev pub atStart : Walk

@@ -9,7 +9,7 @@ ghost use Rattle.model.specs.Block.{blockSize, badCount};
 ghost use Rattle.forms.specs.Convert.{isGood, passes};
 ghost use Rattle.text.specs.Put.{Put};
 ghost use Rattle.salvaging.specs.Walk.{bytesOf, stepAt, keptBy, keptBytes, next, after, runLine, toldBy, runLines};
-ghost use Rattle.salvaging.specs.Part.{stepsIn, allBytes, lastFor, SalvagedTo};
+ghost use Rattle.salvaging.specs.Part.{stepsIn, allBytes, skippedOn, lastRunFor, totalFor, SalvagedTo};
 ghost use Rattle.salvaging.specs.Part as Part;
 
 // Places below this can be counted on through any part without wrapping.
@@ -148,7 +148,10 @@ fn walk_on(bytes: &[u8], walk: Walk, file: &mut [u8], text: &mut [u8]) -> Reache
 fn countable(size: usize, walk: Walk) -> bool
     ensures { λ r. ⌜ r ≡ Part.countable size walk ⌝ }
 {
-    (size < PLACE_LIMIT as usize) & (walk.kept < PLACE_LIMIT / 512) & (walk.skipped < PLACE_LIMIT) & (walk.run < PLACE_LIMIT)
+    (size < PLACE_LIMIT as usize)
+        & (walk.kept < PLACE_LIMIT / 512)
+        & (walk.skipped < PLACE_LIMIT)
+        & (walk.run < PLACE_LIMIT)
 }
 
 fn fits(size: usize, room: usize, text_room: usize, walk: Walk) -> bool
@@ -168,7 +171,13 @@ fn copy_rest(bytes: &[u8], at: usize) -> [u8; 512]
 }
 
 // Walks the first bytes of a buffer that has so many.
-fn walk_part(buffer: &mut [u8], count: usize, walk: Walk, file: &mut [u8], text: &mut [u8]) -> Salvaged
+fn walk_part(
+    buffer: &mut [u8],
+    count: usize,
+    walk: Walk,
+    file: &mut [u8],
+    text: &mut [u8],
+) -> Salvaged
     requires { ⌜ count ≤ length (now buffer) ⌝ }
     ensures { λ r. ⌜ SalvagedTo (take count (now (buffer .entry))) walk (now (buffer .entry)) (now (buffer .exit)) (now (file .entry)) (now (file .exit)) (now (text .entry)) (now (text .exit)) r ⌝ }
 {
@@ -198,7 +207,13 @@ fn walk_part(buffer: &mut [u8], count: usize, walk: Walk, file: &mut [u8], text:
 
 // Walks the first bytes of a buffer, at most all: blocks that are kept go to the file from its start on, lines of runs to the text, and what is left
 // to the start of the buffer. Where there is no room nothing is written.
-pub fn salvage_part(buffer: &mut [u8], count: usize, walk: Walk, file: &mut [u8], text: &mut [u8]) -> Salvaged
+pub fn salvage_part(
+    buffer: &mut [u8],
+    count: usize,
+    walk: Walk,
+    file: &mut [u8],
+    text: &mut [u8],
+) -> Salvaged
     ensures { λ r. ⌜ SalvagedTo (take count (now (buffer .entry))) walk (now (buffer .entry)) (now (buffer .exit)) (now (file .entry)) (now (file .exit)) (now (text .entry)) (now (text .exit)) r ⌝ }
 {
     let all = buffer.len();
@@ -208,23 +223,43 @@ pub fn salvage_part(buffer: &mut [u8], count: usize, walk: Walk, file: &mut [u8]
     walk_part(buffer, all, walk, file, text)
 }
 
-// The end of the file, with so many bytes left: the last run's line, and the totals.
-pub fn tell_end(left: usize, walk: Walk, text: &mut [u8]) -> usize
-    ensures { λ r. ⌜ Put (now (text .entry)) 0 (lastFor left walk (length (now (text .entry)))) (now (text .exit)) r ⌝ }
+// The walk with so many bytes more skipped.
+fn skipped_on(left: usize, walk: Walk) -> Walk
+    requires { ⌜ Part.countable left walk ≡ true ⌝ }
+    ensures { λ r. ⌜ r ≡ skippedOn left walk ⌝ }
 {
-    if text.len() < 90 {
+    Walk {
+        kept: walk.kept,
+        skipped: walk.skipped,
+        run: walk.run + left as u64,
+    }
+}
+
+// At the end of the file, with so many bytes left: the line of the last run.
+pub fn tell_last_run(left: usize, walk: Walk, text: &mut [u8]) -> usize
+    ensures { λ r. ⌜ Put (now (text .entry)) 0 (lastRunFor left walk (length (now (text .entry)))) (now (text .exit)) r ⌝ }
+{
+    if text.len() < 42 {
         return 0;
     }
     if !countable(left, walk) {
         return 0;
     }
-    let last = Walk {
-        kept: walk.kept,
-        skipped: walk.skipped,
-        run: walk.run + left as u64,
-    };
-    let run_end = put_run(text, 0, last);
-    let word_end = text::put_text(text, run_end, b"TOTAL ");
+    put_run(text, 0, skipped_on(left, walk))
+}
+
+// And the line of the totals.
+pub fn tell_total(left: usize, walk: Walk, text: &mut [u8]) -> usize
+    ensures { λ r. ⌜ Put (now (text .entry)) 0 (totalFor left walk (length (now (text .entry)))) (now (text .exit)) r ⌝ }
+{
+    if text.len() < 48 {
+        return 0;
+    }
+    if !countable(left, walk) {
+        return 0;
+    }
+    let last = skipped_on(left, walk);
+    let word_end = text::put_text(text, 0, b"TOTAL ");
     let kept_end = text::put_number(text, word_end, last.kept, b' ');
     text::put_number(text, kept_end, last.skipped + last.run, b'\n')
 }
