@@ -82,7 +82,7 @@ module _ (room textRoom : ℕ) where
   textBy held w (p ∷ ps) =
       textFor (held ++ p) w room textRoom ++ textBy (restFor (held ++ p) w room textRoom) (walkFor (held ++ p) w room textRoom) ps
 
-  -- each part has room behind what is handed on to it
-  unfoldable pub Placed : List ℕ → List (List ℕ) → Type 0
-  Placed held [] = Unit {0}
-  Placed held (p ∷ ps) = (leb (length (held ++ p)) room ≡ true) × Placed (restOf (held ++ p)) ps
+-- each part has room behind what is handed on to it
+unfoldable pub Placed : ℕ → List ℕ → List (List ℕ) → Type 0
+Placed room held [] = Unit {0}
+Placed room held (p ∷ ps) = (leb (length (held ++ p)) room ≡ true) × Placed room (restOf (held ++ p)) ps
