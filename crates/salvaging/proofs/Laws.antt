@@ -1,10 +1,10 @@
 -- One step more, with the room that it needs. Assumes nothing.
 use mathlib.Core.Path.{_≡_, refl, sym, ap, _∙_}
-use mathlib.Core.Bool.{Bool, true, false, cond, _&&_, true≢false}
+use mathlib.Core.Bool.{Bool, true, false, not, cond, _&&_, true≢false}
 use mathlib.Core.List.{List, [], _∷_, _++_, append-assoc, append-nil}
 use Prim.Native.Nat.{ℕ, _+_, _-_, _*_, _/_, _≤_, _<_}
 use native.Mathlib.Omega.{arith}
-use borrow.Author.Tests.{leb-true, ltb-true, eq-eqb, ne-eqb}
+use borrow.Author.Tests.{not-true, not-false, leb-true, ltb-true, eq-eqb, ne-eqb}
 use lib.Dec.{eqb, leb, ltb}
 use lib.ListN.{length, take, drop, length-append, length-drop}
 use lib.Seq.{drop-drop, length-take-le, take-all, take-length, take-at}
@@ -17,7 +17,7 @@ use Rattle.salvaging.specs.declared.Walk.{Walk}
 use Rattle.salvaging.specs.Walk.{Step, bytesOf, stepAt, keptBy, keptBytes, next, after, runLine, toldBy, runLines, totalText, totalLine}
 use Rattle.salvaging.specs.Walk.Step.{kept, skipped}
 use Rattle.salvaging.specs.Part.{stepsIn, allBytes, restOf, placeLimit, countable, fits, SalvagedTo}
-use Rattle.salvaging.proofs.Steps.{Kind, keeps, skips, kind, Goes, goes, behind, none-left, first-step, over, bytes-append, kept-append, after-append, lines-append}
+use Rattle.salvaging.proofs.Steps.{Kind, keeps, skips, kind, goes, behind, none-left, first-step, bytes-append, kept-append, after-append, lines-append}
 
 -- ---- what room says
 pub record Small (size : ℕ) (w : Walk) : Type 0 where
@@ -39,6 +39,13 @@ both false y e = (cc, cc)
 pub and-false : (x : Bool) → (x && false) ≡ false
 and-false true = refl
 and-false false = refl
+
+-- a test's answer, and the branch that it took
+pub came-out : {t u : Bool} → t ≡ u → not t ≡ false → u ≡ true
+came-out {t} e h = sym e ∙ not-false t h
+
+pub came-out-not : {t u : Bool} → t ≡ u → not t ≡ true → u ≡ false
+came-out-not {t} e h = sym e ∙ not-true t h
 
 pub small : (size : ℕ) (w : Walk) → countable size w ≡ true → Small size w
 small size w e =
@@ -124,10 +131,12 @@ module _ (b : List ℕ) (at : ℕ) (w : Walk) (inside : at + 512 ≤ length b) w
   skipping file fileAt text textAt e = go one (kind (drop at b))
     where
       go : (t : Step) → Kind (drop at b) t
-          → ((at + 1 ≡ at + length (bytesOf t)) × (next w (skipped []) ≡ next w t)) × (Put file fileAt (keptBy t) file fileAt × Put text textAt (toldBy w t) text textAt)
+          → ((at + 1 ≡ at + length (bytesOf t)) × (next w (skipped []) ≡ next w t))
+          × (Put file fileAt (keptBy t) file fileAt × Put text textAt (toldBy w t) text textAt)
       go t (keeps o) = absurd (true≢false (sym o ∙ e))
       go t (skips o) =
-          ((ap (λ (n : ℕ). at + n) (sym (length-take-le 1 (drop at b) (omega (arith, inside, length-drop at b)))), refl), (put-nothing file fileAt, put-nothing text textAt))
+          let one-byte = length-take-le 1 (drop at b) (omega (arith, inside, length-drop at b)) in
+          ((ap (λ (n : ℕ). at + n) (sym one-byte), refl), (put-nothing file fileAt, put-nothing text textAt))
 
   pub keeping : (file : List ℕ) (fileAt : ℕ) (text : List ℕ) (textAt : ℕ) (file' : List ℕ) (fileAt' : ℕ) (text' : List ℕ) (textAt' : ℕ) (size : ℕ)
       → passes (take 512 (drop at b)) ≡ true → size ≡ 512 → fileAt + 512 ≤ length file
@@ -143,7 +152,8 @@ module _ (b : List ℕ) (at : ℕ) (w : Walk) (inside : at + 512 ≤ length b) w
       block = roomy (length (take 512 (drop at b))) (rw f at p) (omega (arith, room, whole))
 
       go : (t : Step) → Kind (drop at b) t
-          → ((at + 512 ≡ at + length (bytesOf t)) × (next w (kept []) ≡ next w t)) × (Put file fileAt (keptBy t) file' fileAt' × Put text textAt (toldBy w t) text' textAt')
+          → ((at + 512 ≡ at + length (bytesOf t)) × (next w (kept []) ≡ next w t))
+          × (Put file fileAt (keptBy t) file' fileAt' × Put text textAt (toldBy w t) text' textAt')
       go t (skips o) = absurd (true≢false (sym e ∙ o))
       go t (keeps o) = ((ap (λ (n : ℕ). at + n) (sym whole), refl), (block, q))
 
@@ -256,7 +266,7 @@ module _ (b : List ℕ) (at : ℕ) where
 
 module _ (b : List ℕ) (w : Walk) (buffer buffer' file file' text text' : List ℕ) where
   pub no-room : fits (length b) (length file) (length text) w ≡ false
-      → SalvagedTo b w buffer buffer file file text text (record { file = 0; text = 0; left = 0; walk = w; done = false })
+      → SalvagedTo b w buffer buffer file file text text 0 0 0 w false
   no-room e = record {
     kept = rw e (put-nothing file 0);
     told = rw e (put-nothing text 0);
@@ -269,7 +279,7 @@ module _ (b : List ℕ) (w : Walk) (buffer buffer' file file' text text' : List 
       → (at ≡ length (allBytes (stepsIn b))) × (now ≡ after w (stepsIn b))
       → Put file 0 (keptBytes (stepsIn b)) file' fileAt × Put text 0 (runLines w (stepsIn b)) text' textAt
       → rest ≡ drop at b → length b ≤ length buffer → Put buffer 0 (whereRoom (0 + length rest) (length buffer) rest) buffer' left
-      → SalvagedTo b w buffer buffer' file file' text text' (record { file = fileAt; text = textAt; left = left; walk = now; done = true })
+      → SalvagedTo b w buffer buffer' file file' text text' fileAt textAt left now true
   with-room at fileAt textAt left now rest e reached puts same inside p =
       let fine : 0 + length rest ≤ length buffer = omega (arith, inside, ap length same, length-drop at b) in
       let all : rest ≡ restOf b = same ∙ ap (λ (n : ℕ). drop n b) (reached .0) in

@@ -4,12 +4,12 @@ use mathlib.Core.Bool.{Bool, true, false, not, _&&_, _||_, true≢false}
 use mathlib.Core.List.{List, _++_}
 use Prim.Native.Nat.{ℕ, zero, suc, _+_, _-_, _*_, _≤_, _<_}
 use native.Mathlib.Omega.{arith}
-use borrow.Author.Tests.{eqb-true, eqb-false, eq-eqb, ltb-true, ltb-false}
-use lib.Dec.{eqb, ltb}
+use borrow.Author.Tests.{eqb-true, eqb-false, eq-eqb}
+use lib.Dec.{eqb}
 use lib.ListN.{length, take, drop, length-drop, List·getD-append}
 use lib.Seq.{length-take-le, getD-take, getD-drop}
 use Rattle.model.specs.Wire.{byte, word}
-use Rattle.model.specs.Block.{jobOf, allZero, badCount, zerosHold, badFields, checkedBlock}
+use Rattle.model.specs.Block.{jobOf, allZero, badCount, zerosHold, checkedBlock}
 use Rattle.block.proofs.Laws.{fair-count}
 use Rattle.forms.specs.Convert.{isGood, passes}
 use Rattle.forms.proofs.SameLine.{is-passed}

@@ -1,18 +1,18 @@
 -- A file walked part by part, what is left handed on each time, comes to what the whole does. Assumes nothing.
 use mathlib.Core.Path.{_≡_, refl, sym, ap, _∙_}
-use mathlib.Core.Bool.{Bool, true, false, cond, true≢false}
+use mathlib.Core.Bool.{Bool, true, false, cond}
 use mathlib.Core.List.{List, [], _∷_, _++_, append-assoc, append-nil}
 use Prim.Native.Nat.{ℕ, zero, suc, _+_, _-_, _*_, _/_, _≤_, _<_}
 use native.Mathlib.Omega.{arith}
 use borrow.Author.Tests.{leb-true, le-leb, lt-ltb, ltb-false}
 use lib.Dec.{leb, ltb}
-use lib.ListN.{length, take, drop, length-append}
+use lib.ListN.{length, drop, length-append}
 use Rattle.model.proofs.Sheet.{together}
 use Rattle.salvaging.specs.declared.Walk.{Walk}
-use Rattle.salvaging.specs.Walk.{Step, bytesOf, stepAt, stepsBy, steps, keptBytes, next, after, runLine, runLines, totalLine, lastLines, atStart, fileOf, textOf}
+use Rattle.salvaging.specs.Walk.{Step, bytesOf, stepAt, stepsBy, steps, keptBytes, next, after, runLines, lastLines, atStart, fileOf, textOf}
 use Rattle.salvaging.specs.Walk.Step.{kept, skipped}
 use Rattle.salvaging.specs.Part.{stepsIn, allBytes, restOf, placeLimit, countable, fits, skippedOn, fileBy, textBy, Placed}
-use Rattle.salvaging.proofs.Steps.{Kind, keeps, skips, kind, behind, whole-inside, none-left, first-step, over, walked-by-parts, kept-append, after-append, lines-append}
+use Rattle.salvaging.proofs.Steps.{Kind, keeps, skips, kind, behind, whole-inside, first-step, over, walked-by-parts, kept-append, after-append, lines-append}
 use Rattle.salvaging.proofs.Laws.{counted}
 
 -- the place after all that was walked
@@ -27,7 +27,8 @@ module _ (least : ℕ) (positive : 1 ≤ least) where
     where
       go : placeOf (after (next w (stepAt b)) (stepsBy least n (behind b))) ≡ placeOf (next w (stepAt b)) + length (allBytes (stepsBy least n (behind b)))
           → (t : Bool) → ltb (length b) least ≡ t
-          → placeOf (after w (cond t [] (stepAt b ∷ stepsBy least n (behind b)))) ≡ placeOf w + length (allBytes (cond t [] (stepAt b ∷ stepsBy least n (behind b))))
+          → placeOf (after w (cond t [] (stepAt b ∷ stepsBy least n (behind b))))
+          ≡ placeOf w + length (allBytes (cond t [] (stepAt b ∷ stepsBy least n (behind b))))
       go later true e = omega arith
       go later false e =
           let some : 1 ≤ length b = omega (arith, positive, ltb-false (length b) least e) in
@@ -68,7 +69,12 @@ all-skipped (x ∷ r) w h =
 module _ (room textRoom : ℕ) (lines : 42 * (room / 512) ≤ textRoom) (long : 48 ≤ textRoom) where
   can-count : (size : ℕ) (w : Walk) → placeOf w + size < placeLimit → countable size w ≡ true
   can-count size w h =
-      rw (lt-ltb size placeLimit (omega (arith, h)), lt-ltb (w .kept) (placeLimit / 512) (omega (arith, h)), lt-ltb (w .skipped) placeLimit (omega (arith, h)), lt-ltb (w .run) placeLimit (omega (arith, h)))
+      rw (
+        lt-ltb size placeLimit (omega (arith, h)),
+        lt-ltb (w .kept) (placeLimit / 512) (omega (arith, h)),
+        lt-ltb (w .skipped) placeLimit (omega (arith, h)),
+        lt-ltb (w .run) placeLimit (omega (arith, h)),
+      )
 
   has-room : (size : ℕ) (w : Walk) → leb size room ≡ true → size ≤ room → placeOf w + size < placeLimit → fits size room textRoom w ≡ true
   has-room size w e inside h = rw (e, le-leb (size / 512) (textRoom / 42) (omega (arith, inside, lines)), can-count size w h)
@@ -119,7 +125,8 @@ module _ (room textRoom : ℕ) (lines : 42 * (room / 512) ≤ textRoom) (long : 
       sym (length-append (allBytes (stepsIn b)) (restOf b)) ∙ ap length (over 512 (omega arith) b .in-order) in
       let far = place-after 512 (omega arith) (length b) b w in
       one-part held w p ps (has-room (length b) w (placed .0) (leb-true (length b) room (placed .0)) (omega (arith, h, sizes)))
-      (from-here (restOf b) (after w (stepsIn b)) ps (over 512 (omega arith) b .few) (omega (arith, h, sizes, walked, far, length-append (restOf b) rest)) (placed .1))
+      (from-here (restOf b) (after w (stepsIn b)) ps (over 512 (omega arith) b .few)
+      (omega (arith, h, sizes, walked, far, length-append (restOf b) rest)) (placed .1))
 
   -- for every file that a machine can hold
   pub run-salvages-whole : (ps : List (List ℕ)) → length (together ps) < placeLimit → Placed room [] ps

@@ -1,13 +1,13 @@
 -- Steps one by one: each goes over its bytes in order, there are always enough of them, and a file in two parts is walked as the whole. Assumes nothing.
 use mathlib.Core.Path.{_≡_, refl, sym, ap, _∙_}
 use mathlib.Core.Bool.{Bool, true, false, cond}
-use mathlib.Core.List.{List, [], _∷_, _++_, append-assoc, append-nil}
-use Prim.Native.Nat.{ℕ, zero, suc, _+_, _-_, _*_, _≤_, _<_}
+use mathlib.Core.List.{List, [], _∷_, _++_, append-assoc}
+use Prim.Native.Nat.{ℕ, zero, suc, _+_, _-_, _≤_, _<_}
 use native.Mathlib.Omega.{arith}
 use borrow.Author.Tests.{ltb-true, ltb-false, lt-ltb, le-ltb}
 use lib.Dec.{ltb}
 use lib.ListN.{length, take, drop, length-append, length-drop, take-append-drop}
-use lib.Seq.{take-all, drop-length, drop-drop, length-take-le, take-append-le, drop-append-le}
+use lib.Seq.{take-all, drop-drop, length-take-le, take-append-le, drop-append-le}
 use Rattle.forms.specs.Convert.{passes}
 use Rattle.forms.proofs.Kept.{whole-if-passes}
 use Rattle.salvaging.specs.declared.Walk.{Walk}

@@ -4,15 +4,15 @@ use mathlib.Core.Bool.{Bool, true, false, true≢false}
 use mathlib.Core.List.{List, [], _∷_, _++_, append-assoc, append-nil}
 use Prim.Native.Nat.{ℕ, zero, suc, _+_, _-_, _*_, _≤_, _<_}
 use native.Mathlib.Omega.{arith}
-use borrow.Author.Tests.{eqb-true, eqb-false, ltb-true, ltb-false, eq-eqb, ne-eqb}
+use borrow.Author.Tests.{eqb-true, eqb-false, ltb-true, ltb-false}
 use lib.Dec.{eqb, ltb}
-use lib.ListN.{length, take, drop, length-drop, drop-of-length-le}
+use lib.ListN.{length, take, drop, length-drop}
 use lib.Seq.{drop-drop, length-take-le}
 use Rattle.text.specs.Put.{number}
 use Rattle.forms.specs.Convert.{passes}
 use Rattle.forms.proofs.Kept.{whole-if-passes}
 use Rattle.salvaging.specs.declared.Walk.{Walk}
-use Rattle.salvaging.specs.Walk.{Step, bytesOf, stepAt, stepsBy, steps, keptBy, keptBytes, next, after, runLine, toldBy, runLines, totalText, totalLine, lastLines, atStart, fileOf, textOf}
+use Rattle.salvaging.specs.Walk.{Step, bytesOf, stepAt, steps, keptBytes, next, after, runLine, runLines, totalText, totalLine, atStart}
 use Rattle.salvaging.specs.Walk.Step.{kept, skipped}
 use Rattle.salvaging.specs.Told.{Run, there, Told, sizes, printed, joined, Salvage}
 use Rattle.salvaging.specs.Told.Told.{end, block, run}

@@ -1,14 +1,13 @@
 -- The same by parts: what is at hand is walked as long as 512 bytes of it are left, and the rest is handed on, in front of the next part.
 use mathlib.Core.Path.{_≡_}
-use Prim.Native.Nat.{ℕ, _+_, _*_, _/_}
-use mathlib.Core.Bool.{Bool, true, false, cond, _&&_}
+use Prim.Native.Nat.{ℕ, _+_, _/_}
+use mathlib.Core.Bool.{Bool, true, cond, _&&_}
 use mathlib.Core.List.{List, [], _∷_, _++_}
 use lib.Dec.{leb, ltb}
 use lib.ListN.{length, drop}
 use Rattle.model.specs.Block.{blockSize}
 use Rattle.text.specs.Put.{Put}
 use Rattle.salvaging.specs.declared.Walk.{Walk}
-use Rattle.salvaging.specs.declared.Salvaged.{Salvaged}
 use Rattle.salvaging.specs.Walk.{Step, bytesOf, stepsBy, keptBytes, after, runLine, runLines, totalLine}
 
 abbrev pub stepsIn : List ℕ → List Step
@@ -52,13 +51,13 @@ module _ (b : List ℕ) (w : Walk) (room textRoom : ℕ) where
   walkFor = cond roomy (after w (stepsIn b)) w
 
 -- what is written of these bytes into the three lists, and answered
-module _ (b : List ℕ) (w : Walk) (buffer buffer' file file' text text' : List ℕ) (r : Salvaged) where
+module _ (b : List ℕ) (w : Walk) (buffer buffer' file file' text text' : List ℕ) (fileAt textAt held : ℕ) (w' : Walk) (was-room : Bool) where
   pub record SalvagedTo : Type 0 where
-    pub kept : Put file 0 (fileFor b w (length file) (length text)) file' (r .file)
-    pub told : Put text 0 (textFor b w (length file) (length text)) text' (r .text)
-    pub left : Put buffer 0 (restFor b w (length file) (length text)) buffer' (r .left)
-    pub walk : r .walk ≡ walkFor b w (length file) (length text)
-    pub done : r .done ≡ roomy b w (length file) (length text)
+    pub kept : Put file 0 (fileFor b w (length file) (length text)) file' fileAt
+    pub told : Put text 0 (textFor b w (length file) (length text)) text' textAt
+    pub left : Put buffer 0 (restFor b w (length file) (length text)) buffer' held
+    pub walk : w' ≡ walkFor b w (length file) (length text)
+    pub done : was-room ≡ roomy b w (length file) (length text)
 
 -- ---- the end of the file, with so many bytes handed on: none of them can start a block
 abbrev pub skippedOn : ℕ → Walk → Walk

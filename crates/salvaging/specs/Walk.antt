@@ -1,7 +1,7 @@
 -- The walk through a file from its start: where the 512 bytes from the present place on pass they are kept, and else one byte is skipped. What it
 -- keeps, and what it tells.
 use Prim.Native.Nat.{ℕ, zero, suc, _+_, _*_}
-use mathlib.Core.Bool.{Bool, cond}
+use mathlib.Core.Bool.{cond}
 use mathlib.Core.List.{List, [], _∷_, _++_}
 use lib.Dec.{eqb, ltb}
 use lib.ListN.{length, take, drop}

@@ -179,7 +179,8 @@ fn walk_part(
     text: &mut [u8],
 ) -> Salvaged
     requires { ⌜ count ≤ length (now buffer) ⌝ }
-    ensures { λ r. ⌜ SalvagedTo (take count (now (buffer .entry))) walk (now (buffer .entry)) (now (buffer .exit)) (now (file .entry)) (now (file .exit)) (now (text .entry)) (now (text .exit)) r ⌝ }
+    ensures { λ r. ⌜ SalvagedTo (take count (now (buffer .entry))) walk (now (buffer .entry)) (now (buffer .exit)) (now (file .entry)) (now (file .exit))
+        (now (text .entry)) (now (text .exit)) (r .file) (r .text) (r .left) (r .walk) (r .done) ⌝ }
 {
     if !fits(count, file.len(), text.len(), walk) {
         return Salvaged {
@@ -214,7 +215,8 @@ pub fn salvage_part(
     file: &mut [u8],
     text: &mut [u8],
 ) -> Salvaged
-    ensures { λ r. ⌜ SalvagedTo (take count (now (buffer .entry))) walk (now (buffer .entry)) (now (buffer .exit)) (now (file .entry)) (now (file .exit)) (now (text .entry)) (now (text .exit)) r ⌝ }
+    ensures { λ r. ⌜ SalvagedTo (take count (now (buffer .entry))) walk (now (buffer .entry)) (now (buffer .exit)) (now (file .entry)) (now (file .exit))
+        (now (text .entry)) (now (text .exit)) (r .file) (r .text) (r .left) (r .walk) (r .done) ⌝ }
 {
     let all = buffer.len();
     if count < all {

@@ -15,7 +15,9 @@ shared-slice-read-if1 : tie.Need-shared-slice-read-if1
 shared-slice-read-if1 c = search needs
 
 returns : tie.Need-returns
-returns c = sym (refused-by-7 (c .before .before .before .args .bytes .now) (c .before .before .before .args .at) (c .before .before .before .pre) (c .if1 .taken))
+returns c =
+    let start = c .before .before .before in
+    sym (refused-by-7 (start .args .bytes .now) (start .args .at) (start .pre) (c .if1 .taken))
 
 add-bad-count : tie.Need-add-bad-count
 add-bad-count c = search needs
@@ -27,7 +29,9 @@ bad-count-requires : tie.Need-bad-count-requires
 bad-count-requires c κs = search needs
 
 returns-2 : tie.Need-returns-2
-returns-2 c = sym (refused-by-a (c .before .before .before .before .before .before .args .bytes .now) (c .before .before .before .before .before .before .args .at) (c .before .before .before .before .before .before .pre) (sym (c .before .bad-count .ensures) ∙ c .if2 .taken))
+returns-2 c =
+    let start = c .before .before .before .before .before .before in
+    sym (refused-by-a (start .args .bytes .now) (start .args .at) (start .pre) (sym (c .before .bad-count .ensures) ∙ c .if2 .taken))
 
 add-bad-count-2 : tie.Need-add-bad-count-2
 add-bad-count-2 c = search needs
@@ -39,7 +43,9 @@ bad-count-requires-2 : tie.Need-bad-count-requires-2
 bad-count-requires-2 c κs = search needs
 
 returns-3 : tie.Need-returns-3
-returns-3 c = sym (refused-by-b (c .before .before .before .before .before .before .before .before .before .args .bytes .now) (c .before .before .before .before .before .before .before .before .before .args .at) (c .before .before .before .before .before .before .before .before .before .pre) (sym (c .before .bad-count2 .ensures) ∙ c .if3 .taken))
+returns-3 c =
+    let start = c .before .before .before .before .before .before .before .before .before in
+    sym (refused-by-b (start .args .bytes .now) (start .args .at) (start .pre) (sym (c .before .bad-count2 .ensures) ∙ c .if3 .taken))
 
 add-end : tie.Need-add-end
 add-end c = search needs
@@ -62,7 +68,8 @@ good-requires c κs = search needs
 returns-4 : tie.Need-returns-4
 returns-4 c =
     let start = c .before .before .before .before .before .before .before .before .before .before .before .before in
-    c .good2 .ensures ∙ ap isGood (c .before .check-block .ensures) ∙ good-there (start .args .bytes .now) (start .args .at) (start .pre) (start .args .at + 512 - start .args .at) (omega arith)
+    c .good2 .ensures ∙ ap isGood (c .before .check-block .ensures)
+    ∙ good-there (start .args .bytes .now) (start .args .at) (start .pre) (start .args .at + 512 - start .args .at) (omega arith)
 
 pub passes-at-spec : {M : Type 1} → statement M
 passes-at-spec =

@@ -25,8 +25,10 @@ same-length c = search needs
 
 returns-2 : tie.Need-returns-2
 returns-2 c =
-    let start = c .before .before .before .before .before .before .before .before .before .before .before .before .before in
-    rw (← a-run (start .args .walk) (c .before .before .before .before .before .before .before .before .before .before .if1 .left)) (two-numbers _ 32 _ 10 (start .pre .0) (c .before .before .before .before .before .before .put-number .ensures) (c .before .before .put-number2 .ensures))
+    let z = c .before .before .before .before .before .before in
+    let start = z .before .before .before .before .before .before .before in
+    rw (← a-run (start .args .walk) (z .before .before .before .before .if1 .left))
+    (two-numbers _ 32 _ 10 (start .pre .0) (z .put-number .ensures) (c .before .before .put-number2 .ensures))
 
 pub put-run-spec : {M : Type 1} → statement M
 put-run-spec =

@@ -35,10 +35,10 @@ same-length-6 c = search needs
 
 returns-2 : tie.Need-returns-2
 returns-2 c =
-    let start = c .before .before .before .before .before .before .before .before .before .before .before .before .before .before in
+    let z = c .before .before .before .before .before .before in
+    let start = z .before .before .before .before .before .before .before .before in
     let buffer = start .args .buffer .now in
-    let all = take-all (start .args .count) buffer (omega (arith, c .before .before .before .before .before .before .before .before .before .before .if1 .left)) ∙ sym (take-length buffer) in
-    rw all (c .before .before .before .before .before .before .walk-part2 .ensures)
+    rw (take-all (start .args .count) buffer (omega (arith, z .before .before .before .before .if1 .left)) ∙ sym (take-length buffer)) (z .walk-part2 .ensures)
 
 pub salvage-part-spec : {M : Type 1} → statement M
 salvage-part-spec =

@@ -1,9 +1,7 @@
 -- `salvaging::step` meets its contract: a byte is skipped, or a block copied and the run before it told. Assumes nothing.
-use mathlib.Core.Path.{sym, _∙_}
 use Prim.Native.Nat.{_+_, _-_}
 use native.Mathlib.Omega.{arith}
-use borrow.Author.Tests.{not-true, not-false}
-use Rattle.salvaging.proofs.Laws.{skipping, keeping}
+use Rattle.salvaging.proofs.Laws.{came-out, came-out-not, skipping, keeping}
 use borrow.Author.Needs.{needs}
 use Rattle.salvaging.proofs.step.Statement.{statement}
 use Rattle.salvaging.proofs.step.Tie as tie
@@ -21,7 +19,8 @@ returns : tie.Need-returns
 returns c =
     let start = c .before .before .before .before .before .before .before in
     let from = start .args .from in
-    skipping (start .args .bytes .now) (from .at) (from .walk) (start .pre .0 .0) _ _ _ _ (sym (c .before .before .passes-at .ensures) ∙ not-true (c .before .before .passes-at .result) (c .before .if1 .taken))
+    skipping (start .args .bytes .now) (from .at) (from .walk) (start .pre .0 .0) _ _ _ _
+    (came-out-not (c .before .before .passes-at .ensures) (c .before .if1 .taken))
 
 add-end : tie.Need-add-end
 add-end c = search needs
@@ -55,11 +54,12 @@ same-length-2 c = search needs
 
 returns-2 : tie.Need-returns-2
 returns-2 c =
-    let start = c .before .before .before .before .before .before .before .before .before .before .before .before .before .before .before .before .before in
+    let z = c .before .before .before .before .before .before .before .before in
+    let start = z .before .before .before .before .before .before .before .before .before in
     let from = start .args .from in
-    let good = sym (c .before .before .before .before .before .before .before .before .before .before .before .before .passes-at .ensures) ∙ not-false (c .before .before .before .before .before .before .before .before .before .before .before .before .passes-at .result) (c .before .before .before .before .before .before .before .before .before .before .before .if1 .left) in
-    keeping (start .args .bytes .now) (from .at) (from .walk) (start .pre .0 .0) _ _ _ _ _ _ _ _ (from .at + 512 - from .at) good (omega arith) (start .pre .0 .1)
-    (c .before .before .before .before .before .before .before .before .put-text .ensures) (c .before .before .before .before .put-run .ensures)
+    let good = came-out (z .before .before .before .before .passes-at .ensures) (z .before .before .before .if1 .left) in
+    keeping (start .args .bytes .now) (from .at) (from .walk) (start .pre .0 .0) _ _ _ _ _ _ _ _ (from .at + 512 - from .at) good (omega arith)
+    (start .pre .0 .1) (z .put-text .ensures) (c .before .before .before .before .put-run .ensures)
 
 pub step-spec : {M : Type 1} → statement M
 step-spec =

@@ -1,11 +1,10 @@
 -- `salvaging::tell_total` meets its contract: three pieces, for which there is room. Assumes nothing.
-use mathlib.Core.Path.{sym, _∙_}
 use native.Mathlib.Omega.{arith}
 use lib.Dec.{leb}
 use lib.ListN.{length}
-use borrow.Author.Tests.{not-true, not-false, lt-leb, le-leb}
+use borrow.Author.Tests.{lt-leb, le-leb}
 use Rattle.text.proofs.Pasted.{put-nothing}
-use Rattle.salvaging.proofs.Laws.{small, and-false, totals}
+use Rattle.salvaging.proofs.Laws.{came-out, came-out-not, small, and-false, totals}
 use borrow.Author.Needs.{needs}
 use Rattle.salvaging.proofs.tell_total.Statement.{statement}
 use Rattle.salvaging.proofs.tell_total.Tie as tie
@@ -18,11 +17,12 @@ countable-requires c κs = search needs
 
 returns-2 : tie.Need-returns-2
 returns-2 c =
-    let large = sym (c .before .countable .ensures) ∙ not-true (c .before .countable .result) (c .if2 .taken) in
+    let large = came-out-not (c .before .countable .ensures) (c .if2 .taken) in
     rw (large, and-false (leb 48 (length (c .before .before .before .before .args .text .now)))) (put-nothing _ _)
 
 skipped-on-requires : tie.Need-skipped-on-requires
-skipped-on-requires c κs = sym (c .before .countable .ensures) ∙ not-false (c .before .countable .result) (c .if2 .left)
+skipped-on-requires c κs =
+    came-out (c .before .countable .ensures) (c .if2 .left)
 
 slice-aggregate-put-text : tie.Need-slice-aggregate-put-text
 slice-aggregate-put-text c = search needs
@@ -35,9 +35,10 @@ put-number-requires c κs = search needs
 
 add-put-number : tie.Need-add-put-number
 add-put-number c =
-    let start = c .before .before .before .before .before .before .before .before .before .before .before .before .before .before .before .before in
-    let few = small (start .args .left) (start .args .walk) (sym (c .before .before .before .before .before .before .before .before .before .before .before .before .before .countable .ensures) ∙ not-false (c .before .before .before .before .before .before .before .before .before .before .before .before .before .countable .result) (c .before .before .before .before .before .before .before .before .before .before .before .before .if2 .left)) in
-    rw (c .before .before .before .before .before .before .before .before .before .before .before .skipped-on .ensures) (omega (arith, few .part, few .skipped, few .run))
+    let z = c .before .before .before .before .before .before .before .before .before .before .before in
+    let start = z .before .before .before .before .before in
+    let few = small (start .args .left) (start .args .walk) (came-out (z .before .before .countable .ensures) (z .before .if2 .left)) in
+    rw (z .skipped-on .ensures) (omega (arith, few .part, few .skipped, few .run))
 
 put-number-requires-2 : tie.Need-put-number-requires-2
 put-number-requires-2 c κs = search needs
@@ -47,11 +48,13 @@ same-length c = search needs
 
 returns-3 : tie.Need-returns-3
 returns-3 c =
-    let start = c .before .before .before .before .before .before .before .before .before .before .before .before .before .before .before .before .before .before .before in
-    let room = c .before .before .before .before .before .before .before .before .before .before .before .before .before .before .before .before .before .if1 .left in
-    let fine = sym (c .before .before .before .before .before .before .before .before .before .before .before .before .before .before .before .before .countable .ensures) ∙ not-false (c .before .before .before .before .before .before .before .before .before .before .before .before .before .before .before .before .countable .result) (c .before .before .before .before .before .before .before .before .before .before .before .before .before .before .before .if2 .left) in
-    rw (fine, le-leb 48 (length (start .args .text .now)) room, ← c .before .before .before .before .before .before .before .before .before .before .before .before .before .before .skipped-on .ensures)
-    (totals (c .before .before .before .before .before .before .before .before .before .before .before .before .before .before .skipped-on .result) room (c .before .before .before .before .before .before .before .before .before .before .before .put-text .ensures) (c .before .before .before .before .before .before .before .put-number .ensures) (c .before .before .put-number2 .ensures))
+    let z = c .before .before .before .before .before .before .before .before .before .before .before .before .before .before in
+    let start = z .before .before .before .before .before in
+    let room = z .before .before .before .if1 .left in
+    let fine = came-out (z .before .before .countable .ensures) (z .before .if2 .left) in
+    rw (fine, le-leb 48 (length (start .args .text .now)) room, ← z .skipped-on .ensures)
+    (totals (z .skipped-on .result) room (c .before .before .before .before .before .before .before .before .before .before .before .put-text .ensures)
+    (c .before .before .before .before .before .before .before .put-number .ensures) (c .before .before .put-number2 .ensures))
 
 pub tell-total-spec : {M : Type 1} → statement M
 tell-total-spec =

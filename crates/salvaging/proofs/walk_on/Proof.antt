@@ -27,9 +27,10 @@ step-requires : tie.Need-step-requires Inv-loop μ-loop
 step-requires c κs =
     let start = c .before .before .before .before .before .before .before .before in
     let l = c .before .before .before .before .loop in
-    let more : l .reached .at + 512 ≤ length (start .args .bytes .now) = omega (arith, c .before .before .if1 .taken, l .inv .2 .inside) in
-    let room = fits-room (length (start .args .bytes .now)) (length (start .args .file .now)) (length (start .args .text .now)) (start .args .walk) (start .pre) in
-    let fine = room-for (start .args .bytes .now) (start .args .walk) _ _ (l .reached .at) (l .reached .walk) _ _ _ _ (l .inv .2) more _ _ room in
+    let b = start .args .bytes .now in
+    let more : l .reached .at + 512 ≤ length b = omega (arith, c .before .before .if1 .taken, l .inv .2 .inside) in
+    let room = fits-room (length b) (length (start .args .file .now)) (length (start .args .text .now)) (start .args .walk) (start .pre) in
+    let fine = room-for b (start .args .walk) _ _ (l .reached .at) (l .reached .walk) _ _ _ _ (l .inv .2) more _ _ room in
     ((more, omega (arith, fine .for-file, l .inv .0), omega (arith, fine .for-text, l .inv .1)), fine .places)
 
 loop-less : tie.Need-loop-less Inv-loop μ-loop
@@ -45,10 +46,13 @@ loop-again : tie.Need-loop-again Inv-loop μ-loop
 loop-again c =
     let start = c .before .before .before .before .before .before .before .before .before .before .before .before .before in
     let l = c .before .before .before .before .before .before .before .before .before .loop in
-    let w = c .before .before .before .before .step in
+    let w = c .before .before .before .before .step .ensures in
     let b = start .args .bytes .now in
-    let more : l .reached .at + 512 ≤ length b = omega (arith, c .before .before .before .before .before .before .before .if1 .taken, l .inv .2 .inside) in
-    (search needs, search needs, one-more b (start .args .walk) _ _ (l .reached .at) (l .reached .walk) _ _ _ _ (l .inv .2) more _ _ _ _ _ _ (w .ensures .0 .0) (w .ensures .0 .1) (w .ensures .1 .0) (w .ensures .1 .1))
+    let more : l .reached .at + 512 ≤ length b = omega (arith, c .before .before .before .before .before .before .before .if1 .taken, l .inv .2 .inside) in (
+      search needs,
+      search needs,
+      one-more b (start .args .walk) _ _ (l .reached .at) (l .reached .walk) _ _ _ _ (l .inv .2) more _ _ _ _ _ _ (w .0 .0) (w .0 .1) (w .1 .0) (w .1 .1),
+    )
 
 same-length : tie.Need-same-length Inv-loop μ-loop
 same-length c = c .before .before .loop .inv .0
@@ -60,7 +64,8 @@ returns : tie.Need-returns Inv-loop μ-loop
 returns c =
     let start = c .before .before .before .before .before .before in
     let l = c .before .before .loop in
-    finished (start .args .bytes .now) (start .args .walk) _ _ (l .reached .at) (l .reached .walk) _ _ _ _ (l .inv .2) (omega (arith, c .if1 .left, l .inv .2 .inside))
+    finished (start .args .bytes .now) (start .args .walk) _ _ (l .reached .at) (l .reached .walk) _ _ _ _ (l .inv .2)
+    (omega (arith, c .if1 .left, l .inv .2 .inside))
 
 pub walk-on-spec : {M : Type 1} → statement M
 walk-on-spec =
