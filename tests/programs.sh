@@ -171,6 +171,12 @@ for name in $(python3 tests/salvage_cases.py "$cases"); do
 done
 replaces "$cases"/both-forms.in "$cases"/both-forms.out "$cases"/both-forms.file "$cases"/both-forms.in "$cases"/no-damage.in "$cases"/lost-in-every-block.in
 
+# a read that fails after some parts: their runs are told, in order, no TOTAL follows, and the file is as it was
+old; input="$cases/lost-in-every-block.in"; fails="$PWD/tests/failing_input.py"
+(cd "$folder" && timeout 60 python3 "$fails" "$input" $run "$bin/salvage" file > "$work/out" 2> "$work/err"); ended=$?
+head -n 256 "$cases/lost-in-every-block.out" > "$work/runs"
+did "a read that fails after four parts" "$work/runs" $'standard input: Input/output error\n' file "$work/before"
+
 # faults PROGRAM INPUT: what it tells where it cannot write, cannot read, or is given an argument
 faults() {
   : > "$work/out"
