@@ -1,12 +1,12 @@
 #!/usr/bin/env bash
-# programs.sh: runs `any_contact`, and `sheet` beside it, and `convert` on the cases below, `pack` and `unpack` on those of tests/job_lines.py, and
-# compares all that they write, standard error and files included. Exit status 1 where one differs. They are x86-64 programs: on another machine RUN
+# programs.sh: runs `any_contact`, and `sheet` beside it, `convert` and `salvage` on the cases below, `pack` and `unpack` on those of
+# tests/job_lines.py, and compares all that they write, standard error and files included. Exit status 1 where one differs. They are x86-64 programs: on another machine RUN
 # names what runs such a program (an emulator). PROGRAMS names another folder than target/bin; where it is not given they are proved and built first.
 set -u
 cd "$(dirname "$0")/.."
 run="${RUN:-}"; bin="${PROGRAMS:-}"
 if [ -z "$bin" ]; then
-  rt check any_contact sheet convert pack unpack > /dev/null || { echo "any_contact, sheet, convert, pack or unpack is not proved"; exit 1; }
+  rt check any_contact sheet convert salvage pack unpack > /dev/null || { echo "any_contact, sheet, convert, salvage, pack or unpack is not proved"; exit 1; }
   bin="$PWD/target/bin"
 fi
 work="$(mktemp -d)"; trap 'rm -r "$work"' EXIT
@@ -87,14 +87,13 @@ left "the same from a pipe" $((3 * 65536))
 { timeout 60 $run "$bin/any_contact" > "$work/out" 2> "$work/err"; ended=$?; cat > "$work/left"; } < "$work/long"
 wrote "a contact in the second part" 0 $'129\n' ""; left "the same" $((2 * 65536))
 
-# ---- convert, in a folder of its own, so that what is left beside its file shows
-folder="$work/folder"; cases="$work/cases"; mkdir "$folder" "$cases"
-names="$(python3 tests/convert_cases.py "$cases")"
+# ---- convert and salvage, in a folder of their own, so that what is left beside the file shows
+folder="$work/folder"; mkdir "$folder"
 : > "$work/no"; echo before > "$work/before"
 
-# converts INPUT [ARGUMENT..]: runs it there
-converts() {
-  (cd "$folder" && timeout 60 $run "$bin/convert" "${@:2}" < "$1" > "$work/out" 2> "$work/err"); ended=$?
+# makes INPUT [ARGUMENT..]: runs $program there
+makes() {
+  (cd "$folder" && timeout 60 $run "$bin/$program" "${@:2}" < "$1" > "$work/out" 2> "$work/err"); ended=$?
 }
 
 # did CASE OUT ERR FILE BYTES: status 0, those bytes printed, that text told, and the folder holds that file alone, with those bytes; or with no FILE
@@ -102,57 +101,81 @@ converts() {
 did() {
   if [ "$ended" = 0 ] && cmp -s "$work/out" "$2" && [ "$(cat "$work/err"; echo .)" = "$3." ] && [ "$(ls -A "$folder")" = "$4" ] \
     && { [ -z "$4" ] || cmp -s "$folder/$4" "$5"; }; then
-    echo "convert, $1: $(wc -l < "$2") printed, ${4:-nothing} left${4:+ with $(wc -c < "$5") bytes}${3:+, told: $3}" | tr -d '\n'; echo
+    echo "$program, $1: $(wc -l < "$2") printed, ${4:-nothing} left${4:+ with $(wc -c < "$5") bytes}${3:+, told: $3}" | tr -d '\n'; echo
   else
-    echo "convert, $1: WRONG: status $ended, told '$(cat "$work/err")', the folder holds '$(ls -A "$folder")'"; bad=1
+    echo "$program, $1: WRONG: status $ended, told '$(cat "$work/err")', the folder holds '$(ls -A "$folder")'"; bad=1
   fi
 }
 fresh() { rm -rf "${folder:?}"; mkdir "$folder"; }
 old() { fresh; cp "$work/before" "$folder/file"; }
 
-for name in $names; do
-  fresh; converts "$cases/$name.in" file;          did "$name" "$cases/$name.out" "" file "$cases/$name.file"
-  converts "$folder/file" file;                    did "$name, its file over itself" "$work/no" "" file "$cases/$name.kept"
-done
-good="$cases/both-forms.in"; made="$cases/both-forms.file"; refused="$cases/wrong-check.in"
-old; converts "$good" file;                        did "over a file that was there" "$work/no" "" file "$made"
-fresh; mkdir "$folder/sub"; converts "$good" sub/file; mv "$folder/sub/file" "$work/sub"; rmdir "$folder/sub"
-did "in another folder" "$work/no" "" "" ""; cmp -s "$work/sub" "$made" || { echo "convert, in another folder: WRONG bytes"; bad=1; }
-for mask in 022 027 077; do
-  old; chmod 600 "$folder/file"; (umask $mask; converts "$good" file; exit $ended); ended=$?
-  did "with umask $mask" "$work/no" "" file "$made"
-  [ "$(stat -c %a "$folder/file")" = "$(printf %o $((0666 & ~0$mask)))" ] || { echo "convert, with umask $mask: WRONG mode"; bad=1; }
-done
+# replaces GOOD SAID MADE LOUD LARGE PIPED: what $program does to files that were there, and where something fails. It prints SAID and makes MADE of
+# GOOD, prints something of LOUD, makes more than 1 KiB of LARGE, and prints more than once of PIPED
+replaces() {
+  good="$1"; said="$2"; made="$3"; loud="$4"; large="$5"; piped="$6"
+  old; makes "$good" file;                         did "over a file that was there" "$said" "" file "$made"
+  fresh; mkdir "$folder/sub"; makes "$good" sub/file; mv "$folder/sub/file" "$work/sub"; rmdir "$folder/sub"
+  did "in another folder" "$said" "" "" ""; cmp -s "$work/sub" "$made" || { echo "$program, in another folder: WRONG bytes"; bad=1; }
+  for mask in 022 027 077; do
+    old; chmod 600 "$folder/file"; (umask $mask; makes "$good" file; exit $ended); ended=$?
+    did "with umask $mask" "$said" "" file "$made"
+    [ "$(stat -c %a "$folder/file")" = "$(printf %o $((0666 & ~0$mask)))" ] || { echo "$program, with umask $mask: WRONG mode"; bad=1; }
+  done
 
-# faults: the file is as it was, or there is none, and nothing is beside it
-asks=$'convert: one argument is taken, the name of the file to write\n'
-fresh; converts "$good";                           did "no argument" "$work/no" "$asks" "" ""
-fresh; converts "$good" a b;                       did "two arguments" "$work/no" "$asks" "" ""
-fresh; converts "$good" "";                        did "an empty argument" "$work/no" "$asks" "" ""
-fresh; converts "$good" /dev/null;                 did "a device" "$work/no" $'/dev/null: not a regular file\n' "" ""
-fresh; converts "$good" /dev/full;                 did "another device" "$work/no" $'/dev/full: not a regular file\n' "" ""
-fresh; converts "$good" .;                         did "a folder" "$work/no" $'.: Is a directory\n' "" ""
-fresh; converts "$good" none/file;                 did "a folder that is missing" "$work/no" $'none/file: No such file or directory\n' "" ""
-fresh; mkfifo "$folder/pipe"; converts "$good" pipe
-[ -p "$folder/pipe" ] && rm "$folder/pipe";        did "a pipe" "$work/no" $'pipe: not a regular file\n' "" ""
-fresh; ln -s ../before "$folder/link"; converts "$good" link
-[ "$(readlink "$folder/link")" = ../before ] && rm "$folder/link"; did "a link" "$work/no" $'link: not a regular file\n' "" ""
-fresh; ln -s nowhere "$folder/link"; converts "$good" link
-[ "$(readlink "$folder/link")" = nowhere ] && rm "$folder/link"; did "a link to nothing" "$work/no" $'link: not a regular file\n' "" ""
-old; converts "$folder" file;                      did "a folder as input" "$work/no" $'standard input: Is a directory\n' file "$work/before"
-old; (cd "$folder" && timeout 60 $run "$bin/convert" file <&- > "$work/out" 2> "$work/err"); ended=$?
-did "closed input" "$work/no" $'standard input: Bad file descriptor\n' file "$work/before"
-old; : > "$work/out"; (cd "$folder" && timeout 60 $run "$bin/convert" file < "$good" >&- 2> "$work/err"); ended=$?
-did "closed output" "$work/no" $'standard output: Bad file descriptor\n' file "$work/before"
-fresh; (cd "$folder" && timeout 60 $run "$bin/convert" file <&- > "$work/out" 2> "$work/err"); ended=$?
-did "closed input, no file" "$work/no" $'standard input: Bad file descriptor\n' "" ""
-old; : > "$work/out"; (cd "$folder" && timeout 60 $run "$bin/convert" file < "$refused" > /dev/full 2> "$work/err"); ended=$?
-did "full output" "$work/no" $'standard output: No space left on device\n' file "$work/before"
-old; (trap '' XFSZ; ulimit -f 1; cd "$folder" && timeout 60 $run "$bin/convert" file < "$cases/form-1.in" > "$work/out" 2> "$work/err"); ended=$?
-did "a file that gets too large" "$work/no" $'file: File too large\n' file "$work/before"
-# the system ends a program that writes to a closed pipe: nothing is told, and the file is as it was
-old; (cd "$folder"; set +o pipefail; cat "$cases"/refused-throughout.in | { timeout 60 $run "$bin/convert" file; echo $? > "$work/status"; } | true) 2> "$work/err"
-ended=0; : > "$work/out"; did "a closed pipe, status $(cat "$work/status")" "$work/no" "" file "$work/before"
+  # faults: the file is as it was, or there is none, and nothing is beside it
+  asks="$program"$': one argument is taken, the name of the file to write\n'
+  fresh; makes "$good";                            did "no argument" "$work/no" "$asks" "" ""
+  fresh; makes "$good" a b;                        did "two arguments" "$work/no" "$asks" "" ""
+  fresh; makes "$good" "";                         did "an empty argument" "$work/no" "$asks" "" ""
+  fresh; makes "$good" /dev/null;                  did "a device" "$work/no" $'/dev/null: not a regular file\n' "" ""
+  fresh; makes "$good" /dev/full;                  did "another device" "$work/no" $'/dev/full: not a regular file\n' "" ""
+  fresh; makes "$good" .;                          did "a folder" "$work/no" $'.: Is a directory\n' "" ""
+  fresh; makes "$good" none/file;                  did "a folder that is missing" "$work/no" $'none/file: No such file or directory\n' "" ""
+  fresh; mkfifo "$folder/pipe"; makes "$good" pipe
+  [ -p "$folder/pipe" ] && rm "$folder/pipe";      did "a pipe" "$work/no" $'pipe: not a regular file\n' "" ""
+  fresh; ln -s ../before "$folder/link"; makes "$good" link
+  [ "$(readlink "$folder/link")" = ../before ] && rm "$folder/link"; did "a link" "$work/no" $'link: not a regular file\n' "" ""
+  fresh; ln -s nowhere "$folder/link"; makes "$good" link
+  [ "$(readlink "$folder/link")" = nowhere ] && rm "$folder/link"; did "a link to nothing" "$work/no" $'link: not a regular file\n' "" ""
+  old; makes "$folder" file;                       did "a folder as input" "$work/no" $'standard input: Is a directory\n' file "$work/before"
+  old; (cd "$folder" && timeout 60 $run "$bin/$program" file <&- > "$work/out" 2> "$work/err"); ended=$?
+  did "closed input" "$work/no" $'standard input: Bad file descriptor\n' file "$work/before"
+  old; : > "$work/out"; (cd "$folder" && timeout 60 $run "$bin/$program" file < "$good" >&- 2> "$work/err"); ended=$?
+  did "closed output" "$work/no" $'standard output: Bad file descriptor\n' file "$work/before"
+  fresh; (cd "$folder" && timeout 60 $run "$bin/$program" file <&- > "$work/out" 2> "$work/err"); ended=$?
+  did "closed input, no file" "$work/no" $'standard input: Bad file descriptor\n' "" ""
+  old; : > "$work/out"; (cd "$folder" && timeout 60 $run "$bin/$program" file < "$loud" > /dev/full 2> "$work/err"); ended=$?
+  did "full output" "$work/no" $'standard output: No space left on device\n' file "$work/before"
+  old; (trap '' XFSZ; ulimit -f 1; cd "$folder" && timeout 60 $run "$bin/$program" file < "$large" > "$work/out" 2> "$work/err"); ended=$?
+  did "a file that gets too large" "$work/no" $'file: File too large\n' file "$work/before"
+  # the system ends a program that writes to a closed pipe: nothing is told, and the file is as it was
+  old; (cd "$folder"; set +o pipefail; cat "$piped" | { timeout 60 $run "$bin/$program" file; echo $? > "$work/status"; } | true) 2> "$work/err"
+  ended=0; : > "$work/out"; did "a closed pipe, status $(cat "$work/status")" "$work/no" "" file "$work/before"
+}
+
+program=convert; cases="$work/convert"; mkdir "$cases"
+for name in $(python3 tests/convert_cases.py "$cases"); do
+  fresh; makes "$cases/$name.in" file;             did "$name" "$cases/$name.out" "" file "$cases/$name.file"
+  makes "$folder/file" file;                       did "$name, its file over itself" "$work/no" "" file "$cases/$name.kept"
+done
+replaces "$cases"/both-forms.in "$work/no" "$cases"/both-forms.file "$cases"/wrong-check.in "$cases"/form-1.in "$cases"/refused-throughout.in
+
+# what was salvaged is salvaged whole; reads of other sizes, from a pipe, change nothing
+program=salvage; cases="$work/salvage"; mkdir "$cases"
+for name in $(python3 tests/salvage_cases.py "$cases"); do
+  fresh; makes "$cases/$name.in" file;             did "$name" "$cases/$name.out" "" file "$cases/$name.file"
+  echo "TOTAL $(($(wc -c < "$cases/$name.file") / 512)) 0" > "$work/whole"
+  makes "$folder/file" file;                       did "$name, its file over itself" "$work/whole" "" file "$cases/$name.file"
+  fresh; mkfifo "$work/reads"; dd if="$cases/$name.in" of="$work/reads" bs=709 2> /dev/null & makes "$work/reads" file; wait; rm "$work/reads"
+  did "$name, from a pipe" "$cases/$name.out" "" file "$cases/$name.file"
+done
+replaces "$cases"/both-forms.in "$cases"/both-forms.out "$cases"/both-forms.file "$cases"/both-forms.in "$cases"/no-damage.in "$cases"/lost-in-every-block.in
+
+# a read that fails after some parts: their runs are told, in order, no TOTAL follows, and the file is as it was
+old; input="$cases/lost-in-every-block.in"; fails="$PWD/tests/failing_input.py"
+(cd "$folder" && timeout 60 python3 "$fails" "$input" $run "$bin/salvage" file > "$work/out" 2> "$work/err"); ended=$?
+head -n 256 "$cases/lost-in-every-block.out" > "$work/runs"
+did "a read that fails after four parts" "$work/runs" $'standard input: Input/output error\n' file "$work/before"
 
 # faults PROGRAM INPUT: what it tells where it cannot write, cannot read, or is given an argument
 faults() {

@@ -160,12 +160,32 @@ fn written(fd: i32, beside: &[u8]) -> bool {
     whole & (libc::close(made) >= 0)
 }
 
-// Puts what was collected in the place of the file. Told where that fails, and then the file is as it was, and nothing is left beside it.
-pub fn finish(name: &[u8], beside: &[u8], fd: i32) -> bool {
-    let done = written(fd, beside) && os::rename(beside, name) >= 0;
+// Writes what was collected under the name beside. Told where that fails, and then nothing is left there.
+pub fn prepare(name: &[u8], beside: &[u8], fd: i32) -> bool {
+    let done = written(fd, beside);
     if !done {
         os::fail(name);
         os::unlink(beside);
     }
     done
+}
+
+// Puts what was prepared in the place of the file. Told where that fails, and then the file is as it was, and nothing is left beside it.
+pub fn put_in_place(name: &[u8], beside: &[u8]) -> bool {
+    let done = os::rename(beside, name) >= 0;
+    if !done {
+        os::fail(name);
+        os::unlink(beside);
+    }
+    done
+}
+
+// Takes back what was prepared.
+pub fn abandon(beside: &[u8]) {
+    os::unlink(beside);
+}
+
+// Both at once.
+pub fn finish(name: &[u8], beside: &[u8], fd: i32) -> bool {
+    prepare(name, beside, fd) && put_in_place(name, beside)
 }

@@ -29,11 +29,13 @@ use Rattle.work.proofs as work
 use Rattle.lines.proofs as lines
 use Rattle.contacts.proofs as contacts
 use Rattle.forms.proofs as forms
+use Rattle.salvaging.proofs as salvaging
 use Rattle.job_text.proofs as job_text
 use Rattle.foldflake.proofs as foldflake
 use Rattle.toi_proxy.specs.declared.ToiProxy.{ToiProxy}
 use Rattle.lines.specs.declared.part.Written.{Written}
 use Rattle.forms.specs.declared.Converted.{Converted}
+use Rattle.salvaging.specs.declared.Salvaged.{Salvaged}
 use Rattle.job_text.specs.declared.pack.Packed.{Packed}
 use Rattle.job_text.specs.declared.unpack.Unpacked.{Unpacked}
 
@@ -48,6 +50,10 @@ written-by-parts p0 p1 p2 = λ i. record { at = p0 i; totals = p1 i; last = p2 i
 -- `Converted`, where a contract tells its parts
 converted-by-parts : {x y : Converted} → x .file ≡ y .file → x .text ≡ y .text → x .blocks ≡ y .blocks → x .last ≡ y .last → x ≡ y
 converted-by-parts p0 p1 p2 p3 = λ i. record { file = p0 i; text = p1 i; blocks = p2 i; last = p3 i }
+
+-- `Salvaged`, where a contract tells its parts
+salvaged-by-parts : {x y : Salvaged} → x .file ≡ y .file → x .text ≡ y .text → x .left ≡ y .left → x .walk ≡ y .walk → x .done ≡ y .done → x ≡ y
+salvaged-by-parts p0 p1 p2 p3 p4 = λ i. record { file = p0 i; text = p1 i; left = p2 i; walk = p3 i; done = p4 i }
 
 -- `Packed`, where a contract tells its parts
 packed-by-parts : {x y : Packed} → x .held ≡ y .held → x .at ≡ y .at → x .told ≡ y .told → x ≡ y
@@ -657,6 +663,28 @@ module _ {M : Type 1} (𝓤 : URA M) (H : Heap 𝓤) (A : Atoms 𝓤) (mem : Mem
     clauses = forms.convert_part.clauses 𝓤 H A mem run;
     of-contract = refl;
     once = λ κs a g r r' v v'. told-in-two 𝓤 (λ p q. (search (same-value, converted-by-parts), each-list forms.convert_part.ended κs a v v' (search same-value depth 12)));
+  }
+
+  -- ---- salvaging
+  pub salvaging-salvage-part : OneResult 𝓤 H A salvaging.salvage_part.ended (salvaging.salvage_part.spec 𝓤 H A mem run)
+  salvaging-salvage-part = record {
+    clauses = salvaging.salvage_part.clauses 𝓤 H A mem run;
+    of-contract = refl;
+    once = λ κs a g r r' v v'. told 𝓤 (λ p q. (search (same-value, salvaged-by-parts), each-list salvaging.salvage_part.ended κs a v v' (search same-value depth 12)));
+  }
+
+  pub salvaging-tell-last-run : OneResult 𝓤 H A salvaging.tell_last_run.ended (salvaging.tell_last_run.spec 𝓤 H A mem run)
+  salvaging-tell-last-run = record {
+    clauses = salvaging.tell_last_run.clauses 𝓤 H A mem run;
+    of-contract = refl;
+    once = λ κs a g r r' v v'. told 𝓤 (λ p q. (search same-value, each-list salvaging.tell_last_run.ended κs a v v' (search same-value depth 12)));
+  }
+
+  pub salvaging-tell-total : OneResult 𝓤 H A salvaging.tell_total.ended (salvaging.tell_total.spec 𝓤 H A mem run)
+  salvaging-tell-total = record {
+    clauses = salvaging.tell_total.clauses 𝓤 H A mem run;
+    of-contract = refl;
+    once = λ κs a g r r' v v'. told 𝓤 (λ p q. (search same-value, each-list salvaging.tell_total.ended κs a v v' (search same-value depth 12)));
   }
 
   -- ---- job_text

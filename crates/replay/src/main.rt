@@ -10,6 +10,7 @@ mod operations;
 mod packed;
 mod plates;
 mod pool;
+mod salvages;
 mod sweeps;
 mod table;
 mod tally;

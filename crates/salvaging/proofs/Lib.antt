@@ -1,0 +1,5 @@
+pub mod Passing
+pub mod Steps
+mod Laws
+pub mod Run
+pub mod Told
