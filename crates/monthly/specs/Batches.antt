@@ -1,0 +1,32 @@
+-- The bytes of batches: a part of one worked into its report, and batches one behind another.
+use Prim.Native.Nat.{ℕ}
+use mathlib.Core.Bool.{cond}
+use mathlib.Core.List.{List, [], _∷_}
+use lib.Ieee.{binary32}
+use lib.ListN.{take, drop}
+use Rattle.model.specs.declared.BlockAnswer.{BlockAnswer}
+use Rattle.model.specs.Sheet.{answers}
+use Rattle.model.specs.Parts.{isLast}
+use Rattle.summary.specs.declared.Report.{Report}
+use Rattle.summary.specs.Report.{countedAll}
+use Rattle.monthly.specs.declared.Added.{Added}
+
+-- ---- a batch in parts
+abbrev pub added : Report → List ℕ → Added
+added r part = record { report = countedAll r (answers binary32 part); last = isLast part }
+
+-- part by part, up to the last
+unfoldable pub addedParts : Report → List (List ℕ) → Report
+addedParts r [] = r
+addedParts r (p ∷ ps) = cond (added r p .last) (added r p .report) (addedParts (added r p .report) ps)
+
+-- ---- batches one behind another
+-- the answers of each of so many bytes
+unfoldable pub batchesIn : List ℕ → List ℕ → List (List BlockAnswer)
+batchesIn [] b = []
+batchesIn (n ∷ ns) b = answers binary32 (take n b) ∷ batchesIn ns (drop n b)
+
+-- of files
+unfoldable pub answersOf : List (List ℕ) → List (List BlockAnswer)
+answersOf [] = []
+answersOf (b ∷ bs) = answers binary32 b ∷ answersOf bs

@@ -1,0 +1,4 @@
+pub mod Rows
+pub mod Largest
+pub mod Report
+pub mod Text
