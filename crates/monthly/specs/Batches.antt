@@ -7,7 +7,7 @@ use lib.ListN.{take, drop}
 use Rattle.model.specs.declared.BlockAnswer.{BlockAnswer}
 use Rattle.model.specs.Sheet.{answers}
 use Rattle.model.specs.Parts.{isLast}
-use Rattle.summary.specs.declared.Report.{Report}
+use Rattle.summary.specs.declared.counting.Report.{Report}
 use Rattle.summary.specs.Report.{countedAll}
 use Rattle.monthly.specs.declared.Added.{Added}
 

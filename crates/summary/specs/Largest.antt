@@ -7,9 +7,9 @@ use Rattle.model.specs.declared.Counts.{Counts}
 use Rattle.model.specs.declared.Verdict.{Verdict}
 use Rattle.model.specs.declared.BlockAnswer.{BlockAnswer}
 use Rattle.model.specs.declared.BlockAnswer.the-variants.{Worked, Refused}
-use Rattle.summary.specs.declared.Most.{Most}
-use Rattle.summary.specs.declared.Most.the-variants.{Nowhere, At}
-use Rattle.summary.specs.declared.Largest.{Largest}
+use Rattle.summary.specs.declared.most.Most.{Most}
+use Rattle.summary.specs.declared.most.Most.the-variants.{Nowhere, At}
+use Rattle.summary.specs.declared.most.Largest.{Largest}
 
 -- a count as 64 bits hold it: below 2 ^ 64 as it is
 abbrev pub hold : ℕ → ℕ

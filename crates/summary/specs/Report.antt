@@ -3,8 +3,8 @@ use Prim.Native.Nat.{ℕ, zero, suc, _+_}
 use mathlib.Core.List.{List, [], _∷_, _++_}
 use lib.ListN.{length, getD, set}
 use Rattle.model.specs.declared.BlockAnswer.{BlockAnswer}
-use Rattle.summary.specs.declared.Largest.{Largest}
-use Rattle.summary.specs.declared.Report.{Report}
+use Rattle.summary.specs.declared.most.Largest.{Largest}
+use Rattle.summary.specs.declared.counting.Report.{Report}
 use Rattle.summary.specs.Rows.{rowCount, rowsOf, rowsIn, timesIn}
 use Rattle.summary.specs.Largest.{hold, plus, largerEach, movedEach, seen, largestIn}
 

@@ -25,9 +25,7 @@ fn larger(a: Most, b: Most) -> Most
         Most::Nowhere => b,
         Most::At(n, _, _) => match b {
             Most::Nowhere => a,
-            Most::At(m, _, _) => {
-                if n < m { b } else { a }
-            }
+            Most::At(m, _, _) => { if n < m { b } else { a } }
         },
     }
 }
@@ -46,9 +44,15 @@ fn moved(by: u64, m: Most) -> Most
 pub fn larger_each(a: Largest, b: Largest) -> Largest
     ensures { λ r. ⌜ r ≡ Specs.largerEach a b ⌝ }
 {
-    let calls = larger(a.calls, b.calls);
-    let searches = larger(a.searches, b.searches);
-    let steps = larger(a.steps, b.steps);
+    let calls_a = a.calls;
+    let searches_a = a.searches;
+    let steps_a = a.steps;
+    let calls_b = b.calls;
+    let searches_b = b.searches;
+    let steps_b = b.steps;
+    let calls = larger(calls_a, calls_b);
+    let searches = larger(searches_a, searches_b);
+    let steps = larger(steps_a, steps_b);
     Largest {
         calls,
         searches,
@@ -60,13 +64,13 @@ pub fn larger_each(a: Largest, b: Largest) -> Largest
 pub fn moved_each(by: u64, a: Largest) -> Largest
     ensures { λ r. ⌜ r ≡ Specs.movedEach by a ⌝ }
 {
-    let calls = moved(by, a.calls);
-    let searches = moved(by, a.searches);
-    let steps = moved(by, a.steps);
+    let calls = a.calls;
+    let searches = a.searches;
+    let steps = a.steps;
     Largest {
-        calls,
-        searches,
-        steps,
+        calls: moved(by, calls),
+        searches: moved(by, searches),
+        steps: moved(by, steps),
     }
 }
 

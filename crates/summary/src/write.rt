@@ -7,7 +7,7 @@ ghost use Prim.Native.Nat.{_+_, _<_, _≤_};
 ghost use mathlib.Core.List.{[], _∷_, _++_};
 ghost use lib.ListN.{length, getD};
 ghost use Rattle.text.specs.Put.{Put, number};
-ghost use Rattle.summary.specs.Text.{labels, rowText, rowsText, placeText, mostText, largestText, textIn};
+ghost use Rattle.summary.specs.Text.{labels, rowText, rowsText, placeText, mostText, namedText, largestText, textIn};
 
 // No report is longer.
 const LONGEST_REPORT: usize = 1200;
@@ -94,20 +94,26 @@ fn put_most(out: &mut [u8], at: usize, m: Most) -> usize
     }
 }
 
+// The same after a name.
+fn put_named(out: &mut [u8], at: usize, name: &[u8], m: Most) -> usize
+    requires { ⌜ (at + 72 ≤ length (now out)) × (length (now name) ≤ 9) ⌝ }
+    ensures { λ r. ⌜ Put (now (out .entry)) at (namedText (now (name .entry)) m) (now (out .exit)) r ⌝ }
+{
+    let end = text::put_text(out, at, name);
+    put_most(out, end, m)
+}
+
 // The three last lines.
 fn put_largest(out: &mut [u8], at: usize, a: Largest) -> usize
-    requires { ⌜ at + 212 ≤ length (now out) ⌝ }
+    requires { ⌜ at + 216 ≤ length (now out) ⌝ }
     ensures { λ r. ⌜ Put (now (out .entry)) at (largestText a) (now (out .exit)) r ⌝ }
 {
     let calls = a.calls;
     let searches = a.searches;
     let steps = a.steps;
-    let e1 = text::put_text(out, at, b"CALLS ");
-    let e2 = put_most(out, e1, calls);
-    let e3 = text::put_text(out, e2, b"SEARCHES ");
-    let e4 = put_most(out, e3, searches);
-    let e5 = text::put_text(out, e4, b"STEPS ");
-    put_most(out, e5, steps)
+    let e1 = put_named(out, at, b"CALLS ", calls);
+    let e2 = put_named(out, e1, b"SEARCHES ", searches);
+    put_named(out, e2, b"STEPS ", steps)
 }
 
 // A report's text at the start of out, and its length; nothing where out has fewer bytes than the longest.
