@@ -9,7 +9,7 @@ ghost use Rattle.model.specs.Sheet.{answers, wholeAnswers, restAnswer};
 ghost use Rattle.text.specs.Put.{Put};
 ghost use Rattle.summary.specs.Report.{report, countedAll, together};
 ghost use Rattle.summary.specs.Text.{textIn};
-ghost use Rattle.monthly.specs.Batches.{added, batchesIn};
+ghost use Rattle.monthly.specs.Batches.{added, lesser, batchesIn};
 use model::BlockAnswer;
 
 // A shorter part is the last one.
@@ -69,7 +69,7 @@ pub fn add_part(r: Report, part: &[u8]) -> Added
 
 // The smaller of two.
 fn least(a: usize, b: usize) -> usize
-    ensures { λ r. ⌜ (r ≤ a) × (r ≤ b) ⌝ }
+    ensures { λ r. ⌜ r ≡ lesser a b ⌝ }
 {
     if a < b { a } else { b }
 }
