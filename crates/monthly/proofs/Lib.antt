@@ -1,2 +1,4 @@
 mod Laws
 pub mod Run
+pub mod AddUp
+pub mod Numbers

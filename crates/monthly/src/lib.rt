@@ -7,8 +7,8 @@ ghost use lib.Ieee.{binary32};
 ghost use Rattle.model.specs.Block.{blockSize};
 ghost use Rattle.model.specs.Sheet.{answers, wholeAnswers, restAnswer};
 ghost use Rattle.text.specs.Put.{Put};
-ghost use Rattle.summary.specs.Report.{report, countedAll, together};
-ghost use Rattle.summary.specs.Text.{textIn};
+ghost use Rattle.summary.specs.Report.{report, countedAll};
+ghost use Rattle.report_lines.specs.Text.{textIn};
 ghost use Rattle.monthly.specs.Batches.{added, lesser, batchesIn};
 use model::BlockAnswer;
 
@@ -96,5 +96,5 @@ pub fn write_batches(batches: &[u8], sizes: &[u32], out: &mut [u8]) -> usize
     ensures { λ r. ⌜ Put (now (out .entry)) 0 (textIn (report (batchesIn (now (sizes .entry)) (now (batches .entry)))) (length (now (out .entry)))) (now (out .exit)) r ⌝ }
 {
     let whole = report_batches(batches, sizes);
-    summary::write_report(whole, out)
+    report_lines::write_report(whole, out)
 }

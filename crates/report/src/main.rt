@@ -74,7 +74,7 @@ fn named(i: usize) -> Step {
 
 fn print(report: Report) {
     let mut text = io::buffer();
-    let n = summary::write_report(report, &mut text);
+    let n = report_lines::write_report(report, &mut text);
     input::write_to_output(&text, n);
 }
 

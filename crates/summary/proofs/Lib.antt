@@ -3,4 +3,3 @@ pub mod Tally
 pub mod Sums
 pub mod Places
 pub mod Merged
-mod Labels

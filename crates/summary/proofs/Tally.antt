@@ -104,7 +104,7 @@ module _ (P : ℕ → Type 0) where
       (by-test P (lt (ofBits binary32 0x3f80_0000) t) 15 16 p15 p16))))))))))
 
 -- no row of a group or of a detail is the first
-refusal-past : (n : ℕ) → 17 < refusalRow n
+pub refusal-past : (n : ℕ) → 17 < refusalRow n
 unfolding refusalRow
 refusal-past n = go (eqb n 13) (ltb n 3) (ltb n 12) refl
   where

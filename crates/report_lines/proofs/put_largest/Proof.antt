@@ -1,12 +1,12 @@
--- `summary::write::put_largest` meets its contract: three lines, one after the other. Assumes nothing.
+-- `report_lines::put_largest` meets its contract: three lines, one after the other. Assumes nothing.
 use native.Mathlib.Omega.{arith}
 use Rattle.text.proofs.Pasted.{put-then}
 use Rattle.text.proofs.Lengths.{ends}
-use Rattle.summary.specs.Text.{callsLabel, searchesLabel, largestText}
-use Rattle.summary.proofs.Labels.{length-named}
+use Rattle.report_lines.specs.Text.{callsLabel, searchesLabel, largestText}
+use Rattle.report_lines.proofs.Labels.{length-named}
 use borrow.Author.Needs.{needs}
-use Rattle.summary.proofs.write.put_largest.Statement.{statement}
-use Rattle.summary.proofs.write.put_largest.Tie as tie
+use Rattle.report_lines.proofs.put_largest.Statement.{statement}
+use Rattle.report_lines.proofs.put_largest.Tie as tie
 
 slice-aggregate-put-named : tie.Need-slice-aggregate-put-named
 slice-aggregate-put-named c = search needs

@@ -1,7 +1,7 @@
--- `summary::write::put_most` meets its contract, case by case. Assumes nothing.
+-- `report_lines::put_most` meets its contract, case by case. Assumes nothing.
 use borrow.Author.Needs.{needs}
-use Rattle.summary.proofs.write.put_most.Statement.{statement}
-use Rattle.summary.proofs.write.put_most.Tie as tie
+use Rattle.report_lines.proofs.put_most.Statement.{statement}
+use Rattle.report_lines.proofs.put_most.Tie as tie
 
 enum-told : tie.Need-enum-told
 enum-told c = search needs

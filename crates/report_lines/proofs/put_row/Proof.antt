@@ -1,11 +1,11 @@
--- `summary::write::put_row` meets its contract: the name, and then the number. Assumes nothing.
+-- `report_lines::put_row` meets its contract: the name, and then the number. Assumes nothing.
 use native.Mathlib.Omega.{arith}
 use Rattle.text.proofs.Pasted.{put-then}
 use Rattle.text.proofs.Lengths.{ends, roomy}
-use Rattle.summary.proofs.Labels.{length-label}
+use Rattle.report_lines.proofs.Labels.{length-label}
 use borrow.Author.Needs.{needs}
-use Rattle.summary.proofs.write.put_row.Statement.{statement}
-use Rattle.summary.proofs.write.put_row.Tie as tie
+use Rattle.report_lines.proofs.put_row.Statement.{statement}
+use Rattle.report_lines.proofs.put_row.Tie as tie
 
 put-label-requires : tie.Need-put-label-requires
 put-label-requires c κs = search needs

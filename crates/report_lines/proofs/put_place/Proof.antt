@@ -1,10 +1,10 @@
--- `summary::write::put_place` meets its contract: three numbers, one after the other. Assumes nothing.
+-- `report_lines::put_place` meets its contract: three numbers, one after the other. Assumes nothing.
 use native.Mathlib.Omega.{arith}
 use Rattle.text.proofs.Pasted.{put-then}
 use Rattle.text.proofs.Lengths.{length-number, ends, roomy}
 use borrow.Author.Needs.{needs}
-use Rattle.summary.proofs.write.put_place.Statement.{statement}
-use Rattle.summary.proofs.write.put_place.Tie as tie
+use Rattle.report_lines.proofs.put_place.Statement.{statement}
+use Rattle.report_lines.proofs.put_place.Tie as tie
 
 put-number-requires : tie.Need-put-number-requires
 put-number-requires c κs = search needs

@@ -1,11 +1,11 @@
--- `summary::write::put_named` meets its contract: the name, and then the place. Assumes nothing.
+-- `report_lines::put_named` meets its contract: the name, and then the place. Assumes nothing.
 use native.Mathlib.Omega.{arith}
 use Rattle.text.proofs.Pasted.{put-then}
 use lib.ListN.{length}
 use Rattle.text.proofs.Lengths.{roomy}
 use borrow.Author.Needs.{needs}
-use Rattle.summary.proofs.write.put_named.Statement.{statement}
-use Rattle.summary.proofs.write.put_named.Tie as tie
+use Rattle.report_lines.proofs.put_named.Statement.{statement}
+use Rattle.report_lines.proofs.put_named.Tie as tie
 
 put-text-requires : tie.Need-put-text-requires
 put-text-requires c κs = search needs

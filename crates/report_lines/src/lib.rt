@@ -1,13 +1,15 @@
-// A report as text.
-use crate::counting::ROWS;
-use crate::counting::Report;
-use crate::most::Largest;
-use crate::most::Most;
+// A report as text, in lent bytes.
+use summary::Largest;
+use summary::Most;
+use summary::Report;
 ghost use Prim.Native.Nat.{_+_, _<_, _≤_};
 ghost use mathlib.Core.List.{[], _∷_, _++_};
 ghost use lib.ListN.{length, getD};
 ghost use Rattle.text.specs.Put.{Put, number};
-ghost use Rattle.summary.specs.Text.{labels, rowText, rowsText, placeText, mostText, namedText, largestText, textIn};
+ghost use Rattle.report_lines.specs.Text.{labels, rowText, rowsText, placeText, mostText, namedText, largestText, textIn};
+
+// How many rows a report has.
+const ROWS: usize = 28;
 
 // No report is longer.
 const LONGEST_REPORT: usize = 1200;

@@ -1,10 +1,10 @@
--- `summary::write::put_label` meets its contract: in each arm the name stands in the list at its key. Assumes nothing.
+-- `report_lines::put_label` meets its contract: in each arm the name stands in the list at its key. Assumes nothing.
 use native.Mathlib.Omega.{arith}
-use Rattle.summary.specs.Text.{labels}
-use Rattle.summary.proofs.Labels.{named, the-last}
+use Rattle.report_lines.specs.Text.{labels}
+use Rattle.report_lines.proofs.Labels.{named, the-last}
 use borrow.Author.Needs.{needs}
-use Rattle.summary.proofs.write.put_label.Statement.{statement}
-use Rattle.summary.proofs.write.put_label.Tie as tie
+use Rattle.report_lines.proofs.put_label.Statement.{statement}
+use Rattle.report_lines.proofs.put_label.Tie as tie
 
 slice-aggregate-put-text : tie.Need-slice-aggregate-put-text
 slice-aggregate-put-text c = search needs

@@ -1,13 +1,13 @@
--- `summary::write::write_report` meets its contract: nothing where there is no room, else its parts, one after the other. Assumes nothing.
+-- `report_lines::write_report` meets its contract: nothing where there is no room, else its parts, one after the other. Assumes nothing.
 use native.Mathlib.Omega.{arith}
 use Rattle.text.proofs.Pasted.{put-then}
 use borrow.Author.Tests.{lt-ltb, le-ltb}
 use Rattle.text.proofs.Pasted.{put-nothing}
 use Rattle.text.proofs.Lengths.{length-number, ends, roomy}
-use Rattle.summary.specs.Text.{reportText}
+use Rattle.report_lines.specs.Text.{reportText}
 use borrow.Author.Needs.{needs}
-use Rattle.summary.proofs.write.write_report.Statement.{statement}
-use Rattle.summary.proofs.write.write_report.Tie as tie
+use Rattle.report_lines.proofs.write_report.Statement.{statement}
+use Rattle.report_lines.proofs.write_report.Tie as tie
 
 returns : tie.Need-returns
 returns c = simp (lt-ltb _ _ (c .if1 .taken)) (put-nothing _ _)

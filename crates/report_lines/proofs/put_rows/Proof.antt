@@ -1,4 +1,4 @@
--- `summary::write::put_rows` meets its contract: the lines of the rows so far stand there, and the rows left fall. Assumes nothing.
+-- `report_lines::put_rows` meets its contract: the lines of the rows so far stand there, and the rows left fall. Assumes nothing.
 use Prim.Native.Nat.{_+_, _*_, _-_, _≤_}
 use mathlib.Core.Path.{_≡_, refl, sym, _∙_}
 use native.Mathlib.Omega.{arith}
@@ -6,10 +6,10 @@ use lib.ListN.{length}
 use Rattle.text.specs.Put.{Put}
 use Rattle.text.proofs.Pasted.{put-nothing, put-then}
 use Rattle.text.proofs.Lengths.{ends}
-use Rattle.summary.proofs.Labels.{firstRows, no-rows, rows-more, all-rows, length-row}
+use Rattle.report_lines.proofs.Labels.{firstRows, no-rows, rows-more, all-rows, length-row}
 use borrow.Author.Needs.{needs}
-use Rattle.summary.proofs.write.put_rows.Statement.{statement}
-use Rattle.summary.proofs.write.put_rows.Tie as tie
+use Rattle.report_lines.proofs.put_rows.Statement.{statement}
+use Rattle.report_lines.proofs.put_rows.Tie as tie
 
 abbrev Inv-loop : tie.InvT-loop
 Inv-loop out₀ at counts end₀ i₀ out end i =
