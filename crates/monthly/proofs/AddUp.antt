@@ -222,7 +222,7 @@ refusal-rows n (least, most, not-12) = go (eqb n 13) (ltb n 3) (ltb n 12) refl r
     go false false true e f g = (omega arith, omega (arith, ltb-true n 12 g))
     go false false false e f g = let apart = eqb-false n 13 e in absurd (omega (arith, ltb-false n 12 g, apart, not-12))
 
-hit-rows : (t : Float) → (5 ≤ hitRow t) × (hitRow t ≤ 16)
+pub hit-rows : (t : Float) → (5 ≤ hitRow t) × (hitRow t ≤ 16)
 hit-rows t = of-hits (λ row. (5 ≤ row) × (row ≤ 16)) (omega arith, omega arith) (omega arith, omega arith) (omega arith, omega arith) (omega arith, omega arith) (omega arith, omega arith) (omega arith, omega arith) (omega arith, omega arith) (omega arith, omega arith) (omega arith, omega arith) (omega arith, omega arith) (omega arith, omega arith) (omega arith, omega arith) t
 
 answer-sums : (x : BlockAnswer) → NumberGiven x → Sums (rowsOf x)
