@@ -62,6 +62,8 @@ def report(sheets):
 
 EVERY = (EXAMPLES / "every-answer.batch").read_bytes()
 SHIFT = (EXAMPLES / "shift.batch").read_bytes()
+# nine hits: one in each eighth, and one at 1
+FRACTIONS = (EXAMPLES / "fractions.batch").read_bytes()
 ALL = blocks(EVERY)
 # of the blocks of every-answer.batch, by their sheet
 WORKED, REFUSED = [ALL[i - 1] for i in (1, 2, 5, 12)], [ALL[i - 1] for i in (6, 14, 10)]
@@ -72,9 +74,11 @@ ONE, TWO, THREE, EMPTY, NONE_WORKED, SHORT, NO_BATCH = range(1, 8)
 CASES = [
     ("one-batch", ONE, [b"".join(WORKED)]),
     ("one-of-each", ONE, [b"".join(WORKED + REFUSED) + UNKNOWN + HIT[:7]]),
+    ("each-eighth-and-1", ONE, [FRACTIONS]),
     ("two-batches", TWO, [CLEAR + HIT, HIT + FAILED + OVERLAP]),
     ("the-same-twice", TWO, [HIT + FAILED, HIT + FAILED]),
     ("the-larger-second", TWO, [OVERLAP + CLEAR, FAILED + HIT]),
+    ("eighths-in-three", THREE, [FRACTIONS[512:3072], FRACTIONS[3072:], FRACTIONS[:512]]),
     ("three-batches", THREE, [CLEAR, HIT + UNKNOWN, b"".join(WORKED)]),
     ("three-with-an-empty-one", THREE, [OVERLAP, b"", FAILED + FAILED]),
     ("an-empty-batch", EMPTY, [b""]),
