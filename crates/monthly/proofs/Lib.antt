@@ -4,3 +4,4 @@ pub mod AddUp
 pub mod Numbers
 pub mod AsSheet
 pub mod Eighths
+pub mod Firsts
