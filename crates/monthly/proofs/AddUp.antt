@@ -1,23 +1,21 @@
 -- What the rows of a report add up to: hits by fraction to hits, refusals by number to refusals, and every block is clear, overlapped, failed, hit
 -- or refused; none wraps while there are fewer blocks than 2 ^ 64. Assumes nothing.
-use mathlib.Core.Path.{_≡_, refl, sym, ap, _∙_}
+use mathlib.Core.Path.{_≡_, refl}
 use mathlib.Core.Bool.{Bool, true, false, cond}
 use mathlib.Core.List.{List, [], _∷_, _++_}
 use Prim.Native.Nat.{ℕ, zero, suc, _+_, _^_, _≤_, _<_}
 use native.Mathlib.Omega.{arith}
-use borrow.Author.Tests.{ltb-true, ltb-false, lt-ltb, le-ltb, eqb-true, eqb-false, eq-eqb, ne-eqb}
+use borrow.Author.Tests.{ltb-true, ltb-false, eqb-true, eqb-false, ne-eqb}
 use lib.Dec.{eqb, ltb}
-use lib.Ieee.{Float}
 use lib.ListN.{length, getD}
 use Rattle.model.specs.declared.Status.{Status}
 use Rattle.model.specs.declared.Status.the-variants.{Overlapped, Hit, Separated, Failed}
 use Rattle.model.specs.declared.BlockAnswer.{BlockAnswer}
 use Rattle.model.specs.declared.BlockAnswer.the-variants.{Worked, Refused}
-use Rattle.summary.specs.declared.counting.Report.{Report}
-use Rattle.summary.specs.Rows.{statusRow, hitRow, refusalRow, detailBy, groupRow, detailRow, rowsOf, rowsIn, timesIn}
+use Rattle.summary.specs.Rows.{statusRow, hitRow, refusalRow, detailBy, rowsOf, rowsIn, timesIn}
 use Rattle.summary.specs.Largest.{hold}
 use Rattle.summary.specs.Report.{everyAnswer, tally, report}
-use Rattle.summary.proofs.Tally.{times-append, getD-tally, every-block, of-hits}
+use Rattle.summary.proofs.Tally.{times-append, getD-tally, every-block, hit-rows}
 
 -- ---- rows among a list
 -- how often n rows from row k on come
@@ -221,9 +219,6 @@ refusal-rows n (least, most, not-12) = go (eqb n 13) (ltb n 3) (ltb n 12) refl r
     go false true u e f g = absurd (omega (arith, ltb-true n 3 f))
     go false false true e f g = (omega arith, omega (arith, ltb-true n 12 g))
     go false false false e f g = let apart = eqb-false n 13 e in absurd (omega (arith, ltb-false n 12 g, apart, not-12))
-
-pub hit-rows : (t : Float) → (5 ≤ hitRow t) × (hitRow t ≤ 16)
-hit-rows t = of-hits (λ row. (5 ≤ row) × (row ≤ 16)) (omega arith, omega arith) (omega arith, omega arith) (omega arith, omega arith) (omega arith, omega arith) (omega arith, omega arith) (omega arith, omega arith) (omega arith, omega arith) (omega arith, omega arith) (omega arith, omega arith) (omega arith, omega arith) (omega arith, omega arith) (omega arith, omega arith) t
 
 answer-sums : (x : BlockAnswer) → NumberGiven x → Sums (rowsOf x)
 answer-sums (Refused job n) h = let (low, high) = refusal-rows n h in of-refusal (refusalRow n) low high

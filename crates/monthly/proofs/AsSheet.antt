@@ -1,9 +1,9 @@
 -- The report's numbers are those of the sheets' lines: blocks are the lines, clear those with S, overlapped with O, failed with F, hit with H, refused
 -- those without a letter. Assumes nothing.
-use mathlib.Core.Path.{_≡_, refl, sym, ap, _∙_}
-use mathlib.Core.Bool.{Bool, true, false, cond}
+use mathlib.Core.Path.{_≡_, refl, ap, _∙_}
+use mathlib.Core.Bool.{Bool, cond}
 use mathlib.Core.List.{List, [], _∷_, _++_}
-use Prim.Native.Nat.{ℕ, zero, suc, _+_, _≤_, _<_}
+use Prim.Native.Nat.{ℕ, _+_, _≤_}
 use native.Mathlib.Omega.{arith}
 use borrow.Author.Tests.{ne-eqb}
 use lib.Dec.{eqb}
@@ -13,15 +13,14 @@ use Rattle.model.specs.declared.Status.{Status}
 use Rattle.model.specs.declared.Status.the-variants.{Overlapped, Hit, Separated, Failed}
 use Rattle.model.specs.declared.BlockAnswer.{BlockAnswer}
 use Rattle.model.specs.declared.BlockAnswer.the-variants.{Worked, Refused}
-use Rattle.model.specs.Sheet.{letterOf, answers, answerLine}
-use Rattle.model.specs.Counted.{printedLetter, linesOneByOne, sheetLines, howMany}
+use Rattle.model.specs.Sheet.{letterOf, answers}
+use Rattle.model.specs.Counted.{linesOneByOne, sheetLines, howMany}
 use Rattle.model.proofs.Counted.{letterTold, letter-printed, a-line-each}
 use Rattle.summary.specs.Rows.{statusRow, detailBy, groupRow, detailRow, rowsOf, rowsIn, timesIn}
 use Rattle.summary.specs.Largest.{hold}
-use Rattle.summary.specs.Report.{everyAnswer, report, tally}
-use Rattle.summary.proofs.Tally.{times-append, rows-append, getD-tally, every-block, refusal-past}
+use Rattle.summary.specs.Report.{everyAnswer, report}
+use Rattle.summary.proofs.Tally.{times-append, rows-append, getD-tally, every-block, hit-rows, refusal-past}
 use Rattle.monthly.specs.Batches.{answersOf}
-use Rattle.monthly.proofs.AddUp.{hit-rows}
 
 -- ---- one answer
 abbrev once : Bool → ℕ

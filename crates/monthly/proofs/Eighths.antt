@@ -1,6 +1,6 @@
 -- Rows of fractions at their edges, computed. Assumes nothing.
 use mathlib.Core.Path.{_≡_, refl}
-use mathlib.Core.List.{List, [], _∷_, map}
+use mathlib.Core.List.{[], _∷_, map}
 use Prim.Native.Nat.{ℕ}
 use lib.Ieee.{binary32, nan, ofBits, lt, eq}
 use Rattle.summary.specs.Rows.{hitRow}

@@ -10,7 +10,6 @@ use borrow.Author.Tests.{ltb-true, ltb-false}
 use lib.Dec.{ltb}
 use lib.ListN.{length, getD}
 use Rattle.model.specs.declared.Counts.{Counts}
-use Rattle.model.specs.declared.Verdict.{Verdict}
 use Rattle.model.specs.declared.BlockAnswer.{BlockAnswer}
 use Rattle.model.specs.declared.BlockAnswer.the-variants.{Worked, Refused}
 use Rattle.summary.specs.declared.most.Most.{Most}

@@ -1,6 +1,6 @@
 -- Which numbers a block can be refused by: 3 to 11, and 13. A block that passed its checks has 1 to 16 points an outline, so that 1 and 2 cannot occur,
 -- and no sweep that was begun is refused. Assumes nothing.
-use mathlib.Core.Path.{_≡_, refl, sym, ap, _∙_}
+use mathlib.Core.Path.{_≡_, refl, ap}
 use mathlib.Core.Bool.{Bool, true, false, not, _||_, _&&_, cond}
 use mathlib.Core.List.{List, [], _∷_, _++_}
 use Prim.Native.Nat.{ℕ, zero, suc, _+_, _*_, _/_, _%_, _^_, _≤_, _<_}
@@ -20,27 +20,26 @@ use Rattle.model.specs.declared.Corners.{Corners}
 use Rattle.model.specs.declared.SweepAnswer.{SweepAnswer}
 use Rattle.model.specs.declared.SweepAnswer.the-variants as Answered
 use Rattle.model.specs.declared.BlockAnswer.{BlockAnswer}
-use Rattle.model.specs.declared.BlockAnswer.the-variants.{Worked, Refused}
-use Rattle.model.specs.declared.Block.{Block}
+use Rattle.model.specs.declared.BlockAnswer.the-variants.{Refused}
 use Rattle.model.specs.declared.CheckedBlock.the-variants as Checked
 use Rattle.model.specs.Ground.{one}
 use Rattle.model.specs.Ground as Ground
 use Rattle.model.specs.Separation.{newSeparation, findMinSeparation, evaluate}
-use Rattle.model.specs.Domain.{limit, badOutline, badParts, badRadius, badRotation, badCentres, pairRefusal, sweepsRefusal, fractionRefusal, slopRefusal, orElse}
-use Rattle.model.specs.SweepToi.{PushEnd, ended, moved, onward, maxRootIterations, maxPushBackIterations, called, searched, stepped, nowhere, there, failedAt, low, high, closestAt, advanceBy, rootFrom, pushFrom, advanceFrom, advance, sweepTask, sweepRefusal, sweepBy, sweepTimeOfImpact}
+use Rattle.model.specs.Domain.{limit, badOutline, badParts, badRadius, badRotation, badCentres, pairRefusal, sweepsRefusal, fractionRefusal}
+use Rattle.model.specs.Domain.{slopRefusal, orElse}
+use Rattle.model.specs.SweepToi.{PushEnd, ended, moved, onward, maxRootIterations, maxPushBackIterations, called, searched, stepped, nowhere, there}
+use Rattle.model.specs.SweepToi.{failedAt, low, high, closestAt, advanceBy, rootFrom, pushFrom, advanceFrom, advance, sweepTask, sweepRefusal}
+use Rattle.model.specs.SweepToi.{sweepBy, sweepTimeOfImpact}
 use Rattle.model.specs.Corners.{sweep}
 use Rattle.model.specs.Support.{point}
 use Rattle.model.specs.Wire.{byte}
 use Rattle.model.specs.Block.{knownForm, checkHolds, badCount, zerosHold, badFields, jobOf, blockOf, checkedBlock}
 use Rattle.model.specs.Work.{floatsAt, numbersOf, pointsA, pointsB, moveAt, sweepFor, sweepOf, toldBy, answerBy, blockAnswer}
-use Rattle.model.specs.Sheet.{wholeAnswers, restAnswer, answers}
+use Rattle.model.specs.Sheet.{wholeAnswers, answers}
 use Rattle.summary.specs.Report.{everyAnswer, report}
+use Rattle.summary.proofs.Tally.{by-test}
 use Rattle.monthly.specs.Batches.{answersOf}
 use Rattle.monthly.proofs.AddUp.{Given, NumberGiven, NumbersGiven, AddsUp, counts-add-up}
-
-by-test : {A : Type 0} (P : A → Type 0) (t : Bool) (m n : A) → P m → P n → P (cond t m n)
-by-test P true m n p q = p
-by-test P false m n p q = q
 
 -- ---- a sweep that was begun is not refused
 unfoldable Begun : SweepAnswer → Type 0
@@ -153,7 +152,8 @@ module _ (f : Format) (a : List Float) (ra : Float) (wa : Sweep) (b : List Float
       (rw (fa, fb) (by-test Late (badParts f a || badParts f b) 3 _ (late 3 (omega arith) (omega arith))
       (by-test Late (badRadius f ra || badRadius f rb) 4 0 (late 4 (omega arith) (omega arith)) nothing-late)))
       (late-first (sweepsRefusal f wa wb) _
-      (by-test Late (badRotation f (wa .q1) || badRotation f (wa .q2) || badRotation f (wb .q1) || badRotation f (wb .q2)) 5 _ (late 5 (omega arith) (omega arith))
+      (by-test Late (badRotation f (wa .q1) || badRotation f (wa .q2) || badRotation f (wb .q1) || badRotation f (wb .q2)) 5 _
+      (late 5 (omega arith) (omega arith))
       (by-test Late (badCentres f wa || badCentres f wb) 6 0 (late 6 (omega arith) (omega arith)) nothing-late))
       (late-first (fractionRefusal f tmax) (slopRefusal f slop)
       (by-test Late (le (Ground.zero f) tmax && le tmax (one f)) 0 7 nothing-late (late 7 (omega arith) (omega arith)))
@@ -173,9 +173,6 @@ length-floats : (b : List ℕ) (k n : ℕ) → length (floatsAt b k n) ≡ n
 unfolding floatsAt
 length-floats b k zero = refl
 length-floats b k (suc n) = ap suc (length-floats b (k + 4) n)
-
-or-no : (p q : Bool) → p ≡ false → q ≡ false → (p || q) ≡ false
-or-no p q e g = rw (e, g)
 
 fair-outline : (b : List ℕ) (k n : ℕ) → badCount n ≡ false → badOutline (floatsAt b k (2 * n)) ≡ false
 fair-outline b k n e =
@@ -217,7 +214,8 @@ unfolding blockAnswer checkedBlock
 block-given f b = go (knownForm (byte b 6)) (checkHolds b) (badFields b) refl
   where
     go : (p q r : Bool) → badFields b ≡ r
-        → NumberGiven (answerBy f b (cond p (cond q (cond r (Checked.Refused (jobOf b) 11) (Checked.Good (blockOf b))) (Checked.Refused 0 10)) (Checked.Refused 0 13)))
+        → NumberGiven
+        (answerBy f b (cond p (cond q (cond r (Checked.Refused (jobOf b) 11) (Checked.Good (blockOf b))) (Checked.Refused 0 10)) (Checked.Refused 0 13)))
     go true true true e = (omega arith, omega arith, λ h. omega arith)
     go true true false e = good-given f b e
     go true false r e = (omega arith, omega arith, λ h. omega arith)

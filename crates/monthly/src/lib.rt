@@ -1,7 +1,7 @@
 // Batches worked into a report: a batch part by part, and whole batches that stand in memory.
 use summary::Report;
 ghost use mathlib.Core.Path.{_≡_};
-ghost use Prim.Native.Nat.{_+_, _/_, _%_, _≤_};
+ghost use Prim.Native.Nat.{_+_, _/_, _%_};
 ghost use lib.ListN.{length};
 ghost use lib.Ieee.{binary32};
 ghost use Rattle.model.specs.Block.{blockSize};

@@ -3,9 +3,9 @@ use summary::Largest;
 use summary::Most;
 use summary::Report;
 ghost use Prim.Native.Nat.{_+_, _<_, _≤_};
-ghost use mathlib.Core.List.{[], _∷_, _++_};
+ghost use mathlib.Core.List.{[]};
 ghost use lib.ListN.{length, getD};
-ghost use Rattle.text.specs.Put.{Put, number};
+ghost use Rattle.text.specs.Put.{Put};
 ghost use Rattle.report_lines.specs.Text.{labels, rowText, rowsText, placeText, mostText, namedText, largestText, textIn};
 
 // How many rows a report has.

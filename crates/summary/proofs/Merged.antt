@@ -2,19 +2,20 @@
 -- after the other. Assumes nothing.
 use mathlib.Core.Path.{_≡_, refl, sym, ap, _∙_}
 use mathlib.Core.List.{List, [], _∷_, _++_, append-assoc, append-nil}
-use Prim.Native.Nat.{ℕ, suc, _+_, _^_, _<_}
+use Prim.Native.Nat.{ℕ, _+_, _^_, _<_}
 use native.Mathlib.Omega.{arith}
 use lib.ListN.{length, getD, length-append}
 use Rattle.model.specs.declared.BlockAnswer.{BlockAnswer}
 use Rattle.summary.specs.declared.most.Largest.{Largest}
 use Rattle.summary.specs.declared.counting.Report.{Report}
-use Rattle.summary.specs.Rows.{rowsOf, rowsIn, timesIn}
-use Rattle.summary.specs.Largest.{hold, plus, nowhere, largerEach, movedEach, seen, largestFrom, largestIn}
-use Rattle.summary.specs.Report.{reported, everyAnswer, tallyFrom, tally, report, bumpedAll, counted, countedAll, sums, together}
+use Rattle.summary.specs.Rows.{rowsOf, rowsIn}
+use Rattle.summary.specs.Largest.{hold, plus, largerEach, movedEach, seen, largestFrom, largestIn}
+use Rattle.summary.specs.Report.{reported, everyAnswer, tally, report, counted, countedAll, sums, together}
 use Rattle.summary.proofs.Held.{plus-held, plus-assoc, plus-none, none-plus}
 use Rattle.summary.proofs.Tally.{rows-append, sums-tally, bumped-all, getD-tally, every-block}
 use Rattle.summary.proofs.Sums.{Fit, sums-assoc, sums-none, none-sums}
-use Rattle.summary.proofs.Places.{each-none, none-each, each-assoc, moved-each, moved-each-twice, moved-nowhere, PlacedEach, moved-each-by-none, from-append, in-append, in-moved}
+use Rattle.summary.proofs.Places.{each-none, none-each, each-assoc, moved-each, moved-each-twice, moved-nowhere, PlacedEach}
+use Rattle.summary.proofs.Places.{moved-each-by-none, from-append, in-append, in-moved}
 
 same-report : {m n : ℕ} {a b : List ℕ} {s t : Largest} → m ≡ n → a ≡ b → s ≡ t → reported m a s ≡ reported n b t
 same-report p q r = rw (p, q, r)

@@ -2,7 +2,7 @@
 use mathlib.Core.Path.{_≡_, refl, sym, ap, _∙_}
 use mathlib.Core.Bool.{Bool, true, false, cond}
 use mathlib.Core.List.{List, [], _∷_, _++_}
-use Prim.Native.Nat.{ℕ, zero, suc, _+_, _^_, _<_}
+use Prim.Native.Nat.{ℕ, suc, _+_, _^_, _<_}
 use native.Mathlib.Omega.{arith}
 use borrow.Author.Tests.{ltb-true, ltb-false, lt-ltb, le-ltb}
 use lib.Dec.{ltb}
@@ -12,7 +12,7 @@ use Rattle.model.specs.declared.BlockAnswer.the-variants.{Worked, Refused}
 use Rattle.summary.specs.declared.most.Most.{Most}
 use Rattle.summary.specs.declared.most.Most.the-variants.{Nowhere, At}
 use Rattle.summary.specs.declared.most.Largest.{Largest}
-use Rattle.summary.specs.Largest.{hold, plus, larger, moved, largest, nowhere, largerEach, movedEach, seen, largestFrom, largestIn}
+use Rattle.summary.specs.Largest.{hold, plus, larger, moved, nowhere, largerEach, movedEach, seen, largestFrom, largestIn}
 use Rattle.summary.proofs.Held.{plus-held, plus-assoc, none-plus}
 
 -- ---- one count

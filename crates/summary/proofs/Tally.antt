@@ -12,7 +12,7 @@ use Rattle.model.specs.declared.Status.{Status}
 use Rattle.model.specs.declared.Status.the-variants.{Overlapped, Hit, Separated, Failed}
 use Rattle.model.specs.declared.BlockAnswer.{BlockAnswer}
 use Rattle.model.specs.declared.BlockAnswer.the-variants.{Worked, Refused}
-use Rattle.summary.specs.Rows.{noRow, statusRow, hitRow, refusalRow, detailBy, groupRow, detailRow, rowsOf, rowsIn, timesIn}
+use Rattle.summary.specs.Rows.{statusRow, hitRow, refusalRow, detailBy, groupRow, detailRow, rowsIn, timesIn}
 use Rattle.summary.specs.Largest.{hold, plus}
 use Rattle.summary.specs.Report.{tallyFrom, tally, bumpedAll, sums}
 use Rattle.summary.proofs.Held.{plus-held}
@@ -82,26 +82,29 @@ bumped-all (k ∷ ks) rows =
     ap (bumpedAll ks) (rw e at (bumped-from 0 28 k rows)) ∙ bumped-all ks (rows ++ (k ∷ [])) ∙ ap tally (append-assoc rows (k ∷ []) ks)
 
 -- ---- every answer is one block
--- of a number that a test chooses
-by-test : (P : ℕ → Type 0) (t : Bool) (m n : ℕ) → P m → P n → P (cond t m n)
+-- of what a test chooses
+pub by-test : {A : Type 0} (P : A → Type 0) (t : Bool) (m n : A) → P m → P n → P (cond t m n)
 by-test P true m n p q = p
 by-test P false m n p q = q
 
-module _ (P : ℕ → Type 0) where
-  pub of-hits : P 5 → P 6 → P 7 → P 8 → P 9 → P 10 → P 11 → P 12 → P 13 → P 14 → P 15 → P 16 → (t : Float) → P (hitRow t)
-  unfolding hitRow
-  of-hits p5 p6 p7 p8 p9 p10 p11 p12 p13 p14 p15 p16 t =
-      by-test P (lt t (ofBits binary32 0)) 14 _ p14
-      (by-test P (lt t (ofBits binary32 0x3e00_0000)) 5 _ p5
-      (by-test P (lt t (ofBits binary32 0x3e80_0000)) 6 _ p6
-      (by-test P (lt t (ofBits binary32 0x3ec0_0000)) 7 _ p7
-      (by-test P (lt t (ofBits binary32 0x3f00_0000)) 8 _ p8
-      (by-test P (lt t (ofBits binary32 0x3f20_0000)) 9 _ p9
-      (by-test P (lt t (ofBits binary32 0x3f40_0000)) 10 _ p10
-      (by-test P (lt t (ofBits binary32 0x3f60_0000)) 11 _ p11
-      (by-test P (lt t (ofBits binary32 0x3f80_0000)) 12 _ p12
-      (by-test P (eq t (ofBits binary32 0x3f80_0000)) 13 _ p13
-      (by-test P (lt (ofBits binary32 0x3f80_0000) t) 15 16 p15 p16))))))))))
+-- the rows of hits by their fraction
+abbrev Among : ℕ → Type 0
+Among row = (5 ≤ row) × (row ≤ 16)
+
+pub hit-rows : (t : Float) → (5 ≤ hitRow t) × (hitRow t ≤ 16)
+unfolding hitRow
+hit-rows t =
+    by-test Among (lt t (ofBits binary32 0)) 14 _ (omega arith, omega arith)
+    (by-test Among (lt t (ofBits binary32 0x3e00_0000)) 5 _ (omega arith, omega arith)
+    (by-test Among (lt t (ofBits binary32 0x3e80_0000)) 6 _ (omega arith, omega arith)
+    (by-test Among (lt t (ofBits binary32 0x3ec0_0000)) 7 _ (omega arith, omega arith)
+    (by-test Among (lt t (ofBits binary32 0x3f00_0000)) 8 _ (omega arith, omega arith)
+    (by-test Among (lt t (ofBits binary32 0x3f20_0000)) 9 _ (omega arith, omega arith)
+    (by-test Among (lt t (ofBits binary32 0x3f40_0000)) 10 _ (omega arith, omega arith)
+    (by-test Among (lt t (ofBits binary32 0x3f60_0000)) 11 _ (omega arith, omega arith)
+    (by-test Among (lt t (ofBits binary32 0x3f80_0000)) 12 _ (omega arith, omega arith)
+    (by-test Among (eq t (ofBits binary32 0x3f80_0000)) 13 _ (omega arith, omega arith)
+    (by-test Among (lt (ofBits binary32 0x3f80_0000) t) 15 16 (omega arith, omega arith) (omega arith, omega arith)))))))))))
 
 -- no row of a group or of a detail is the first
 pub refusal-past : (n : ℕ) → 17 < refusalRow n
@@ -118,12 +121,9 @@ later : (x : BlockAnswer) → (0 < groupRow x) × (0 < detailRow x)
 later (Refused job n) = (omega arith, omega (arith, refusal-past n))
 later (Worked job v) = go (v .status)
   where
-    past : (s : Float) → 0 < hitRow s
-    past s = of-hits (λ n. 0 < n) (omega arith) (omega arith) (omega arith) (omega arith) (omega arith) (omega arith) (omega arith) (omega arith) (omega arith) (omega arith) (omega arith) (omega arith) s
-
     go : (s : Status) → (0 < statusRow s) × (0 < detailBy s (v .contact .fraction))
     go Overlapped = (omega arith, omega arith)
-    go Hit = (omega arith, past (v .contact .fraction))
+    go Hit = (omega arith, omega (arith, hit-rows (v .contact .fraction) .0))
     go Separated = (omega arith, omega arith)
     go Failed = (omega arith, omega arith)
 

@@ -1,7 +1,7 @@
 -- Which rows of a report count an answer. The rows: 0 blocks, 1 clear, 2 overlapped, 3 failed, 4 hit, 5 to 16 hits by their fraction, 17 refused,
 -- 18 to 27 refused by their number.
 use Prim.Native.Nat.{ℕ, _+_}
-use mathlib.Core.Bool.{Bool, cond}
+use mathlib.Core.Bool.{cond}
 use mathlib.Core.List.{List, [], _∷_, _++_}
 use lib.Dec.{eqb, ltb}
 use lib.Ieee.{Float, binary32, ofBits, lt, eq}

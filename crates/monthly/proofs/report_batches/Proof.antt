@@ -63,21 +63,27 @@ merge-requires : tie.Need-merge-requires Inv-loop μ-loop
 merge-requires c κs = search needs
 
 add-i : tie.Need-add-i Inv-loop μ-loop
-add-i c = let more = c .before .before .before .before .before .before .loop-test .taken in let good = c .before .before .before .before .before .before .before .before .before .before .before .good in search needs
+add-i c =
+    let inside = c .before .before .before .before .before .before in
+    let more = inside .loop-test .taken in
+    let good = inside .before .before .before .before .before .good in
+    search needs
 
 loop-less : tie.Need-loop-less Inv-loop μ-loop
 loop-less c = search needs
 
 loop-again : tie.Need-loop-again Inv-loop μ-loop
 loop-again c =
-    let l = c .before .before .before .before .before .before .before .loop in
-    let a = c .before .before .before .before .before .before .before .before .before .before .before .args in
-    let m = c .before .before .before .before .least .result in
+    let least = c .before .before .before .before .least in
+    let inside = c .before .before .before .before .before .before in
+    let l = inside .before .loop in
+    let a = inside .before .before .before .before .before .args in
+    let m = least .result in
     let bytes : l .from + m - l .from ≡ m = omega arith in
     let one = c .before .add-answers in
     let is = rw (c .before .before .before .opened .ensures) at (one .ensures) in
     let next =
-    one-reported (a .sizes .now) (a .batches .now) (l .i) (l .from) (l .so-far) (l .inv .1) (c .before .before .before .before .before .before .loop-test .taken) m _ (c .before .before .before .before .least .ensures) bytes
+    one-reported (a .sizes .now) (a .batches .now) (l .i) (l .from) (l .so-far) (l .inv .1) (inside .loop-test .taken) m _ (least .ensures) bytes
     (one .result) is in
     (search needs, rw (c .merge .ensures) next)
 

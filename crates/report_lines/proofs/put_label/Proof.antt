@@ -179,196 +179,308 @@ same-length c = search needs
 
 returns : tie.Need-returns
 unfolding labels
-returns c = named _ 0 (c .before .before .before .before .before .match .keys1) (omega (arith, c .before .before .before .before .before .before .before .pre .0)) (c .before .before .put-text .ensures)
+returns c =
+    let put = c .before .before in
+    let arm = put .before .before .before in
+    let start = arm .before .before in
+    named _ 0 (arm .match .keys1) (omega (arith, start .pre .0)) (put .put-text .ensures)
 
 same-length-2 : tie.Need-same-length-2
 same-length-2 c = search needs
 
 returns-2 : tie.Need-returns-2
 unfolding labels
-returns-2 c = named _ 1 (c .before .before .before .before .before .match .keys2) (omega (arith, c .before .before .before .before .before .before .before .pre .0)) (c .before .before .put-text2 .ensures)
+returns-2 c =
+    let put = c .before .before in
+    let arm = put .before .before .before in
+    let start = arm .before .before in
+    named _ 1 (arm .match .keys2) (omega (arith, start .pre .0)) (put .put-text2 .ensures)
 
 same-length-3 : tie.Need-same-length-3
 same-length-3 c = search needs
 
 returns-3 : tie.Need-returns-3
 unfolding labels
-returns-3 c = named _ 2 (c .before .before .before .before .before .match .keys3) (omega (arith, c .before .before .before .before .before .before .before .pre .0)) (c .before .before .put-text3 .ensures)
+returns-3 c =
+    let put = c .before .before in
+    let arm = put .before .before .before in
+    let start = arm .before .before in
+    named _ 2 (arm .match .keys3) (omega (arith, start .pre .0)) (put .put-text3 .ensures)
 
 same-length-4 : tie.Need-same-length-4
 same-length-4 c = search needs
 
 returns-4 : tie.Need-returns-4
 unfolding labels
-returns-4 c = named _ 3 (c .before .before .before .before .before .match .keys4) (omega (arith, c .before .before .before .before .before .before .before .pre .0)) (c .before .before .put-text4 .ensures)
+returns-4 c =
+    let put = c .before .before in
+    let arm = put .before .before .before in
+    let start = arm .before .before in
+    named _ 3 (arm .match .keys4) (omega (arith, start .pre .0)) (put .put-text4 .ensures)
 
 same-length-5 : tie.Need-same-length-5
 same-length-5 c = search needs
 
 returns-5 : tie.Need-returns-5
 unfolding labels
-returns-5 c = named _ 4 (c .before .before .before .before .before .match .keys5) (omega (arith, c .before .before .before .before .before .before .before .pre .0)) (c .before .before .put-text5 .ensures)
+returns-5 c =
+    let put = c .before .before in
+    let arm = put .before .before .before in
+    let start = arm .before .before in
+    named _ 4 (arm .match .keys5) (omega (arith, start .pre .0)) (put .put-text5 .ensures)
 
 same-length-6 : tie.Need-same-length-6
 same-length-6 c = search needs
 
 returns-6 : tie.Need-returns-6
 unfolding labels
-returns-6 c = named _ 5 (c .before .before .before .before .before .match .keys6) (omega (arith, c .before .before .before .before .before .before .before .pre .0)) (c .before .before .put-text6 .ensures)
+returns-6 c =
+    let put = c .before .before in
+    let arm = put .before .before .before in
+    let start = arm .before .before in
+    named _ 5 (arm .match .keys6) (omega (arith, start .pre .0)) (put .put-text6 .ensures)
 
 same-length-7 : tie.Need-same-length-7
 same-length-7 c = search needs
 
 returns-7 : tie.Need-returns-7
 unfolding labels
-returns-7 c = named _ 6 (c .before .before .before .before .before .match .keys7) (omega (arith, c .before .before .before .before .before .before .before .pre .0)) (c .before .before .put-text7 .ensures)
+returns-7 c =
+    let put = c .before .before in
+    let arm = put .before .before .before in
+    let start = arm .before .before in
+    named _ 6 (arm .match .keys7) (omega (arith, start .pre .0)) (put .put-text7 .ensures)
 
 same-length-8 : tie.Need-same-length-8
 same-length-8 c = search needs
 
 returns-8 : tie.Need-returns-8
 unfolding labels
-returns-8 c = named _ 7 (c .before .before .before .before .before .match .keys8) (omega (arith, c .before .before .before .before .before .before .before .pre .0)) (c .before .before .put-text8 .ensures)
+returns-8 c =
+    let put = c .before .before in
+    let arm = put .before .before .before in
+    let start = arm .before .before in
+    named _ 7 (arm .match .keys8) (omega (arith, start .pre .0)) (put .put-text8 .ensures)
 
 same-length-9 : tie.Need-same-length-9
 same-length-9 c = search needs
 
 returns-9 : tie.Need-returns-9
 unfolding labels
-returns-9 c = named _ 8 (c .before .before .before .before .before .match .keys9) (omega (arith, c .before .before .before .before .before .before .before .pre .0)) (c .before .before .put-text9 .ensures)
+returns-9 c =
+    let put = c .before .before in
+    let arm = put .before .before .before in
+    let start = arm .before .before in
+    named _ 8 (arm .match .keys9) (omega (arith, start .pre .0)) (put .put-text9 .ensures)
 
 same-length-10 : tie.Need-same-length-10
 same-length-10 c = search needs
 
 returns-10 : tie.Need-returns-10
 unfolding labels
-returns-10 c = named _ 9 (c .before .before .before .before .before .match .keys10) (omega (arith, c .before .before .before .before .before .before .before .pre .0)) (c .before .before .put-text10 .ensures)
+returns-10 c =
+    let put = c .before .before in
+    let arm = put .before .before .before in
+    let start = arm .before .before in
+    named _ 9 (arm .match .keys10) (omega (arith, start .pre .0)) (put .put-text10 .ensures)
 
 same-length-11 : tie.Need-same-length-11
 same-length-11 c = search needs
 
 returns-11 : tie.Need-returns-11
 unfolding labels
-returns-11 c = named _ 10 (c .before .before .before .before .before .match .keys11) (omega (arith, c .before .before .before .before .before .before .before .pre .0)) (c .before .before .put-text11 .ensures)
+returns-11 c =
+    let put = c .before .before in
+    let arm = put .before .before .before in
+    let start = arm .before .before in
+    named _ 10 (arm .match .keys11) (omega (arith, start .pre .0)) (put .put-text11 .ensures)
 
 same-length-12 : tie.Need-same-length-12
 same-length-12 c = search needs
 
 returns-12 : tie.Need-returns-12
 unfolding labels
-returns-12 c = named _ 11 (c .before .before .before .before .before .match .keys12) (omega (arith, c .before .before .before .before .before .before .before .pre .0)) (c .before .before .put-text12 .ensures)
+returns-12 c =
+    let put = c .before .before in
+    let arm = put .before .before .before in
+    let start = arm .before .before in
+    named _ 11 (arm .match .keys12) (omega (arith, start .pre .0)) (put .put-text12 .ensures)
 
 same-length-13 : tie.Need-same-length-13
 same-length-13 c = search needs
 
 returns-13 : tie.Need-returns-13
 unfolding labels
-returns-13 c = named _ 12 (c .before .before .before .before .before .match .keys13) (omega (arith, c .before .before .before .before .before .before .before .pre .0)) (c .before .before .put-text13 .ensures)
+returns-13 c =
+    let put = c .before .before in
+    let arm = put .before .before .before in
+    let start = arm .before .before in
+    named _ 12 (arm .match .keys13) (omega (arith, start .pre .0)) (put .put-text13 .ensures)
 
 same-length-14 : tie.Need-same-length-14
 same-length-14 c = search needs
 
 returns-14 : tie.Need-returns-14
 unfolding labels
-returns-14 c = named _ 13 (c .before .before .before .before .before .match .keys14) (omega (arith, c .before .before .before .before .before .before .before .pre .0)) (c .before .before .put-text14 .ensures)
+returns-14 c =
+    let put = c .before .before in
+    let arm = put .before .before .before in
+    let start = arm .before .before in
+    named _ 13 (arm .match .keys14) (omega (arith, start .pre .0)) (put .put-text14 .ensures)
 
 same-length-15 : tie.Need-same-length-15
 same-length-15 c = search needs
 
 returns-15 : tie.Need-returns-15
 unfolding labels
-returns-15 c = named _ 14 (c .before .before .before .before .before .match .keys15) (omega (arith, c .before .before .before .before .before .before .before .pre .0)) (c .before .before .put-text15 .ensures)
+returns-15 c =
+    let put = c .before .before in
+    let arm = put .before .before .before in
+    let start = arm .before .before in
+    named _ 14 (arm .match .keys15) (omega (arith, start .pre .0)) (put .put-text15 .ensures)
 
 same-length-16 : tie.Need-same-length-16
 same-length-16 c = search needs
 
 returns-16 : tie.Need-returns-16
 unfolding labels
-returns-16 c = named _ 15 (c .before .before .before .before .before .match .keys16) (omega (arith, c .before .before .before .before .before .before .before .pre .0)) (c .before .before .put-text16 .ensures)
+returns-16 c =
+    let put = c .before .before in
+    let arm = put .before .before .before in
+    let start = arm .before .before in
+    named _ 15 (arm .match .keys16) (omega (arith, start .pre .0)) (put .put-text16 .ensures)
 
 same-length-17 : tie.Need-same-length-17
 same-length-17 c = search needs
 
 returns-17 : tie.Need-returns-17
 unfolding labels
-returns-17 c = named _ 16 (c .before .before .before .before .before .match .keys17) (omega (arith, c .before .before .before .before .before .before .before .pre .0)) (c .before .before .put-text17 .ensures)
+returns-17 c =
+    let put = c .before .before in
+    let arm = put .before .before .before in
+    let start = arm .before .before in
+    named _ 16 (arm .match .keys17) (omega (arith, start .pre .0)) (put .put-text17 .ensures)
 
 same-length-18 : tie.Need-same-length-18
 same-length-18 c = search needs
 
 returns-18 : tie.Need-returns-18
 unfolding labels
-returns-18 c = named _ 17 (c .before .before .before .before .before .match .keys18) (omega (arith, c .before .before .before .before .before .before .before .pre .0)) (c .before .before .put-text18 .ensures)
+returns-18 c =
+    let put = c .before .before in
+    let arm = put .before .before .before in
+    let start = arm .before .before in
+    named _ 17 (arm .match .keys18) (omega (arith, start .pre .0)) (put .put-text18 .ensures)
 
 same-length-19 : tie.Need-same-length-19
 same-length-19 c = search needs
 
 returns-19 : tie.Need-returns-19
 unfolding labels
-returns-19 c = named _ 18 (c .before .before .before .before .before .match .keys19) (omega (arith, c .before .before .before .before .before .before .before .pre .0)) (c .before .before .put-text19 .ensures)
+returns-19 c =
+    let put = c .before .before in
+    let arm = put .before .before .before in
+    let start = arm .before .before in
+    named _ 18 (arm .match .keys19) (omega (arith, start .pre .0)) (put .put-text19 .ensures)
 
 same-length-20 : tie.Need-same-length-20
 same-length-20 c = search needs
 
 returns-20 : tie.Need-returns-20
 unfolding labels
-returns-20 c = named _ 19 (c .before .before .before .before .before .match .keys20) (omega (arith, c .before .before .before .before .before .before .before .pre .0)) (c .before .before .put-text20 .ensures)
+returns-20 c =
+    let put = c .before .before in
+    let arm = put .before .before .before in
+    let start = arm .before .before in
+    named _ 19 (arm .match .keys20) (omega (arith, start .pre .0)) (put .put-text20 .ensures)
 
 same-length-21 : tie.Need-same-length-21
 same-length-21 c = search needs
 
 returns-21 : tie.Need-returns-21
 unfolding labels
-returns-21 c = named _ 20 (c .before .before .before .before .before .match .keys21) (omega (arith, c .before .before .before .before .before .before .before .pre .0)) (c .before .before .put-text21 .ensures)
+returns-21 c =
+    let put = c .before .before in
+    let arm = put .before .before .before in
+    let start = arm .before .before in
+    named _ 20 (arm .match .keys21) (omega (arith, start .pre .0)) (put .put-text21 .ensures)
 
 same-length-22 : tie.Need-same-length-22
 same-length-22 c = search needs
 
 returns-22 : tie.Need-returns-22
 unfolding labels
-returns-22 c = named _ 21 (c .before .before .before .before .before .match .keys22) (omega (arith, c .before .before .before .before .before .before .before .pre .0)) (c .before .before .put-text22 .ensures)
+returns-22 c =
+    let put = c .before .before in
+    let arm = put .before .before .before in
+    let start = arm .before .before in
+    named _ 21 (arm .match .keys22) (omega (arith, start .pre .0)) (put .put-text22 .ensures)
 
 same-length-23 : tie.Need-same-length-23
 same-length-23 c = search needs
 
 returns-23 : tie.Need-returns-23
 unfolding labels
-returns-23 c = named _ 22 (c .before .before .before .before .before .match .keys23) (omega (arith, c .before .before .before .before .before .before .before .pre .0)) (c .before .before .put-text23 .ensures)
+returns-23 c =
+    let put = c .before .before in
+    let arm = put .before .before .before in
+    let start = arm .before .before in
+    named _ 22 (arm .match .keys23) (omega (arith, start .pre .0)) (put .put-text23 .ensures)
 
 same-length-24 : tie.Need-same-length-24
 same-length-24 c = search needs
 
 returns-24 : tie.Need-returns-24
 unfolding labels
-returns-24 c = named _ 23 (c .before .before .before .before .before .match .keys24) (omega (arith, c .before .before .before .before .before .before .before .pre .0)) (c .before .before .put-text24 .ensures)
+returns-24 c =
+    let put = c .before .before in
+    let arm = put .before .before .before in
+    let start = arm .before .before in
+    named _ 23 (arm .match .keys24) (omega (arith, start .pre .0)) (put .put-text24 .ensures)
 
 same-length-25 : tie.Need-same-length-25
 same-length-25 c = search needs
 
 returns-25 : tie.Need-returns-25
 unfolding labels
-returns-25 c = named _ 24 (c .before .before .before .before .before .match .keys25) (omega (arith, c .before .before .before .before .before .before .before .pre .0)) (c .before .before .put-text25 .ensures)
+returns-25 c =
+    let put = c .before .before in
+    let arm = put .before .before .before in
+    let start = arm .before .before in
+    named _ 24 (arm .match .keys25) (omega (arith, start .pre .0)) (put .put-text25 .ensures)
 
 same-length-26 : tie.Need-same-length-26
 same-length-26 c = search needs
 
 returns-26 : tie.Need-returns-26
 unfolding labels
-returns-26 c = named _ 25 (c .before .before .before .before .before .match .keys26) (omega (arith, c .before .before .before .before .before .before .before .pre .0)) (c .before .before .put-text26 .ensures)
+returns-26 c =
+    let put = c .before .before in
+    let arm = put .before .before .before in
+    let start = arm .before .before in
+    named _ 25 (arm .match .keys26) (omega (arith, start .pre .0)) (put .put-text26 .ensures)
 
 same-length-27 : tie.Need-same-length-27
 same-length-27 c = search needs
 
 returns-27 : tie.Need-returns-27
 unfolding labels
-returns-27 c = named _ 26 (c .before .before .before .before .before .match .keys27) (omega (arith, c .before .before .before .before .before .before .before .pre .0)) (c .before .before .put-text27 .ensures)
+returns-27 c =
+    let put = c .before .before in
+    let arm = put .before .before .before in
+    let start = arm .before .before in
+    named _ 26 (arm .match .keys27) (omega (arith, start .pre .0)) (put .put-text27 .ensures)
 
 same-length-28 : tie.Need-same-length-28
 same-length-28 c = search needs
 
 returns-28 : tie.Need-returns-28
 unfolding labels
-returns-28 c = named _ 27 (the-last _ (c .before .before .before .before .before .before .before .pre .1) (c .before .before .before .before .before .match .rest)) (omega (arith, c .before .before .before .before .before .before .before .pre .0)) (c .before .before .put-text28 .ensures)
+returns-28 c =
+    let put = c .before .before in
+    let arm = put .before .before .before in
+    let start = arm .before .before in
+    named _ 27 (the-last _ (start .pre .1) (arm .match .rest)) (omega (arith, start .pre .0)) (put .put-text28 .ensures)
 
 pub put-label-spec : {M : Type 1} → statement M
 put-label-spec =

@@ -19,18 +19,24 @@ slice-aggregate-put-named-2 c = search needs
 
 put-named-requires-2 : tie.Need-put-named-requires-2
 put-named-requires-2 c κs =
-    let p = c .before .before .before .before .put-named in
-    (omega (arith, c .before .before .before .before .before .before .before .before .pre, ends (p .ensures) (length-named callsLabel (c .before .before .before .before .before .before .before .before .args .a .calls)), p .kept .0), search needs)
+    let first = c .before .before .before .before in
+    let start = first .before .before .before .before in
+    let p = first .put-named in
+    (omega (arith, start .pre, ends (p .ensures) (length-named callsLabel (start .args .a .calls)), p .kept .0), search needs)
 
 slice-aggregate-put-named-3 : tie.Need-slice-aggregate-put-named-3
 slice-aggregate-put-named-3 c = search needs
 
 put-named-requires-3 : tie.Need-put-named-requires-3
 put-named-requires-3 c κs =
-    let a = c .before .before .before .before .before .before .before .before .before .before .before .before .before in
-    let p = c .before .before .before .before .before .before .before .before .before .put-named in
-    let q = c .before .before .before .before .put-named2 in
-    (omega (arith, a .pre, ends (p .ensures) (length-named callsLabel (a .args .a .calls)), p .kept .0, ends (q .ensures) (length-named searchesLabel (a .args .a .searches)), q .kept .0), search needs)
+    let second = c .before .before .before .before in
+    let first = second .before .before .before .before .before in
+    let start = first .before .before .before .before in
+    let p = first .put-named in
+    let q = second .put-named2 in
+    let calls = ends (p .ensures) (length-named callsLabel (start .args .a .calls)) in
+    let searches = ends (q .ensures) (length-named searchesLabel (start .args .a .searches)) in
+    (omega (arith, start .pre, calls, p .kept .0, searches, q .kept .0), search needs)
 
 same-length : tie.Need-same-length
 same-length c = search needs
@@ -38,7 +44,10 @@ same-length c = search needs
 returns : tie.Need-returns
 unfolding largestText
 returns c =
-    put-then (search needs) (put-then (search needs) (c .before .before .before .before .before .before .before .before .before .before .before .before .put-named .ensures) (c .before .before .before .before .before .before .before .put-named2 .ensures)) (c .before .before .put-named3 .ensures)
+    let third = c .before .before in
+    let second = third .before .before .before .before .before in
+    let first = second .before .before .before .before .before in
+    put-then (search needs) (put-then (search needs) (first .put-named .ensures) (second .put-named2 .ensures)) (third .put-named3 .ensures)
 
 pub put-largest-spec : {M : Type 1} → statement M
 put-largest-spec =

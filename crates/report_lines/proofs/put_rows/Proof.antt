@@ -1,6 +1,6 @@
 -- `report_lines::put_rows` meets its contract: the lines of the rows so far stand there, and the rows left fall. Assumes nothing.
 use Prim.Native.Nat.{_+_, _*_, _-_, _≤_}
-use mathlib.Core.Path.{_≡_, refl, sym, _∙_}
+use mathlib.Core.Path.{_≡_, refl, _∙_}
 use native.Mathlib.Omega.{arith}
 use lib.ListN.{length}
 use Rattle.text.specs.Put.{Put}

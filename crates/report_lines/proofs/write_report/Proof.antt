@@ -23,21 +23,26 @@ put-number-requires c κs = search needs
 
 put-rows-requires : tie.Need-put-rows-requires
 put-rows-requires c κs =
-    let room = c .before .before .before .before .before .before .before .before .before .before .before .before .if1 .left in
-    let t = c .before .before .before .before .before .before .before .put-text in
-    let n = c .before .before .before .put-number in
+    let number = c .before .before .before in
+    let first = number .before .before .before .before in
+    let room = first .before .before .before .before .before .if1 .left in
+    let t = first .put-text in
+    let n = number .put-number in
     let name = roomy 8 (t .ensures) (omega (arith, room)) in
     let batches = roomy 21 (n .ensures) (omega (arith, room, name .place, t .kept .0)) in
     omega (arith, room, name .place, t .kept .0, ends batches (length-number _ _), n .kept .0)
 
 put-largest-requires : tie.Need-put-largest-requires
 put-largest-requires c κs =
-    let room = c .before .before .before .before .before .before .before .before .before .before .before .before .before .before .before .before .if1 .left in
-    let t = c .before .before .before .before .before .before .before .before .before .before .before .put-text in
-    let n = c .before .before .before .before .before .before .before .put-number in
+    let rows = c .before .before .before in
+    let number = rows .before .before .before .before in
+    let first = number .before .before .before .before in
+    let room = first .before .before .before .before .before .if1 .left in
+    let t = first .put-text in
+    let n = number .put-number in
     let name = roomy 8 (t .ensures) (omega (arith, room)) in
     let batches = roomy 21 (n .ensures) (omega (arith, room, name .place, t .kept .0)) in
-    let w = c .before .before .before .put-rows in
+    let w = rows .put-rows in
     omega (arith, room, name .place, t .kept .0, ends batches (length-number _ _), n .kept .0, w .ensures .1, w .kept .0)
 
 same-length : tie.Need-same-length
@@ -46,12 +51,15 @@ same-length c = search needs
 returns-2 : tie.Need-returns-2
 unfolding reportText
 returns-2 c =
-    let room = c .before .before .before .before .before .before .before .before .before .before .before .before .before .before .before .before .before .before .before .if1 .left in
-    let t = c .before .before .before .before .before .before .before .before .before .before .before .before .before .before .put-text in
-    let n = c .before .before .before .before .before .before .before .before .before .before .put-number in
+    let rows = c .before .before .before .before .before .before in
+    let number = rows .before .before .before .before in
+    let first = number .before .before .before .before in
+    let room = first .before .before .before .before .before .if1 .left in
+    let t = first .put-text in
+    let n = number .put-number in
     let name = roomy 8 (t .ensures) (omega (arith, room)) in
     let batches = roomy 21 (n .ensures) (omega (arith, room, name .place, t .kept .0)) in
-    let lines = put-then (search needs) (put-then (search needs) name batches) (c .before .before .before .before .before .before .put-rows .ensures .0) in
+    let lines = put-then (search needs) (put-then (search needs) name batches) (rows .put-rows .ensures .0) in
     rw (le-ltb _ _ room) (put-then (search needs) lines (c .before .before .put-largest .ensures))
 
 pub write-report-spec : {M : Type 1} → statement M

@@ -1,6 +1,6 @@
 -- `summary::counting::empty` meets its contract: all counts are 0. Assumes nothing.
 use Rattle.summary.specs.Rows.{rowsIn, timesIn}
-use Rattle.summary.specs.Largest.{largestFrom, largestIn}
+use Rattle.summary.specs.Largest.{largestIn}
 use Rattle.summary.specs.Report.{report, everyAnswer, tallyFrom}
 use borrow.Author.Needs.{needs}
 use Rattle.summary.proofs.counting.empty.Statement.{statement}

@@ -21,7 +21,11 @@ bumped-requires-3 c κs = search needs
 
 returns : tie.Need-returns
 unfolding bumpedAll
-returns c = simp (c .bumped3 .ensures, c .before .detail-row .ensures, c .before .before .bumped2 .ensures, c .before .before .before .group-row .ensures, c .before .before .before .before .bumped .ensures)
+returns c =
+    let detail = c .before in
+    let second = detail .before in
+    let group = second .before in
+    simp (c .bumped3 .ensures, detail .detail-row .ensures, second .bumped2 .ensures, group .group-row .ensures, group .before .bumped .ensures)
 
 pub in-rows-spec : {M : Type 1} → statement M
 in-rows-spec =

@@ -1,5 +1,5 @@
 -- `summary::most::larger` meets its contract, case by case. Assumes nothing.
-use borrow.Author.Tests.{lt-ltb, le-ltb, eq-eqb, ne-eqb}
+use borrow.Author.Tests.{lt-ltb, le-ltb}
 use Rattle.summary.specs.Largest.{larger}
 use borrow.Author.Needs.{needs}
 use Rattle.summary.proofs.most.larger.Statement.{statement}
