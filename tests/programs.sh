@@ -1,7 +1,8 @@
 #!/usr/bin/env bash
 # programs.sh: runs `any_contact`, and `sheet` beside it, and `convert` on the cases below, `pack` and `unpack` on those of tests/job_lines.py, `report`
-# on those of tests/report_cases.py, and compares all that they write, standard error and files included. Exit status 1 where one differs. They are x86-64 programs: on another machine RUN
-# names what runs such a program (an emulator). PROGRAMS names another folder than target/bin; where it is not given they are proved and built first.
+# on those of tests/report_cases.py, and compares all that they write, standard error and files included. Exit status 1 where one differs. They are
+# x86-64 programs: on another machine RUN names what runs such a program (an emulator). PROGRAMS names another folder than target/bin; where it is not
+# given they are proved and built first.
 set -u
 cd "$(dirname "$0")/.."
 run="${RUN:-}"; bin="${PROGRAMS:-}"
