@@ -1,12 +1,13 @@
 #!/usr/bin/env bash
 # programs.sh: runs `any_contact`, and `sheet` beside it, `convert` and `salvage` on the cases below, `pack` and `unpack` on those of
-# tests/job_lines.py, and compares all that they write, standard error and files included. Exit status 1 where one differs. They are x86-64 programs: on another machine RUN
-# names what runs such a program (an emulator). PROGRAMS names another folder than target/bin; where it is not given they are proved and built first.
+# tests/job_lines.py, `report` on those of tests/report_cases.py, and compares all that they write, standard error and files included. Exit status 1
+# where one differs. They are x86-64 programs: on another machine RUN names what runs such a program (an emulator). PROGRAMS names another folder than
+# target/bin; where it is not given they are proved and built first.
 set -u
 cd "$(dirname "$0")/.."
 run="${RUN:-}"; bin="${PROGRAMS:-}"
 if [ -z "$bin" ]; then
-  rt check any_contact sheet convert salvage pack unpack > /dev/null || { echo "any_contact, sheet, convert, salvage, pack or unpack is not proved"; exit 1; }
+  rt check any_contact sheet convert salvage pack unpack report > /dev/null || { echo "a program is not proved"; exit 1; }
   bin="$PWD/target/bin"
 fi
 work="$(mktemp -d)"; trap 'rm -r "$work"' EXIT
@@ -211,4 +212,56 @@ done > "$work/want"
 timeout 60 $run "$bin/pack" < "$work/lines" > "$work/back" 2> "$work/err"; ended=$?
 wrote "and back" 0 "" ""
 cmp "$work/back" "$work/want" || bad=1
+
+# ---- report: its text is worked out from the sheets of the same batches
+reports="$work/reports"; mkdir "$reports"
+names="$(python3 tests/report_cases.py files "${run:+$run }$bin/sheet" "$reports")" || bad=1
+
+# reported CASE OUT ERR: status 0, the bytes of OUT printed, and that text told
+reported() {
+  if [ "$ended" = 0 ] && cmp -s "$work/out" "$2" && [ "$(cat "$work/err"; echo .)" = "$3." ]; then
+    echo "report, $1: $(wc -l < "$2") lines${3:+, told: $(tail -c 60 "$work/err")}"
+  else
+    echo "report, $1: WRONG: status $ended, told '$(cat "$work/err")', printed:"; diff "$work/out" "$2" | head -n 5; bad=1
+  fi
+}
+# reports [FILE..]: runs it in their folder
+reports() { (cd "$reports" && timeout 60 $run "$bin/report" "$@" > "$work/out" 2> "$work/err"); ended=$?; }
+
+for name in $names; do
+  # shellcheck disable=SC2046
+  reports $(cd "$reports" && ls -v "$name".[0-9]*);                reported "$name" "$reports/$name.out" ""
+  if [ ! -e "$reports/$name.2" ]; then
+    reports < "$reports/$name.1";                                  reported "$name, from standard input" "$reports/$name.out" ""
+    cat "$reports/$name.1" | timeout 60 $run "$bin/report" > "$work/out" 2> "$work/err"; ended=$?
+    reported "$name, from a pipe" "$reports/$name.out" ""
+  fi
+done
+one="$reports/one-batch.1"; two="two-batches.1"
+
+# faults: the file is told by its name, and nothing is printed, whichever files were read before
+reports "$two" missing two-batches.2;                             reported "a missing file" "$work/no" $'missing: No such file or directory\n'
+reports missing other;                                            reported "two missing files" "$work/no" $'missing: No such file or directory\n'
+reports "$two" . two-batches.2;                                   reported "a folder" "$work/no" $'.: Is a directory\n'
+reports "$two" two-batches.2/file;                                reported "a file in a file" "$work/no" $'two-batches.2/file: Not a directory\n'
+reports "";                                                       reported "an empty name" "$work/no" $': No such file or directory\n'
+long="$(printf 'n%.0s' $(seq 300))"
+reports "$long";                                                  reported "a name that is too long" "$work/no" "$long"$': File name too long\n'
+long="$(printf 'n%.0s' $(seq 5000))"
+reports "$long";                                                  reported "an argument that is too long" "$work/no" "${long:0:4096}"$': File name too long\n'
+cp "$one" "$reports/locked"; chmod 000 "$reports/locked"
+if [ "$(id -u)" = 0 ]; then
+  echo "report, a file that may not be read: left out, since root may read it"
+else
+  reports "$two" locked;                                          reported "a file that may not be read" "$work/no" $'locked: Permission denied\n'
+fi
+reports < "$work";                                                reported "a folder as input" "$work/no" $'standard input: Is a directory\n'
+(cd "$reports" && timeout 60 $run "$bin/report" <&- > "$work/out" 2> "$work/err"); ended=$?
+reported "closed input" "$work/no" $'standard input: Bad file descriptor\n'
+: > "$work/out"; timeout 60 $run "$bin/report" "$one" > /dev/full 2> "$work/err"; ended=$?
+reported "full output" "$work/no" $'standard output: No space left on device\n'
+: > "$work/out"; timeout 60 $run "$bin/report" "$one" >&- 2> "$work/err"; ended=$?
+reported "closed output" "$work/no" $'standard output: Bad file descriptor\n'
+(cd "$reports" && timeout 60 $run "$bin/report" "$two" two-batches.2 <&- > "$work/out" 2> "$work/err"); ended=$?
+reported "files with a closed input" "$reports/two-batches.out" ""
 exit $bad

@@ -31,6 +31,9 @@ use Rattle.contacts.proofs as contacts
 use Rattle.forms.proofs as forms
 use Rattle.salvaging.proofs as salvaging
 use Rattle.job_text.proofs as job_text
+use Rattle.summary.proofs as summary
+use Rattle.report_lines.proofs as report_lines
+use Rattle.monthly.proofs as monthly
 use Rattle.foldflake.proofs as foldflake
 use Rattle.toi_proxy.specs.declared.ToiProxy.{ToiProxy}
 use Rattle.lines.specs.declared.part.Written.{Written}
@@ -728,6 +731,58 @@ module _ {M : Type 1} (𝓤 : URA M) (H : Heap 𝓤) (A : Atoms 𝓤) (mem : Mem
     clauses = job_text.unpack_part.clauses 𝓤 H A mem run;
     of-contract = refl;
     once = λ κs a g r r' v v'. told-in-two 𝓤 (λ p q. (search (same-value, unpacked-by-parts), each-list job_text.unpack_part.ended κs a v v' (search same-value depth 12)));
+  }
+
+  -- ---- summary
+  pub summary-counted : OneResult 𝓤 H A summary.counted.ended (summary.counted.spec 𝓤 H A mem run)
+  summary-counted = record {
+    clauses = summary.counted.clauses 𝓤 H A mem run;
+    of-contract = refl;
+    once = λ κs a g r r' v v'. told 𝓤 (λ p q. (search same-value, refl));
+  }
+
+  pub summary-empty : OneResult 𝓤 H A summary.empty.ended (summary.empty.spec 𝓤 H A mem run)
+  summary-empty = record {
+    clauses = summary.empty.clauses 𝓤 H A mem run;
+    of-contract = refl;
+    once = λ κs a g r r' v v'. told 𝓤 (λ p q. (search same-value, refl));
+  }
+
+  pub summary-merge : OneResult 𝓤 H A summary.merge.ended (summary.merge.spec 𝓤 H A mem run)
+  summary-merge = record {
+    clauses = summary.merge.clauses 𝓤 H A mem run;
+    of-contract = refl;
+    once = λ κs a g r r' v v'. told 𝓤 (λ p q. (search same-value, refl));
+  }
+
+  pub summary-opened : OneResult 𝓤 H A summary.opened.ended (summary.opened.spec 𝓤 H A mem run)
+  summary-opened = record {
+    clauses = summary.opened.clauses 𝓤 H A mem run;
+    of-contract = refl;
+    once = λ κs a g r r' v v'. told 𝓤 (λ p q. (search same-value, refl));
+  }
+
+  -- ---- report_lines
+  pub report-lines-write-report : OneResult 𝓤 H A report_lines.write_report.ended (report_lines.write_report.spec 𝓤 H A mem run)
+  report-lines-write-report = record {
+    clauses = report_lines.write_report.clauses 𝓤 H A mem run;
+    of-contract = refl;
+    once = λ κs a g r r' v v'. told 𝓤 (λ p q. (search same-value, each-list report_lines.write_report.ended κs a v v' (search same-value depth 12)));
+  }
+
+  -- ---- monthly
+  pub monthly-add-part : OneResult 𝓤 H A monthly.add_part.ended (monthly.add_part.spec 𝓤 H A mem run)
+  monthly-add-part = record {
+    clauses = monthly.add_part.clauses 𝓤 H A mem run;
+    of-contract = refl;
+    once = λ κs a g r r' v v'. told 𝓤 (λ p q. (search same-value, refl));
+  }
+
+  pub monthly-write-batches : OneResult 𝓤 H A monthly.write_batches.ended (monthly.write_batches.spec 𝓤 H A mem run)
+  monthly-write-batches = record {
+    clauses = monthly.write_batches.clauses 𝓤 H A mem run;
+    of-contract = refl;
+    once = λ κs a g r r' v v'. told 𝓤 (λ p q. (search same-value, each-list monthly.write_batches.ended κs a v v' (search same-value depth 12)));
   }
 
   -- ---- foldflake

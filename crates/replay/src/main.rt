@@ -10,6 +10,7 @@ mod operations;
 mod packed;
 mod plates;
 mod pool;
+mod reports;
 mod salvages;
 mod sweeps;
 mod table;

@@ -7,6 +7,7 @@ use crate::operations;
 use crate::packed;
 use crate::plates;
 use crate::pool::Numbers;
+use crate::reports;
 use crate::salvages;
 use crate::sweeps;
 use crate::tally;
@@ -51,6 +52,7 @@ fn shape_of(table: u32) -> RowShape
         8 => shape(10912, 0, 8, 4),
         9 => shape(10912, 0, 8, 4),
         10 => shape(10912, 0, 8, 4),
+        11 => shape(10912, 0, 8, 4),
         _ => shape(65536, 0, 0, 0),
     }
 }
@@ -67,6 +69,7 @@ fn answer(table: u32, row: &[u8], n: u64, pool: &[u8], numbers: &[f32], words: &
         8 => packed::answer(row, words),
         9 => unpacked::answer(row, words),
         10 => salvages::answer(row, words),
+        11 => reports::answer(row, words),
         _ => {}
     }
 }

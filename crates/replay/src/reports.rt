@@ -1,0 +1,31 @@
+// Table 11: cases of `report`. The input has a word for how many batches there are, one for the bytes of each, and the batches one behind another.
+use crate::cases;
+use crate::words::Words;
+
+// A row has at most so many batches.
+const MOST: usize = 8;
+
+pub fn answer(row: &[u8], words: &mut Words) {
+    let start = cases::INPUT;
+    let end = cases::input_end(row);
+    if end < start {
+        return;
+    }
+    let count = wire::word(row, start) as usize;
+    if count > MOST {
+        return;
+    }
+    let mut sizes = [0u32; MOST];
+    let mut i: usize = 0;
+    while i < count {
+        sizes[i] = wire::word(row, start + 4 + 4 * i);
+        i += 1;
+    }
+    let from = start + 4 + 4 * count;
+    if end < from {
+        return;
+    }
+    let mut text = io::buffer();
+    let n = monthly::write_batches(&row[from..end], &sizes[..count], &mut text);
+    cases::tell_first(row, end, &text, n, b"", 0, words);
+}

@@ -1,0 +1,5 @@
+pub mod Held
+pub mod Tally
+pub mod Sums
+pub mod Places
+pub mod Merged
