@@ -15,11 +15,14 @@ ghost use lib.ListN.{length, getD};
 ghost use Rattle.legs.specs.Route as Route;
 
 const MOST_WAYPOINTS: usize = 33;
+
 const MOST_OUTLINES: usize = 32;
 
 // The answers where no sweep is run.
 const WRONG_LENGTH: u32 = 255;
+
 const WRONG_WAYPOINTS: u32 = 16;
+
 const WRONG_OUTLINES: u32 = 17;
 
 // Where a route ends: the leg and the outline, both from 1, and the distance calls of all sweeps up to there.

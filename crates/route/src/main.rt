@@ -6,6 +6,7 @@ const PART_SIZE: usize = 65536;
 
 // Numbers and lengths that can matter: a slop, 129 of the cart, four for each of 33 waypoints, 129 for each of 32 outlines; one outline more.
 const NUMBERS: usize = 4390;
+
 const LENGTHS: usize = 33;
 
 // Whether the run goes on, and where the reader stands.

@@ -21,9 +21,13 @@ pub struct Line {
 }
 
 pub const BETWEEN: usize = 0;
+
 pub const AFTER_WORD: usize = 5;
+
 pub const FIRST_DIGIT: usize = 6;
+
 pub const LAST_DIGIT: usize = 13;
+
 const NO_LINE: usize = 14;
 
 // More words than an outline can have.

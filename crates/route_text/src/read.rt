@@ -78,7 +78,11 @@ fn keep_length(lengths: &mut [u32], outlines: usize, n: u32) -> usize
 pub fn next_line(lines: u64) -> u64
     ensures { λ r. ⌜ r ≡ Read.nextLine lines ⌝ }
 {
-    if lines < COUNT_LIMIT { lines + 1 } else { lines }
+    if lines < COUNT_LIMIT {
+        lines + 1
+    } else {
+        lines
+    }
 }
 
 fn is_still(kind: Kind) -> bool

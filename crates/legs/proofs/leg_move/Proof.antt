@@ -44,7 +44,7 @@ turn-requires-2 c κs = search needs
 
 returns : tie.Need-returns
 unfolding legMove
-returns c = 
+returns c =
     simp (
       c .turn2 .ensures,
       c .before .point4 .ensures,

@@ -37,7 +37,7 @@ loop-less : tie.Need-loop-less Inv-loop μ-loop
 loop-less c = search needs
 
 loop-again : tie.Need-loop-again Inv-loop μ-loop
-loop-again c = 
+loop-again c =
     let l = c .before .before .loop in (
       search needs,
       rw (l .inv .1) (start-more _ _),
@@ -45,7 +45,7 @@ loop-again c =
     )
 
 returns : tie.Need-returns Inv-loop μ-loop
-returns c = 
+returns c =
     let l = c .before .loop in
     let done = le-antisymm (l .inv .0) (c .loop-test .left) in
     (rw (← done) (l .inv .1), omega (arith, l .inv .2, done))

@@ -23,7 +23,7 @@ wide-requires-2 : tie.Need-wide-requires-2
 wide-requires-2 c κs = search needs
 
 add-end : tie.Need-add-end
-add-end c = 
+add-end c =
     let a = c .before .before .before .before .before .before .before .before .args in
     let p = c .before .before .before .before .before .before .before .before .pre in
     let k = c .before .before .before .wide in
@@ -40,7 +40,7 @@ part-sweep-past-start : tie.Need-part-sweep-past-start
 part-sweep-past-start c = search needs
 
 part-sweep-past-end : tie.Need-part-sweep-past-end
-part-sweep-past-end c = 
+part-sweep-past-end c =
     let a = c .before .before .before .before .before .before .before .before .args in
     let p = c .before .before .before .before .before .before .before .before .pre in
     let k = c .before .before .before .wide in
@@ -51,7 +51,7 @@ sweep-past-requires : tie.Need-sweep-past-requires
 sweep-past-requires c κs = search needs
 
 returns : tie.Need-returns
-returns c = 
+returns c =
     let a = c .before .before .before .before .before .before .before .before .before .before .args in
     swept-past binary32 (a .cart .now) (a .waypoints .now) (a .stills .now) (a .lengths .now) (a .slop) (a .i) _ _ _ _ (c .before .before .before .before .before .wide .ensures)
     (c .before .before .before .before .start-of .ensures .0) (c .before .before .wide2 .ensures) (c .sweep-past .ensures)

@@ -14,7 +14,7 @@ sweep-time-of-impact-requires : tie.Need-sweep-time-of-impact-requires
 sweep-time-of-impact-requires c κs = search needs
 
 returns : tie.Need-returns
-returns c = 
+returns c =
     rw (c .sweep-time-of-impact .ensures, c .before .still-move .ensures, c .before .before .leg-move .ensures) (answer-as-ever binary32 _ _ _ _ _ _ _ _)
 
 pub sweep-past-spec : {M : Type 1} → statement M

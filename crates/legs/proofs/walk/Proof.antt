@@ -26,19 +26,24 @@ rem-sweep-at : tie.Need-rem-sweep-at Inv-loop μ-loop
 rem-sweep-at c = search needs
 
 sweep-at-requires : tie.Need-sweep-at-requires Inv-loop μ-loop
-sweep-at-requires c κs = 
+sweep-at-requires c κs =
     let l = c .before .loop in
     let a = c .before .before .before .before .before .before .args in
     let p = c .before .before .before .before .before .before .pre in
-    let some : 0 < a .outlines = omega (arith, p .0 .1) in
-    ((leg-small (l .k) (a .outlines) 1024 (omega (arith, c .loop-test .taken, p .0 .3)),
-    omega (arith, mod-lt (l .k) some, p .0 .0), omega (arith, p .0 .0, p .0 .2)), p .1)
+    let some : 0 < a .outlines = omega (arith, p .0 .1) in (
+      (
+        leg-small (l .k) (a .outlines) 1024 (omega (arith, c .loop-test .taken, p .0 .3)),
+        omega (arith, mod-lt (l .k) some, p .0 .0),
+        omega (arith, p .0 .0, p .0 .2),
+      ),
+      p .1,
+    )
 
 calls-of-requires : tie.Need-calls-of-requires Inv-loop μ-loop
 calls-of-requires c κs = search needs
 
 add-calls : tie.Need-add-calls Inv-loop μ-loop
-add-calls c = 
+add-calls c =
     let l = c .before .before .before .loop in
     let a = c .before .before .before .before .before .before .before .before .args in
     omega (arith, few-calls-of binary32 (a .cart .now) (a .waypoints .now) (a .stills .now) (a .lengths .now) (a .slop) (l .k / a .outlines) (l .k % a .outlines) (c .calls-of .result) _ (c .before .sweep-at .ensures) (c .calls-of .ensures), l .inv .1, c .before .before .loop-test .taken, c .before .before .before .before .before .before .before .before .pre .0 .3)
@@ -53,7 +58,7 @@ ended-by-requires : tie.Need-ended-by-requires Inv-loop μ-loop
 ended-by-requires c κs = search needs
 
 returns : tie.Need-returns Inv-loop μ-loop
-returns c = 
+returns c =
     let l = c .before .before .before .before .before .before .before .loop in
     let a = c .before .before .before .before .before .before .before .before .before .before .before .before .args in
     ends-here binary32 (a .cart .now) (a .waypoints .now) (a .stills .now) (a .lengths .now) (a .slop) (a .sweeps) (l .k) (l .calls) _ _ (c .before .before .before .before .before .before .loop-test .taken) (rw (c .before .before .before .before .before .before .before .before .before .before .before .before .pre .0 .0) at (c .before .before .before .before .before .sweep-at .ensures)) (c .before .before .before .before .calls-of .ensures) _ (c .before .before .before .is-separated .ensures)
@@ -66,17 +71,16 @@ loop-less : tie.Need-loop-less Inv-loop μ-loop
 loop-less c = search needs
 
 loop-again : tie.Need-loop-again Inv-loop μ-loop
-loop-again c = 
+loop-again c =
     let l = c .before .before .before .before .before .loop in
-    let a = c .before .before .before .before .before .before .before .before .before .before .args in
-    (
+    let a = c .before .before .before .before .before .before .before .before .before .before .args in (
       search needs,
       omega (arith, few-calls-of binary32 (a .cart .now) (a .waypoints .now) (a .stills .now) (a .lengths .now) (a .slop) (l .k / a .outlines) (l .k % a .outlines) (c .before .before .calls-of .result) _ (c .before .before .before .sweep-at .ensures) (c .before .before .calls-of .ensures), l .inv .1),
       goes-on binary32 (a .cart .now) (a .waypoints .now) (a .stills .now) (a .lengths .now) (a .slop) (a .sweeps) (l .k) (l .calls) _ _ (c .before .before .before .before .loop-test .taken) (rw (c .before .before .before .before .before .before .before .before .before .before .pre .0 .0) at (c .before .before .before .sweep-at .ensures)) (c .before .before .calls-of .ensures) _ (c .before .is-separated .ensures) (c .if1 .left) ∙ l .inv .2,
     )
 
 returns-2 : tie.Need-returns-2 Inv-loop μ-loop
-returns-2 c = 
+returns-2 c =
     let l = c .before .loop in
     let a = c .before .before .before .before .before .before .args in
     all-passed binary32 (a .cart .now) (a .waypoints .now) (a .stills .now) (a .lengths .now) (a .slop) (a .sweeps) (l .k) (l .calls) (c .loop-test .left) ∙ l .inv .2
