@@ -217,15 +217,9 @@ fn walk(
     let mut calls = 0u32;
     let mut k = 0u32;
     while k < sweeps {
-        let answer = sweep_at(
-            cart,
-            waypoints,
-            stills,
-            lengths,
-            slop,
-            k / outlines,
-            k % outlines,
-        );
+        let leg = k / outlines;
+        let outline = k % outlines;
+        let answer = sweep_at(cart, waypoints, stills, lengths, slop, leg, outline);
         calls += calls_of(answer);
         if !is_separated(answer) {
             return ended_by(answer, stop_at(outlines, k, calls));

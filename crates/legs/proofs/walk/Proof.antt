@@ -19,11 +19,11 @@ abbrev μ-loop : tie.MeasureT-loop
 loop-holds : tie.Need-loop-holds Inv-loop μ-loop
 loop-holds c = let a = c .before .before .before .before .args in (search needs, search needs, at-first binary32 (a .cart .now) (a .waypoints .now) (a .stills .now) (a .lengths .now) (a .slop) (a .sweeps))
 
-div-sweep-at : tie.Need-div-sweep-at Inv-loop μ-loop
-div-sweep-at c = search needs
+div-leg : tie.Need-div-leg Inv-loop μ-loop
+div-leg c = search needs
 
-rem-sweep-at : tie.Need-rem-sweep-at Inv-loop μ-loop
-rem-sweep-at c = search needs
+rem-outline : tie.Need-rem-outline Inv-loop μ-loop
+rem-outline c = search needs
 
 sweep-at-requires : tie.Need-sweep-at-requires Inv-loop μ-loop
 sweep-at-requires c κs =
@@ -92,8 +92,8 @@ walk-spec =
     Inv-loop
     μ-loop
     loop-holds
-    div-sweep-at
-    rem-sweep-at
+    div-leg
+    rem-outline
     sweep-at-requires
     calls-of-requires
     add-calls
