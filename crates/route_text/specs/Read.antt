@@ -25,18 +25,48 @@ noText = reader (line Nothing between 0 0) (kept 0 0 0 0) 0
 
 -- ---- what is kept
 -- a number after others of its line: where these are not too many, and there is a place
-abbrev pub usedAfter : List Float → ℕ → ℕ → ℕ
-usedAfter floats used before = cond (ltb before mostWords) (cond (ltb used (length floats)) (used + 1) used) used
+abbrev pub oneMoreNumber : List Float → ℕ → ℕ → ℕ
+oneMoreNumber floats used before = cond (ltb before mostWords) (cond (ltb used (length floats)) (used + 1) used) used
 
-abbrev pub numbersAfter : List Float → ℕ → ℕ → Float → List Float
-numbersAfter floats used before x = cond (ltb before mostWords) (set floats used x) floats
+abbrev pub withNumber : List Float → ℕ → ℕ → Float → List Float
+withNumber floats used before x = cond (ltb before mostWords) (set floats used x) floats
 
 -- the length of a still outline, where there is a place
-abbrev pub outlinesAfter : List ℕ → ℕ → ℕ
-outlinesAfter lengths n = cond (ltb n (length lengths)) (n + 1) n
+abbrev pub oneMoreLength : List ℕ → ℕ → ℕ
+oneMoreLength lengths n = cond (ltb n (length lengths)) (n + 1) n
 
-abbrev pub lengthsAfter : List ℕ → ℕ → ℕ → List ℕ
-lengthsAfter lengths n x = set lengths n x
+abbrev pub withLength : List ℕ → ℕ → ℕ → List ℕ
+withLength lengths n x = set lengths n x
+
+-- ---- where a word has ended: the number that it stands for
+abbrev pub wordEnds : Line → Line → Bool
+wordEnds before l = eqb (before .place) lastDigit && eqb (l .place) wordEnd
+
+abbrev pub usedAfter : Line → Line → ℕ → List Float → ℕ
+usedAfter before l used floats = cond (wordEnds before l) (oneMoreNumber floats used (before .count)) used
+
+abbrev pub numbersAfter : Line → Line → ℕ → List Float → List Float
+numbersAfter before l used floats = cond (wordEnds before l) (withNumber floats used (before .count) (ofBits binary32 (l .value))) floats
+
+-- ---- where a line has ended: its kind, and else Nothing
+abbrev pub ended : Line → Kind
+ended l = cond (eqb (l .place) between) (l .kind) Nothing
+
+-- the cart ends with its line
+abbrev pub cartEnd : Kind → ℕ → ℕ → ℕ
+cartEnd Nothing used end = end
+cartEnd Slop used end = end
+cartEnd Cart used end = used
+cartEnd At used end = end
+cartEnd Still used end = end
+
+-- the waypoints with the last of their lines, and where there is none with the cart
+abbrev pub wayEnd : Kind → ℕ → ℕ → ℕ
+wayEnd Nothing used end = end
+wayEnd Slop used end = end
+wayEnd Cart used end = used
+wayEnd At used end = used
+wayEnd Still used end = end
 
 abbrev pub isStill : Kind → Bool
 isStill Nothing = false
@@ -45,53 +75,33 @@ isStill Cart = false
 isStill At = false
 isStill Still = true
 
--- the cart ends with its line; the waypoints with the last of theirs, or where there is none with the cart
-abbrev pub endsAfter : Kind → Kept → Kept
-endsAfter Nothing k = k
-endsAfter Slop k = k
-endsAfter Cart k = kept (k .used) (k .used) (k .used) (k .outlines)
-endsAfter At k = kept (k .used) (k .«cart_end») (k .used) (k .outlines)
-endsAfter Still k = k
+abbrev pub outlinesAfter : Kind → ℕ → List ℕ → ℕ
+outlinesAfter kind n lengths = cond (isStill kind) (oneMoreLength lengths n) n
 
--- where a line has ended
-abbrev pub keptLength : Kind → Kept → List ℕ → Kept
-keptLength kind k lengths =
-    cond (isStill kind) (kept (k .used) (k .«cart_end») (k .«way_end») (outlinesAfter lengths (k .outlines))) (endsAfter kind k)
-
-abbrev pub keptLengths : Kind → Kept → ℕ → List ℕ → List ℕ
-keptLengths kind k count lengths = cond (isStill kind) (lengthsAfter lengths (k .outlines) count) lengths
-
--- where a word has ended
-abbrev pub wordEnds : Line → Line → Bool
-wordEnds before l = eqb (before .place) lastDigit && eqb (l .place) wordEnd
-
-abbrev pub keptNumber : Line → Line → Kept → List Float → Kept
-keptNumber before l k floats =
-    cond (wordEnds before l) (kept (usedAfter floats (k .used) (before .count)) (k .«cart_end») (k .«way_end») (k .outlines)) k
-
-abbrev pub keptNumbers : Line → Line → Kept → List Float → List Float
-keptNumbers before l k floats = cond (wordEnds before l) (numbersAfter floats (k .used) (before .count) (ofBits binary32 (l .value))) floats
+abbrev pub lengthsAfter : Kind → ℕ → ℕ → List ℕ → List ℕ
+lengthsAfter kind n count lengths = cond (isStill kind) (withLength lengths n count) lengths
 
 -- lines are counted to 2^63
 abbrev pub nextLine : ℕ → ℕ
 nextLine n = cond (ltb n countLimit) (n + 1) n
 
+abbrev pub linesAfter : ℕ → ℕ → ℕ
+linesAfter place n = cond (eqb place between) (nextLine n) n
+
 -- ---- one byte more
-abbrev pub lineEnds : Line → Bool
-lineEnds l = eqb (l .place) between
+unfoldable pub readerAfter : ℕ → Reader → List Float → List ℕ → Reader
+readerAfter x r floats lengths =
+    let l = lineAfter (r .line) x in
+    let k = r .kept in
+    let now = kept (usedAfter (r .line) l (k .used) floats) (cartEnd (ended l) (k .used) (k .«cart_end»)) (wayEnd (ended l) (k .used) (k .«way_end»))
+    (outlinesAfter (ended l) (k .outlines) lengths) in
+    reader l now (linesAfter (l .place) (r .lines))
 
-module _ (x : ℕ) (r : Reader) (floats : List Float) (lengths : List ℕ) where
-  abbrev pub readerAfter : Reader
-  readerAfter =
-      let l = lineAfter (r .line) x in
-      cond (lineEnds l) (reader l (keptLength (l .kind) (r .kept) lengths) (nextLine (r .lines)))
-      (reader l (keptNumber (r .line) l (r .kept) floats) (r .lines))
+unfoldable pub floatsAfter : ℕ → Reader → List Float → List Float
+floatsAfter x r floats = numbersAfter (r .line) (lineAfter (r .line) x) (r .kept .used) floats
 
-  abbrev pub floatsAfter : List Float
-  floatsAfter = let l = lineAfter (r .line) x in cond (lineEnds l) floats (keptNumbers (r .line) l (r .kept) floats)
-
-  abbrev pub lengthsOf : List ℕ
-  lengthsOf = let l = lineAfter (r .line) x in cond (lineEnds l) (keptLengths (l .kind) (r .kept) (l .count) lengths) lengths
+unfoldable pub lengthsOf : ℕ → Reader → List ℕ → List ℕ
+lengthsOf x r lengths = let l = lineAfter (r .line) x in lengthsAfter (ended l) (r .kept .outlines) (l .count) lengths
 
 -- ---- a text
 -- a reader with the lists that it is lent
@@ -103,8 +113,9 @@ pub record Run : Type 0 where
 abbrev pub run : Reader → List Float → List ℕ → Run
 run r floats lengths = record { reader = r; floats = floats; lengths = lengths }
 
-unfoldable pub byteMore : Run → ℕ → Run
-byteMore s x = run (readerAfter x (s .reader) (s .floats) (s .lengths)) (floatsAfter x (s .reader) (s .floats) (s .lengths)) (lengthsOf x (s .reader) (s .floats) (s .lengths))
+abbrev pub byteMore : Run → ℕ → Run
+byteMore s x =
+    run (readerAfter x (s .reader) (s .floats) (s .lengths)) (floatsAfter x (s .reader) (s .floats)) (lengthsOf x (s .reader) (s .lengths))
 
 unfoldable pub runOver : Run → List ℕ → Run
 runOver s [] = s

@@ -23,7 +23,7 @@ const LONGEST_LINE: usize = 128;
 const NO_ROUTE: u64 = 14;
 
 fn least(a: usize, b: usize) -> usize
-    ensures { λ r. ⌜ r ≡ Answer.least a b ⌝ }
+    ensures { λ r. ⌜ (r ≡ Answer.least a b) × (r ≤ a) × (r ≤ b) ⌝ }
 {
     if b < a { b } else { a }
 }

@@ -1,6 +1,6 @@
 // One line of a route, byte by byte: its name, then words of eight capital hexadecimal digits, a blank before each, and a newline.
 ghost use mathlib.Core.Path.{_≡_};
-ghost use Rattle.route_text.specs.Line as Line;
+ghost use Rattle.route_text.specs.Line as Text;
 
 // The kinds of line in their order; Nothing before the first.
 pub enum Kind {
@@ -34,14 +34,14 @@ const NO_LINE: usize = 14;
 pub const MOST_WORDS: u32 = 129;
 
 fn at_or_still(x: u8) -> Kind
-    ensures { λ r. ⌜ r ≡ Line.atOrStill x ⌝ }
+    ensures { λ r. ⌜ r ≡ Text.atOrStill x ⌝ }
 {
     if x == b'A' { Kind::At } else { Kind::Still }
 }
 
 // The kind of the line after one, by its first byte.
 fn next_kind(last: Kind, x: u8) -> Kind
-    ensures { λ r. ⌜ r ≡ Line.nextKind last x ⌝ }
+    ensures { λ r. ⌜ r ≡ Text.nextKind last x ⌝ }
 {
     match last {
         Kind::Nothing => Kind::Slop,
@@ -53,7 +53,7 @@ fn next_kind(last: Kind, x: u8) -> Kind
 }
 
 fn kind_at(last: Kind, place: usize, x: u8) -> Kind
-    ensures { λ r. ⌜ r ≡ Line.kindAt last place x ⌝ }
+    ensures { λ r. ⌜ r ≡ Text.kindAt last place x ⌝ }
 {
     if place == BETWEEN {
         return next_kind(last, x);
@@ -63,7 +63,7 @@ fn kind_at(last: Kind, place: usize, x: u8) -> Kind
 
 // The place after one byte more of a name.
 fn named(name: &[u8], place: usize, x: u8) -> usize
-    ensures { λ r. ⌜ r ≡ Line.named (now (name .entry)) place x ⌝ }
+    ensures { λ r. ⌜ r ≡ Text.named (now (name .entry)) place x ⌝ }
 {
     if place >= name.len() {
         return NO_LINE;
@@ -78,7 +78,7 @@ fn named(name: &[u8], place: usize, x: u8) -> usize
 }
 
 fn place_in_name(kind: Kind, place: usize, x: u8) -> usize
-    ensures { λ r. ⌜ r ≡ Line.named (Line.name kind) place x ⌝ }
+    ensures { λ r. ⌜ r ≡ Text.named (Text.name kind) place x ⌝ }
 {
     match kind {
         Kind::Nothing => named(b"", place, x),
@@ -90,7 +90,7 @@ fn place_in_name(kind: Kind, place: usize, x: u8) -> usize
 }
 
 fn in_name(line: Line, x: u8) -> Line
-    ensures { λ r. ⌜ r ≡ Line.inName line x ⌝ }
+    ensures { λ r. ⌜ r ≡ Text.inName line x ⌝ }
 {
     let last = line.kind;
     let kind = kind_at(last, line.place, x);
@@ -105,7 +105,7 @@ fn in_name(line: Line, x: u8) -> Line
 
 // Whether a line with so many words can have another.
 fn takes_word(kind: Kind, count: u32) -> bool
-    ensures { λ r. ⌜ r ≡ Line.takesWord kind count ⌝ }
+    ensures { λ r. ⌜ r ≡ Text.takesWord kind count ⌝ }
 {
     match kind {
         Kind::Nothing => false,
@@ -118,7 +118,7 @@ fn takes_word(kind: Kind, count: u32) -> bool
 
 // Whether it can end.
 fn is_whole(kind: Kind, count: u32) -> bool
-    ensures { λ r. ⌜ r ≡ Line.isWhole kind count ⌝ }
+    ensures { λ r. ⌜ r ≡ Text.isWhole kind count ⌝ }
 {
     match kind {
         Kind::Nothing => false,
@@ -130,13 +130,13 @@ fn is_whole(kind: Kind, count: u32) -> bool
 }
 
 fn place_if(so: bool, place: usize) -> usize
-    ensures { λ r. ⌜ r ≡ Line.placeIf so place ⌝ }
+    ensures { λ r. ⌜ r ≡ Text.placeIf so place ⌝ }
 {
     if so { place } else { NO_LINE }
 }
 
 fn place_after_word(kind: Kind, count: u32, x: u8) -> usize
-    ensures { λ r. ⌜ r ≡ Line.placeAfterWord kind count x ⌝ }
+    ensures { λ r. ⌜ r ≡ Text.placeAfterWord kind count x ⌝ }
 {
     if x == b' ' {
         return place_if(takes_word(kind, count), FIRST_DIGIT);
@@ -148,7 +148,7 @@ fn place_after_word(kind: Kind, count: u32, x: u8) -> usize
 }
 
 fn after_word(line: Line, x: u8) -> Line
-    ensures { λ r. ⌜ r ≡ Line.afterWord line x ⌝ }
+    ensures { λ r. ⌜ r ≡ Text.afterWord line x ⌝ }
 {
     let kind = line.kind;
     let place = place_after_word(kind, line.count, x);
@@ -162,7 +162,7 @@ fn after_word(line: Line, x: u8) -> Line
 
 // What a byte stands for as a digit; 16 where it is none.
 fn hex_of(x: u8) -> u64
-    ensures { λ r. ⌜ r ≡ Line.hexOf x ⌝ }
+    ensures { λ r. ⌜ r ≡ Text.hexOf x ⌝ }
 {
     if x < 48 {
         return 16;
@@ -180,20 +180,20 @@ fn hex_of(x: u8) -> u64
 }
 
 fn one_more(count: u32) -> u32
-    ensures { λ r. ⌜ r ≡ Line.oneMore count ⌝ }
+    ensures { λ r. ⌜ r ≡ Text.oneMore count ⌝ }
 {
     if count < MOST_WORDS { count + 1 } else { count }
 }
 
 fn next_value(value: u32, digit: u64) -> u32
-    ensures { λ r. ⌜ r ≡ Line.nextValue value digit ⌝ }
+    ensures { λ r. ⌜ r ≡ Text.nextValue value digit ⌝ }
 {
     ((value as u64 * 16 + digit % 16) % 0x1_0000_0000) as u32
 }
 
 // The place after a byte within a word.
 fn place_in_word(place: usize, digit: u64) -> usize
-    ensures { λ r. ⌜ r ≡ Line.placeInWord place digit ⌝ }
+    ensures { λ r. ⌜ r ≡ Text.placeInWord place digit ⌝ }
 {
     if digit == 16 {
         return NO_LINE;
@@ -206,7 +206,7 @@ fn place_in_word(place: usize, digit: u64) -> usize
 
 // The words of a line after a byte within one.
 fn count_in_word(place: usize, count: u32) -> u32
-    ensures { λ r. ⌜ r ≡ Line.countInWord place count ⌝ }
+    ensures { λ r. ⌜ r ≡ Text.countInWord place count ⌝ }
 {
     if place == LAST_DIGIT {
         return one_more(count);
@@ -215,7 +215,7 @@ fn count_in_word(place: usize, count: u32) -> u32
 }
 
 fn in_word(line: Line, x: u8) -> Line
-    ensures { λ r. ⌜ r ≡ Line.inWord line x ⌝ }
+    ensures { λ r. ⌜ r ≡ Text.inWord line x ⌝ }
 {
     let kind = line.kind;
     let digit = hex_of(x);
@@ -232,7 +232,7 @@ fn in_word(line: Line, x: u8) -> Line
 
 // The line with one byte more.
 pub fn line_after(line: Line, x: u8) -> Line
-    ensures { λ r. ⌜ r ≡ Line.lineAfter line x ⌝ }
+    ensures { λ r. ⌜ r ≡ Text.lineAfter line x ⌝ }
 {
     if line.place < AFTER_WORD {
         return in_name(line, x);

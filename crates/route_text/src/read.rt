@@ -52,7 +52,7 @@ pub fn no_text() -> Reader
 
 // Keeps a number where its line has not too many before it and there is a place; the answer is how many are kept then.
 fn keep_number(floats: &mut [f32], used: usize, before: u32, x: f32) -> usize
-    ensures { λ r. ⌜ (r ≡ Read.usedAfter (now (floats .entry)) used before) × (now (floats .exit) ≡ Read.numbersAfter (now (floats .entry)) used before x) ⌝ }
+    ensures { λ r. ⌜ (r ≡ Read.oneMoreNumber (now (floats .entry)) used before) × (now (floats .exit) ≡ Read.withNumber (now (floats .entry)) used before x) ⌝ }
 {
     if before >= MOST_WORDS {
         return used;
@@ -64,9 +64,9 @@ fn keep_number(floats: &mut [f32], used: usize, before: u32, x: f32) -> usize
     used + 1
 }
 
-// Keeps the length of an outline in the same way.
+// Keeps the length of an outline where there is a place.
 fn keep_length(lengths: &mut [u32], outlines: usize, n: u32) -> usize
-    ensures { λ r. ⌜ (r ≡ Read.outlinesAfter (now (lengths .entry)) outlines) × (now (lengths .exit) ≡ Read.lengthsAfter (now (lengths .entry)) outlines n) ⌝ }
+    ensures { λ r. ⌜ (r ≡ Read.oneMoreLength (now (lengths .entry)) outlines) × (now (lengths .exit) ≡ Read.withLength (now (lengths .entry)) outlines n) ⌝ }
 {
     if outlines >= lengths.len() {
         return outlines;
@@ -75,13 +75,50 @@ fn keep_length(lengths: &mut [u32], outlines: usize, n: u32) -> usize
     outlines + 1
 }
 
-pub fn next_line(lines: u64) -> u64
-    ensures { λ r. ⌜ r ≡ Read.nextLine lines ⌝ }
+// The number that a word stands for is kept where a byte has ended it.
+fn used_after(before: Line, line: Line, used: usize, floats: &mut [f32]) -> usize
+    ensures { λ r. ⌜ (r ≡ Read.usedAfter before line used (now (floats .entry))) × (now (floats .exit) ≡ Read.numbersAfter before line used (now (floats .entry))) ⌝ }
 {
-    if lines < COUNT_LIMIT {
-        lines + 1
-    } else {
-        lines
+    if (before.place == LAST_DIGIT) & (line.place == AFTER_WORD) {
+        let x = ground::from_bits(line.value);
+        return keep_number(floats, used, before.count, x);
+    }
+    used
+}
+
+// The kind of a line that a byte has ended, and else Nothing.
+fn ended(line: Line) -> Kind
+    ensures { λ r. ⌜ r ≡ Read.ended line ⌝ }
+{
+    if line.place == BETWEEN {
+        return line.kind;
+    }
+    Kind::Nothing
+}
+
+// The cart ends with its line.
+fn cart_end(kind: Kind, used: usize, end: usize) -> usize
+    ensures { λ r. ⌜ r ≡ Read.cartEnd kind used end ⌝ }
+{
+    match kind {
+        Kind::Nothing => end,
+        Kind::Slop => end,
+        Kind::Cart => used,
+        Kind::At => end,
+        Kind::Still => end,
+    }
+}
+
+// The waypoints end with the last of their lines, and where there is none with the cart.
+fn way_end(kind: Kind, used: usize, end: usize) -> usize
+    ensures { λ r. ⌜ r ≡ Read.wayEnd kind used end ⌝ }
+{
+    match kind {
+        Kind::Nothing => end,
+        Kind::Slop => end,
+        Kind::Cart => used,
+        Kind::At => used,
+        Kind::Still => end,
     }
 }
 
@@ -97,84 +134,58 @@ fn is_still(kind: Kind) -> bool
     }
 }
 
-// The cart ends with its line, and the waypoints with the last of theirs, or where there is none with the cart.
-fn ends_after(kind: Kind, kept: Kept) -> Kept
-    ensures { λ r. ⌜ r ≡ Read.endsAfter kind kept ⌝ }
-{
-    match kind {
-        Kind::Nothing => kept,
-        Kind::Slop => kept,
-        Kind::Cart => Kept {
-            used: kept.used,
-            cart_end: kept.used,
-            way_end: kept.used,
-            outlines: kept.outlines,
-        },
-        Kind::At => Kept {
-            used: kept.used,
-            cart_end: kept.cart_end,
-            way_end: kept.used,
-            outlines: kept.outlines,
-        },
-        Kind::Still => kept,
-    }
-}
-
-// The length of a still outline whose line has ended is kept.
-fn lengths_after(kind: Kind, kept: Kept, count: u32, lengths: &mut [u32]) -> Kept
-    ensures { λ r. ⌜ (r ≡ Read.keptLength kind kept (now (lengths .entry))) × (now (lengths .exit) ≡ Read.keptLengths kind kept count (now (lengths .entry))) ⌝ }
+// The length of a still outline is kept with the end of its line.
+fn outlines_after(kind: Kind, outlines: usize, count: u32, lengths: &mut [u32]) -> usize
+    ensures { λ r. ⌜ (r ≡ Read.outlinesAfter kind outlines (now (lengths .entry))) × (now (lengths .exit) ≡ Read.lengthsAfter kind outlines count (now (lengths .entry))) ⌝ }
 {
     if is_still(kind) {
-        let outlines = keep_length(lengths, kept.outlines, count);
-        return Kept {
-            used: kept.used,
-            cart_end: kept.cart_end,
-            way_end: kept.way_end,
-            outlines,
-        };
+        return keep_length(lengths, outlines, count);
     }
-    ends_after(kind, kept)
+    outlines
 }
 
-// The number that a word stands for is kept where the byte that made the line so ended it.
-fn numbers_after(before: Line, line: Line, kept: Kept, floats: &mut [f32]) -> Kept
-    ensures { λ r. ⌜ (r ≡ Read.keptNumber before line kept (now (floats .entry))) × (now (floats .exit) ≡ Read.keptNumbers before line kept (now (floats .entry))) ⌝ }
+pub fn next_line(lines: u64) -> u64
+    ensures { λ r. ⌜ r ≡ Read.nextLine lines ⌝ }
 {
-    if (before.place == LAST_DIGIT) & (line.place == AFTER_WORD) {
-        let x = ground::from_bits(line.value);
-        let used = keep_number(floats, kept.used, before.count, x);
-        return Kept {
-            used,
-            cart_end: kept.cart_end,
-            way_end: kept.way_end,
-            outlines: kept.outlines,
-        };
+    if lines < COUNT_LIMIT {
+        lines + 1
+    } else {
+        lines
     }
-    kept
+}
+
+fn lines_after(place: usize, lines: u64) -> u64
+    ensures { λ r. ⌜ r ≡ Read.linesAfter place lines ⌝ }
+{
+    if place == BETWEEN {
+        return next_line(lines);
+    }
+    lines
 }
 
 // One byte more.
 fn read_byte(x: u8, reader: Reader, floats: &mut [f32], lengths: &mut [u32]) -> Reader
-    ensures { λ r. ⌜ (r ≡ Read.readerAfter x reader (now (floats .entry)) (now (lengths .entry))) × (now (floats .exit) ≡ Read.floatsAfter x reader (now (floats .entry)) (now (lengths .entry))) × (now (lengths .exit) ≡ Read.lengthsOf x reader (now (floats .entry)) (now (lengths .entry))) ⌝ }
+    ensures { λ r. ⌜ (r ≡ Read.readerAfter x reader (now (floats .entry)) (now (lengths .entry))) × (now (floats .exit) ≡ Read.floatsAfter x reader (now (floats .entry))) × (now (lengths .exit) ≡ Read.lengthsOf x reader (now (lengths .entry))) ⌝ }
 {
     let before = reader.line;
     let kept = reader.kept;
     let line = line_after(before, x);
-    if line.place == BETWEEN {
-        let kind = line.kind;
-        let now = lengths_after(kind, kept, line.count, lengths);
-        let lines = next_line(reader.lines);
-        return Reader {
-            line,
-            kept: now,
-            lines,
-        };
-    }
-    let now = numbers_after(before, line, kept, floats);
+    let kind = ended(line);
+    let cart = cart_end(kind, kept.used, kept.cart_end);
+    let ways = way_end(kind, kept.used, kept.way_end);
+    let lines = lines_after(line.place, reader.lines);
+    let outlines = outlines_after(kind, kept.outlines, line.count, lengths);
+    let used = used_after(before, line, kept.used, floats);
+    let now = Kept {
+        used,
+        cart_end: cart,
+        way_end: ways,
+        outlines,
+    };
     Reader {
         line,
         kept: now,
-        lines: reader.lines,
+        lines,
     }
 }
 
