@@ -22,7 +22,7 @@ use Rattle.legs.specs.Route.{route}
 use Rattle.route_text.specs.declared.read.Kept.{Kept}
 use Rattle.route_text.specs.declared.read.Reader.{Reader}
 use Rattle.route_text.specs.Read.{nextLine}
-use Rattle.route_text.specs.Answer.{least, cut, routeOf, isRoute, two, clearLine, endedLine, refusedLine, wrongLine, noRouteLine, answerLine, longestLine, textFor}
+use Rattle.route_text.specs.Answer.{least, cut, wholeEnd, routeOf, isRoute, two, clearLine, endedLine, refusedLine, wrongLine, noRouteLine, answerLine, longestLine, textFor}
 
 pub two-is : (a b end : ℕ) → two a b end ≡ number a 32 ++ number b end
 unfolding two
@@ -67,10 +67,10 @@ module _ (reader : Reader) (numbers : List Float) (lengths : List ℕ) {d d' : L
 
 -- ---- the route of what is kept
 module _ (k : Kept) (numbers : List Float) (lengths : List ℕ) where
-  pub route-kept : {used ways cart start n : ℕ} {first : Vector} {x : RouteAnswer} → used ≡ least (k .used) (length numbers) →
+  pub route-kept : {used ways cart start n whole : ℕ} {first : Vector} {x : RouteAnswer} → used ≡ least (k .used) (length numbers) →
       ways ≡ least (k .«way_end») used → cart ≡ least (k .«cart_end») ways → start ≡ least 1 cart → n ≡ least (k .outlines) (length lengths) →
-      first ≡ point numbers 0 →
-      x ≡ route binary32 (cut numbers start cart) (cut numbers cart ways) (cut numbers ways used) (take n lengths) (first .x) →
+      whole ≡ wholeEnd cart ways → first ≡ point numbers 0 →
+      x ≡ route binary32 (cut numbers start cart) (cut numbers cart whole) (cut numbers ways used) (take n lengths) (first .x) →
       x ≡ routeOf k numbers lengths
   unfolding routeOf
-  route-kept a b c d e f is = is ∙ rw (f, e, d, c, b, a)
+  route-kept a b c d e g f is = is ∙ rw (f, g, e, d, c, b, a)

@@ -1,5 +1,5 @@
 -- The answer of a text: the line of its route, or 14 and the number of the first line that is none of a route.
-use Prim.Native.Nat.{ℕ, _-_}
+use Prim.Native.Nat.{ℕ, _+_, _-_, _*_, _/_}
 use mathlib.Core.Bool.{Bool, true, false, _&&_, cond}
 use mathlib.Core.List.{List, [], _∷_, _++_}
 use lib.Dec.{eqb, ltb}
@@ -31,13 +31,17 @@ least a b = cond (ltb b a) b a
 abbrev pub cut : List Float → ℕ → ℕ → List Float
 cut s a b = take (b - a) (drop a s)
 
+-- whole waypoints alone: a text with more numbers than there are places for may end within one
+abbrev pub wholeEnd : ℕ → ℕ → ℕ
+wholeEnd cart ways = cart + (ways - cart) / 4 * 4
+
 -- one behind another: the slop, the cart, the waypoints, the still outlines
 unfoldable pub routeOf : Kept → List Float → List ℕ → RouteAnswer
 routeOf k floats lengths =
     let used = least (k .used) (length floats) in
     let ways = least (k .«way_end») used in
     let cart = least (k .«cart_end») ways in
-    route binary32 (cut floats (least 1 cart) cart) (cut floats cart ways) (cut floats ways used)
+    route binary32 (cut floats (least 1 cart) cart) (cut floats cart (wholeEnd cart ways)) (cut floats ways used)
     (take (least (k .outlines) (length lengths)) lengths) (point floats 0 .x)
 
 abbrev pub hasCart : Kind → Bool

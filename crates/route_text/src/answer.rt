@@ -28,6 +28,14 @@ fn least(a: usize, b: usize) -> usize
     if b < a { b } else { a }
 }
 
+// Where the last whole waypoint ends: a text with more numbers than there are places for may end within one.
+fn whole_end(cart: usize, ways: usize) -> usize
+    requires { ⌜ cart ≤ ways ⌝ }
+    ensures { λ r. ⌜ (r ≡ Answer.wholeEnd cart ways) × (cart ≤ r) × (r ≤ ways) ⌝ }
+{
+    cart + (ways - cart) / 4 * 4
+}
+
 // The route that the kept numbers and lengths stand for.
 fn route_of(kept: Kept, floats: &[f32], lengths: &[u32]) -> RouteAnswer
     ensures { λ r. ⌜ r ≡ Answer.routeOf kept (now (floats .entry)) (now (lengths .entry)) ⌝ }
@@ -37,10 +45,11 @@ fn route_of(kept: Kept, floats: &[f32], lengths: &[u32]) -> RouteAnswer
     let cart = least(kept.cart_end, ways);
     let start = least(1, cart);
     let n = least(kept.outlines, lengths.len());
+    let whole = whole_end(cart, ways);
     let first = outline::point(floats, 0);
     legs::route(
         &floats[start..cart],
-        &floats[cart..ways],
+        &floats[cart..whole],
         &floats[ways..used],
         &lengths[..n],
         first.x,

@@ -21,6 +21,9 @@ least-requires-4 c κs = search needs
 least-requires-5 : tie.Need-least-requires-5
 least-requires-5 c κs = search needs
 
+whole-end-requires : tie.Need-whole-end-requires
+whole-end-requires c κs = search needs
+
 point-requires : tie.Need-point-requires
 point-requires c κs = search needs
 
@@ -68,8 +71,9 @@ route-requires c κs = search needs
 
 returns : tie.Need-returns
 returns c =
-    route-kept _ _ _ (c .before .before .before .before .before .before .before .before .before .before .least .ensures .0) (c .before .before .before .before .before .before .before .before .before .least2 .ensures .0) (c .before .before .before .before .before .before .before .before .least3 .ensures .0) (c .before .before .before .before .before .before .before .least4 .ensures .0)
-    (c .before .before .before .before .before .before .least5 .ensures .0) (c .before .before .before .before .before .point .ensures) (c .route .ensures)
+    let l = c .before .before .before .before .before .before .before in
+    route-kept _ _ _ (l .before .before .before .before .least .ensures .0) (l .before .before .before .least2 .ensures .0) (l .before .before .least3 .ensures .0) (l .before .least4 .ensures .0) (l .least5 .ensures .0)
+    (c .before .before .before .before .before .before .whole-end .ensures .0) (c .before .before .before .before .before .point .ensures) (c .route .ensures)
 
 pub route-of-spec : {M : Type 1} → statement M
 route-of-spec =
@@ -80,6 +84,7 @@ route-of-spec =
     least-requires-3
     least-requires-4
     least-requires-5
+    whole-end-requires
     point-requires
     mul-route
     sub-route
