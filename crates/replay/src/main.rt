@@ -10,6 +10,7 @@ mod operations;
 mod packed;
 mod plates;
 mod pool;
+mod routes;
 mod sweeps;
 mod table;
 mod tally;

@@ -14,7 +14,7 @@ struct Texts {
 }
 
 // Where a piece that starts before the end has its own.
-fn piece_end(from: usize, end: usize) -> usize
+pub fn piece_end(from: usize, end: usize) -> usize
     requires { ⌜ from < end ⌝ }
     ensures { λ r. ⌜ (from < r) × (r ≤ end) ⌝ }
 {

@@ -7,6 +7,7 @@ use crate::operations;
 use crate::packed;
 use crate::plates;
 use crate::pool::Numbers;
+use crate::routes;
 use crate::sweeps;
 use crate::tally;
 use crate::tally::Counts;
@@ -49,6 +50,7 @@ fn shape_of(table: u32) -> RowShape
         7 => shape(10912, 0, 8, 4),
         8 => shape(10912, 0, 8, 4),
         9 => shape(10912, 0, 8, 4),
+        12 => shape(10912, 0, 8, 4),
         _ => shape(65536, 0, 0, 0),
     }
 }
@@ -64,6 +66,7 @@ fn answer(table: u32, row: &[u8], n: u64, pool: &[u8], numbers: &[f32], words: &
         7 => conversions::answer(row, words),
         8 => packed::answer(row, words),
         9 => unpacked::answer(row, words),
+        12 => routes::answer(row, words),
         _ => {}
     }
 }
