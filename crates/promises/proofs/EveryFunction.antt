@@ -30,6 +30,8 @@ use Rattle.lines.proofs as lines
 use Rattle.contacts.proofs as contacts
 use Rattle.forms.proofs as forms
 use Rattle.job_text.proofs as job_text
+use Rattle.legs.proofs as legs
+use Rattle.route_text.proofs as route_text
 use Rattle.foldflake.proofs as foldflake
 use Rattle.toi_proxy.specs.declared.ToiProxy.{ToiProxy}
 use Rattle.lines.specs.declared.part.Written.{Written}
@@ -615,6 +617,20 @@ module _ {M : Type 1} (𝓤 : URA M) (H : Heap 𝓤) (A : Atoms 𝓤) (mem : Mem
   }
 
   -- ---- lines
+  pub lines-letter-of : OneResult 𝓤 H A lines.letter_of.ended (lines.letter_of.spec 𝓤 H A mem run)
+  lines-letter-of = record {
+    clauses = lines.letter_of.clauses 𝓤 H A mem run;
+    of-contract = refl;
+    once = λ κs a g r r' v v'. told 𝓤 (λ p q. (search same-value, refl));
+  }
+
+  pub lines-write-contact : OneResult 𝓤 H A lines.write_contact.ended (lines.write_contact.spec 𝓤 H A mem run)
+  lines-write-contact = record {
+    clauses = lines.write_contact.clauses 𝓤 H A mem run;
+    of-contract = refl;
+    once = λ κs a g r r' v v'. told 𝓤 (λ p q. (search same-value, each-list lines.write_contact.ended κs a v v' (search same-value depth 12)));
+  }
+
   pub lines-write-line : OneResult 𝓤 H A lines.write_line.ended (lines.write_line.spec 𝓤 H A mem run)
   lines-write-line = record {
     clauses = lines.write_line.clauses 𝓤 H A mem run;
@@ -702,6 +718,36 @@ module _ {M : Type 1} (𝓤 : URA M) (H : Heap 𝓤) (A : Atoms 𝓤) (mem : Mem
     once = λ κs a g r r' v v'. told-in-two 𝓤 (λ p q. (search (same-value, unpacked-by-parts), each-list job_text.unpack_part.ended κs a v v' (search same-value depth 12)));
   }
 
+  -- ---- legs
+  pub legs-route : OneResult 𝓤 H A legs.route.ended (legs.route.spec 𝓤 H A mem run)
+  legs-route = record {
+    clauses = legs.route.clauses 𝓤 H A mem run;
+    of-contract = refl;
+    once = λ κs a g r r' v v'. told 𝓤 (λ p q. (search same-value, refl));
+  }
+
+  -- ---- route_text
+  pub route-text-no-text : OneResult 𝓤 H A route_text.no_text.ended (route_text.no_text.spec 𝓤 H A mem run)
+  route-text-no-text = record {
+    clauses = route_text.no_text.clauses 𝓤 H A mem run;
+    of-contract = refl;
+    once = λ κs a g r r' v v'. told 𝓤 (λ p q. (search same-value, refl));
+  }
+
+  pub route-text-read-part : OneResult 𝓤 H A route_text.read_part.ended (route_text.read_part.spec 𝓤 H A mem run)
+  route-text-read-part = record {
+    clauses = route_text.read_part.clauses 𝓤 H A mem run;
+    of-contract = refl;
+    once = λ κs a g r r' v v'. told 𝓤 (λ p q. (search same-value, each-list route_text.read_part.ended κs a v v' (search same-value depth 12)));
+  }
+
+  pub route-text-write-answer : OneResult 𝓤 H A route_text.write_answer.ended (route_text.write_answer.spec 𝓤 H A mem run)
+  route-text-write-answer = record {
+    clauses = route_text.write_answer.clauses 𝓤 H A mem run;
+    of-contract = refl;
+    once = λ κs a g r r' v v'. told 𝓤 (λ p q. (search same-value, each-list route_text.write_answer.ended κs a v v' (search same-value depth 12)));
+  }
+
   -- ---- foldflake
   pub foldflake-foldflake-bar : OneResult 𝓤 H A foldflake.foldflake_bar.ended (foldflake.foldflake_bar.spec 𝓤 H A mem run)
   foldflake-foldflake-bar = record {
@@ -764,6 +810,13 @@ module _ {M : Type 1} (𝓤 : URA M) (H : Heap 𝓤) (A : Atoms 𝓤) (mem : Mem
     clauses = foldflake.foldflake_root.clauses 𝓤 H A mem run;
     of-contract = refl;
     once = λ κs a g r r' v v'. told 𝓤 (λ p q. (search same-value, refl));
+  }
+
+  pub foldflake-foldflake-route : OneResult 𝓤 H A foldflake.foldflake_route.ended (foldflake.foldflake_route.spec 𝓤 H A mem run)
+  foldflake-foldflake-route = record {
+    clauses = foldflake.foldflake_route.clauses 𝓤 H A mem run;
+    of-contract = refl;
+    once = λ κs a g r r' v v'. told 𝓤 (λ p q. (search same-value, each-list foldflake.foldflake_route.ended κs a v v' (search same-value depth 12)));
   }
 
   pub foldflake-foldflake-sweep : OneResult 𝓤 H A foldflake.foldflake_sweep.ended (foldflake.foldflake_sweep.spec 𝓤 H A mem run)
