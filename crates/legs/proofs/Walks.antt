@@ -14,7 +14,7 @@ use Rattle.model.proofs.SweepToi.{Counted, sweep-counts-bounded}
 use Rattle.legs.specs.declared.Stop.{Stop}
 use Rattle.legs.specs.declared.RouteAnswer.{RouteAnswer}
 use Rattle.legs.specs.declared.RouteAnswer.the-variants.{Clear}
-use Rattle.legs.specs.Route.{startOf, isSeparated, callsOf, endedBy, stopAt, sweepPast, sweepAt, sweepIn, walkFrom, outlineAt}
+use Rattle.legs.specs.Route.{startOf, isSeparated, callsOf, endedBy, stop, stopAt, sweepPast, sweepAt, sweepIn, walkFrom, outlineAt}
 
 -- at most 20 distance calls a sweep
 few : (x : SweepAnswer) → Counted x → callsOf x ≤ 20
@@ -68,6 +68,17 @@ module _ (f : Format) (cart waypoints stills : List Float) (lengths : List ℕ) 
   unfolding walkFrom
   all-passed sweeps k calls over = let none : sweeps - k ≡ 0 = omega arith in rw none
 
--- where sweep k stands
-pub leg-small : (k n m : ℕ) → k ≤ m → k / n ≤ m
-leg-small k n m small = omega (arith, div-le-self k n)
+-- ---- where sweep k stands, past n outlines on each leg
+pub leg-few : {leg : ℕ} (k n m : ℕ) → leg ≡ k / n → k ≤ m → leg ≤ m
+leg-few k n m is small = omega (arith, div-le-self k n, is)
+
+pub outline-few : {outline : ℕ} (k n : ℕ) → outline ≡ k % n → 1 ≤ n → outline < n
+outline-few k n is some = rw is (mod-lt k some)
+
+module _ (f : Format) (cart waypoints stills : List Float) (lengths : List ℕ) (slop : Float) {leg outline : ℕ} (k n : ℕ) (all : n ≡ length lengths)
+    (on-leg : leg ≡ k / n) (past : outline ≡ k % n) where
+  pub swept-in-order : {x : SweepAnswer} → x ≡ sweepAt f cart waypoints stills lengths slop leg outline → x ≡ sweepIn f cart waypoints stills lengths slop k
+  swept-in-order is = is ∙ rw (on-leg, past, all)
+
+  pub stopped-in-order : {s : Stop} (calls : ℕ) → s ≡ stop (leg + 1) (outline + 1) calls → s ≡ stopAt (length lengths) k calls
+  stopped-in-order calls is = is ∙ rw (on-leg, past, all)

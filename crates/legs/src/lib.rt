@@ -9,7 +9,7 @@ use model::Vector;
 use outline::point;
 ghost use mathlib.Core.Path.{_≡_};
 ghost use mathlib.Core.Bool.{true, false};
-ghost use Prim.Native.Nat.{_+_, _*_, _≤_, _<_};
+ghost use Prim.Native.Nat.{_+_, _*_, _/_, _%_, _≤_, _<_};
 ghost use lib.Ieee.{binary32};
 ghost use lib.ListN.{length, getD};
 ghost use Rattle.legs.specs.Route as Route;
@@ -188,14 +188,29 @@ fn ended_by(answer: SweepAnswer, stop: Stop) -> RouteAnswer
     }
 }
 
-// Where sweep k stands, past that many outlines on each leg.
-fn stop_at(outlines: u32, k: u32, calls: u32) -> Stop
-    requires { ⌜ (1 ≤ outlines) × (k ≤ 1024) ⌝ }
-    ensures { λ r. ⌜ r ≡ Route.stopAt outlines k calls ⌝ }
+// Sweep k is that of leg k / outlines past outline k % outlines, both from 0.
+fn leg_of(outlines: u32, k: u32) -> u32
+    requires { ⌜ 1 ≤ outlines ⌝ }
+    ensures { λ r. ⌜ r ≡ k / outlines ⌝ }
+{
+    k / outlines
+}
+
+fn outline_of(outlines: u32, k: u32) -> u32
+    requires { ⌜ 1 ≤ outlines ⌝ }
+    ensures { λ r. ⌜ r ≡ k % outlines ⌝ }
+{
+    k % outlines
+}
+
+// Both are told from 1.
+fn stop_at(leg: u32, outline: u32, calls: u32) -> Stop
+    requires { ⌜ (leg ≤ 1024) × (outline ≤ 1024) ⌝ }
+    ensures { λ r. ⌜ r ≡ Route.stop (leg + 1) (outline + 1) calls ⌝ }
 {
     Stop {
-        leg: k / outlines + 1,
-        outline: k % outlines + 1,
+        leg: leg + 1,
+        outline: outline + 1,
         calls,
     }
 }
@@ -217,12 +232,12 @@ fn walk(
     let mut calls = 0u32;
     let mut k = 0u32;
     while k < sweeps {
-        let leg = k / outlines;
-        let outline = k % outlines;
+        let leg = leg_of(outlines, k);
+        let outline = outline_of(outlines, k);
         let answer = sweep_at(cart, waypoints, stills, lengths, slop, leg, outline);
         calls += calls_of(answer);
         if !is_separated(answer) {
-            return ended_by(answer, stop_at(outlines, k, calls));
+            return ended_by(answer, stop_at(leg, outline, calls));
         }
         k += 1;
     }

@@ -1,3 +1,4 @@
+-- `legs::calls_of` meets its contract, case by case. Assumes nothing.
 use borrow.Author.Needs.{needs}
 use Rattle.legs.proofs.calls_of.Statement.{statement}
 use Rattle.legs.proofs.calls_of.Tie as tie

@@ -1,3 +1,4 @@
+-- `legs::ended_by` meets its contract, case by case. Assumes nothing.
 use borrow.Author.Needs.{needs}
 use Rattle.legs.proofs.ended_by.Statement.{statement}
 use Rattle.legs.proofs.ended_by.Tie as tie

@@ -1,3 +1,4 @@
+-- `legs::leg_move` meets its contract, by what its callees ensure. Assumes nothing.
 use Rattle.legs.specs.Route.{legMove}
 use borrow.Author.Needs.{needs}
 use Rattle.legs.proofs.leg_move.Statement.{statement}

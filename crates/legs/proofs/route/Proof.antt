@@ -1,3 +1,4 @@
+-- `legs::route` meets its contract: each check in its order, then the walk. Assumes nothing.
 use mathlib.Core.Path.{refl, _∙_}
 use Prim.Native.Nat.{_/_}
 use native.Mathlib.Omega.{arith}

@@ -1,3 +1,4 @@
+-- `legs::start_of` meets its contract: the lengths so far add up, and those left fall. Assumes nothing.
 use mathlib.Core.Path.{_≡_}
 use Prim.Native.Nat.{_≤_, _-_, _*_}
 use native.Mathlib.Omega.{arith}

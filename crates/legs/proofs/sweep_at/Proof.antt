@@ -1,3 +1,4 @@
+-- `legs::sweep_at` meets its contract: the outline lies inside the flat list. Assumes nothing.
 use native.Mathlib.Omega.{arith}
 use lib.ListN.{length}
 use lib.Ieee.{binary32}

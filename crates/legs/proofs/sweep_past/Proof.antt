@@ -1,3 +1,4 @@
+-- `legs::sweep_past` meets its contract, by what its callees ensure. Assumes nothing.
 use lib.Ieee.{binary32}
 use Rattle.model.proofs.Searches.{answer-as-ever}
 use borrow.Author.Needs.{needs}
