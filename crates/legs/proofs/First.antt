@@ -1,10 +1,10 @@
 -- A route is clear just where every leg is separated from every still outline; else the first leg in order that is not ends it, with its lowest
 -- outline. The distance calls told are the sum over the sweeps that were run, at most 20 for each. Sweeps are looked at by their number in order, and
 -- the number taken apart in the end. Assumes nothing.
-use mathlib.Core.Path.{_≡_, refl, sym, ap, _∙_}
+use mathlib.Core.Path.{_≡_, refl, ap}
 use mathlib.Core.Bool.{Bool, true, false, _||_, cond}
 use mathlib.Core.List.{List}
-use mathlib.Core.Logic.{_⊎_, inl, inr}
+use mathlib.Core.Logic.{inl, inr}
 use Prim.Native.Nat.{ℕ, zero, suc, _+_, _-_, _*_, _/_, _%_, _≤_, _<_}
 use native.Mathlib.Omega.{arith}
 use native.Mathlib.Numerals.{add-one}
@@ -16,9 +16,9 @@ use lib.Ieee.{Float, Format}
 use Rattle.model.specs.declared.SweepAnswer.{SweepAnswer}
 use Rattle.model.specs.declared.SweepAnswer.the-variants as Sweep
 use Rattle.legs.specs.declared.RouteAnswer.{RouteAnswer}
-use Rattle.legs.specs.declared.RouteAnswer.the-variants.{Clear, Ended, Refused, Wrong}
+use Rattle.legs.specs.declared.RouteAnswer.the-variants.{Clear, Refused}
 use Rattle.legs.specs.declared.Stop.{Stop}
-use Rattle.legs.specs.Route.{outlines, sweepIn, isSeparated, callsOf, endedBy, stop, stopAt, walkFrom, wrong, route}
+use Rattle.legs.specs.Route.{sweepIn, isSeparated, callsOf, endedBy, stopAt, walkFrom, wrong, route}
 use Rattle.legs.specs.Promise.{Before, callsTold, swept, L, K, legCalls, routeCalls, AllSeparated, First, Outcome, clear, ended, RefusedAt, at}
 use Rattle.legs.proofs.Walks.{few-calls-at}
 

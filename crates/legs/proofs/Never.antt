@@ -10,7 +10,7 @@ use Rattle.model.specs.declared.SweepAnswer.{SweepAnswer}
 use Rattle.model.specs.declared.SweepAnswer.the-variants as Swept
 use Rattle.model.specs.Ground.{one}
 use Rattle.model.specs.Ground as Ground
-use Rattle.model.specs.Domain.{badOutline, badParts, badRadius, badRotation, badCentres, pairRefusal, sweepsRefusal, fractionRefusal, slopRefusal, orElse, limit}
+use Rattle.model.specs.Domain.{badOutline, badParts, badRadius, badRotation, badCentres, pairRefusal, sweepsRefusal, fractionRefusal, orElse, limit}
 use Rattle.model.specs.SweepToi.{sweepTimeOfImpact, sweepRefusal, sweepBy, sweepTask, noCorners, noCounts}
 use Rattle.legs.specs.declared.Stop.{Stop}
 use Rattle.legs.specs.declared.RouteAnswer.the-variants.{Refused}

@@ -1,11 +1,10 @@
 -- The sweeps of a route, one after another. Assumes nothing.
-use mathlib.Core.Path.{_≡_, refl, sym, ap, _∙_}
-use mathlib.Core.Bool.{Bool, true, false, not, cond}
+use mathlib.Core.Path.{_≡_, _∙_}
+use mathlib.Core.Bool.{Bool, true, false, not}
 use mathlib.Core.List.{List}
-use Prim.Native.Nat.{ℕ, zero, suc, _+_, _-_, _*_, _/_, _%_, _≤_, _<_}
+use Prim.Native.Nat.{ℕ, suc, _+_, _-_, _/_, _%_, _≤_, _<_}
 use native.Mathlib.Omega.{arith}
-use native.Mathlib.Numerals.{add-one}
-use native.Mathlib.Nat.{le-antisymm, mul-le-mul, div-le-self, mod-lt}
+use native.Mathlib.Nat.{div-le-self, mod-lt}
 use lib.ListN.{length, getD, take, drop}
 use lib.Ieee.{Float, Format}
 use Rattle.model.specs.declared.SweepAnswer.{SweepAnswer}
@@ -14,7 +13,7 @@ use Rattle.model.proofs.SweepToi.{Counted, sweep-counts-bounded}
 use Rattle.legs.specs.declared.Stop.{Stop}
 use Rattle.legs.specs.declared.RouteAnswer.{RouteAnswer}
 use Rattle.legs.specs.declared.RouteAnswer.the-variants.{Clear}
-use Rattle.legs.specs.Route.{startOf, isSeparated, callsOf, endedBy, stop, stopAt, sweepPast, sweepAt, sweepIn, walkFrom, outlineAt}
+use Rattle.legs.specs.Route.{startOf, isSeparated, callsOf, endedBy, stop, stopAt, sweepPast, sweepAt, sweepIn, walkFrom}
 
 -- at most 20 distance calls a sweep
 few : (x : SweepAnswer) → Counted x → callsOf x ≤ 20

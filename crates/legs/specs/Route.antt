@@ -16,7 +16,6 @@ use Rattle.model.specs.declared.Status.{Status}
 use Rattle.model.specs.declared.Status.the-variants.{Overlapped, Hit, Separated, Failed}
 use Rattle.model.specs.Ground.{rotation, origin, one}
 use Rattle.model.specs.Ground as Ground
-use Rattle.model.specs.Domain.{orElse}
 use Rattle.model.specs.Support.{point}
 use Rattle.model.specs.SweepToi.{nowhere, sweepTimeOfImpact}
 use Rattle.model.specs.Work as Work

@@ -1,17 +1,17 @@
 -- Every route that is written is read as one: no line of it is told by 14. Assumes nothing.
-use mathlib.Core.Path.{_≡_, refl, sym, ap, _∙_}
+use mathlib.Core.Path.{_≡_, refl, _∙_}
 use mathlib.Core.Bool.{Bool, true, false, cond}
-use mathlib.Core.List.{List, [], _∷_, _++_, append-assoc}
+use mathlib.Core.List.{List, [], _∷_, _++_}
 use Prim.Native.Nat.{ℕ, zero, suc, _+_, _-_, _*_, _/_, _%_, _^_, _≤_, _<_}
 use native.Mathlib.Omega.{arith}
-use borrow.Author.Tests.{lt-ltb, le-ltb, eq-eqb, ne-eqb, ltb-true, ltb-false}
-use lib.Dec.{eqb, ltb}
+use borrow.Author.Tests.{lt-ltb, le-ltb, ne-eqb, ltb-true, ltb-false}
+use lib.Dec.{ltb}
 use lib.Ieee.{Float}
 use Rattle.model.specs.Text.{capital, hexBy}
 use Rattle.route_text.specs.declared.line.Kind.{Kind}
 use Rattle.route_text.specs.declared.line.Kind.the-variants.{Nothing, Slop, Cart, At, Still}
 use Rattle.route_text.specs.declared.line.Line.{Line}
-use Rattle.route_text.specs.Line.{line, between, wordEnd, name, takesWord, isWhole, nextKind, hexOf, oneMore, named, inName, afterWord, inWord, lineAfter}
+use Rattle.route_text.specs.Line.{line, between, wordEnd, name, takesWord, hexOf, oneMore, named, inName, afterWord, inWord, lineAfter}
 use Rattle.route_text.specs.Read.{Run, run, noText, byteMore, readerAfter, runOver}
 use Rattle.route_text.specs.Answer.{isRoute}
 use Rattle.route_text.specs.Text.{wordsText, lineText, Way, wayWords, waysText, stillsText, routeText}

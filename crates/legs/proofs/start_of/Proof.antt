@@ -4,7 +4,6 @@ use Prim.Native.Nat.{_≤_, _-_, _*_}
 use native.Mathlib.Omega.{arith}
 use native.Mathlib.Nat.{le-antisymm}
 use borrow.Author.Needs.{needs}
-use lib.ListN.{length}
 use Rattle.legs.specs.Route.{startOf}
 use Rattle.legs.proofs.Starts.{start-none, start-more}
 use Rattle.legs.proofs.start_of.Statement.{statement}

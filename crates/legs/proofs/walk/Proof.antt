@@ -1,7 +1,7 @@
 -- `legs::walk` meets its contract: what is left to sweep comes to what the whole does, and the sweeps left fall. Assumes nothing.
 use Rattle.legs.proofs.Walks.{at-first, leg-few, outline-few, few-calls-of, swept-in-order, stopped-in-order, ends-here, goes-on, all-passed}
-use mathlib.Core.Path.{_≡_, refl, sym, _∙_}
-use Prim.Native.Nat.{_≤_, _<_, _-_, _*_, _/_, _%_}
+use mathlib.Core.Path.{_≡_, _∙_}
+use Prim.Native.Nat.{_≤_, _-_, _*_}
 use native.Mathlib.Omega.{arith}
 use lib.Ieee.{binary32}
 use borrow.Author.Needs.{needs}

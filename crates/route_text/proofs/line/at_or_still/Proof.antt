@@ -1,5 +1,4 @@
 -- `route_text::line::at_or_still` meets its contract, by its tests. Assumes nothing.
-use borrow.Author.Needs.{needs}
 use borrow.Author.Tests.{eq-eqb, ne-eqb}
 use Rattle.route_text.proofs.line.at_or_still.Statement.{statement}
 use Rattle.route_text.proofs.line.at_or_still.Tie as tie

@@ -1,5 +1,4 @@
 -- `route_text::line::place_if` meets its contract, by its tests. Assumes nothing.
-use borrow.Author.Needs.{needs}
 use Rattle.route_text.proofs.line.place_if.Statement.{statement}
 use Rattle.route_text.proofs.line.place_if.Tie as tie
 

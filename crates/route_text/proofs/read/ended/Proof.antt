@@ -1,5 +1,4 @@
 -- `route_text::read::ended` meets its contract, by its tests. Assumes nothing.
-use borrow.Author.Needs.{needs}
 use borrow.Author.Tests.{eq-eqb, ne-eqb}
 use Rattle.route_text.proofs.read.ended.Statement.{statement}
 use Rattle.route_text.proofs.read.ended.Tie as tie
