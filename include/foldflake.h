@@ -12,7 +12,7 @@
 
    A list that is written may not overlap another. That apart, every call has an answer, whatever the lists hold.
 
-   Answers. A number below 16 is a refusal, as README.md lists them; each function has its own names for the others. The builders answer from 32
+   Answers. A number below 16 is a refusal, as README.md lists them, and of a route 16 and 17 too; each function has its own names for the others. The builders answer from 32
    on, as functions to come do, so that refusals may go up to 31.
 
    Floating point. The proofs are for the default environment: rounding to nearest, subnormal numbers kept (no flush-to-zero, no
@@ -46,6 +46,9 @@ enum { FOLDFLAKE_BUILT = 32 };
 
 /* What foldflake_pose and foldflake_gap answer where out was written. */
 enum { FOLDFLAKE_TOLD = 32 };
+
+/* What foldflake_route answers besides refusals. CLEAR is as much as SEPARATED of each sweep, and FAILED is no verdict. */
+enum { FOLDFLAKE_ROUTE_CLEAR = 32, FOLDFLAKE_ROUTE_OVERLAPPED = 33, FOLDFLAKE_ROUTE_HIT = 34, FOLDFLAKE_ROUTE_FAILED = 35 };
 
 /* The square root, rounded to nearest. */
 float foldflake_root(float x);
@@ -111,6 +114,26 @@ uint32_t foldflake_placed_bar(float ax, float ay, float bx, float by, const floa
 uint32_t foldflake_pose(const float *planned, size_t planned_len, float fraction, float *out, size_t out_len);
 uint32_t foldflake_gap(const float *points_a, size_t numbers_in_a, const float *move_a, size_t move_a_len, const float *points_b,
                        size_t numbers_in_b, const float *move_b, size_t move_b_len, float fraction, float *out, size_t out_len);
+
+/* The route of a cart past still outlines: sweeps leg by leg, past the outlines in order on each leg, up to the first that is not separated.
+   waypoints, four numbers each, 2 to 33 of them: centre x y, rotation c s. Leg i goes from waypoint i to the next; the cart has no radius, and its
+   points are given about its centre. stills: the points of all still outlines, one behind another, where they stand; lengths: how many numbers each
+   of them has, 1 to 32 outlines.
+   out, 5: fraction, point x y, normal x y of the sweep that ends the route. where, 3: leg, outline, both from 1, and the distance calls of all sweeps
+   that were run; 0, 0 and the calls where the route is clear.
+
+     const float bar[4] = {-1, 0, 1, 0}, post[2] = {6, 0};
+     const float waypoints[8] = {0, 0, 1, 0, 9, 0, 1, 0};    from (0, 0) to (9, 0), unturned
+     const uint32_t lengths[1] = {2};
+     float out[5];
+     uint32_t where[3];
+     if (foldflake_route(bar, 4, waypoints, 8, post, 2, lengths, 1, 0.01f, out, 5, where, 3) == FOLDFLAKE_ROUTE_HIT) ..    leg 1, outline 1
+
+   The answer is the first that applies: FOLDFLAKE_WRONG_LENGTH for out, where or waypoints that are no multiple of four; 16 for fewer than 2 or more
+   than 33 waypoints; 17 for no outline or more than 32; FOLDFLAKE_WRONG_LENGTH where lengths do not add up to stills_len; then FOLDFLAKE_ROUTE_.., or the
+   refusal of a sweep, 1 to 3, 5, 6 or 8. out is written for OVERLAPPED, HIT and FAILED alone, where for these, for CLEAR and for a sweep's refusal. */
+uint32_t foldflake_route(const float *cart, size_t cart_len, const float *waypoints, size_t waypoints_len, const float *stills, size_t stills_len,
+                         const uint32_t *lengths, size_t lengths_len, float slop, float *out, size_t out_len, uint32_t *where, size_t where_len);
 
 #ifdef __cplusplus
 }

@@ -1,13 +1,13 @@
 #!/usr/bin/env bash
 # programs.sh: runs `any_contact`, and `sheet` beside it, `convert` and `salvage` on the cases below, `pack` and `unpack` on those of
-# tests/job_lines.py, `report` on those of tests/report_cases.py, and compares all that they write, standard error and files included. Exit status 1
-# where one differs. They are x86-64 programs: on another machine RUN names what runs such a program (an emulator). PROGRAMS names another folder than
-# target/bin; where it is not given they are proved and built first.
+# tests/job_lines.py, `report` on those of tests/report_cases.py, `route` on those of tests/route_cases.py, and compares all that they write, standard
+# error and files included. Exit status 1 where one differs. They are x86-64 programs: on another machine RUN names what runs such a program (an
+# emulator). PROGRAMS names another folder than target/bin; where it is not given they are proved and built first.
 set -u
 cd "$(dirname "$0")/.."
 run="${RUN:-}"; bin="${PROGRAMS:-}"
 if [ -z "$bin" ]; then
-  rt check any_contact sheet convert salvage pack unpack report > /dev/null || { echo "a program is not proved"; exit 1; }
+  rt check any_contact sheet convert salvage pack unpack report route > /dev/null || { echo "a program is not proved"; exit 1; }
   bin="$PWD/target/bin"
 fi
 work="$(mktemp -d)"; trap 'rm -r "$work"' EXIT
@@ -201,6 +201,15 @@ for program in pack unpack; do
   done
   faults $program "$work/$program/$([ $program = pack ] && echo a_good_line || echo a_good_block).in"
 done
+
+# routes: one line each; the example's is that of the gate
+mkdir "$work/route"; python3 tests/route_cases.py "$work/route"
+cp examples/hall.route "$work/route/the_hall.in"; cp crates/route/stdout "$work/route/the_hall.out"
+for input in "$work/route"/*.in; do
+  timeout 60 $run "$bin/route" < "$input" > "$work/out" 2> "$work/err"; ended=$?
+  wrote "route, $(basename "${input%.in}" | tr _ ' ')" 0 "$(cat "${input%.in}.out")"$'\n' ""
+done
+faults route examples/hall.route
 
 # there and back: the blocks that are not refused come back in all their bytes; 10, 11, 14, 21, those with a form in byte 6 (25 to 30), and
 # the short 31 are refused

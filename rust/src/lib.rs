@@ -80,6 +80,21 @@ mod entry {
             out: *mut f32,
             out_len: usize,
         ) -> u32;
+        pub fn foldflake_route(
+            cart: *const f32,
+            cart_len: usize,
+            waypoints: *const f32,
+            waypoints_len: usize,
+            stills: *const f32,
+            stills_len: usize,
+            lengths: *const u32,
+            lengths_len: usize,
+            slop: f32,
+            out: *mut f32,
+            out_len: usize,
+            place: *mut u32,
+            place_len: usize,
+        ) -> u32;
     }
 }
 
@@ -100,6 +115,8 @@ mod entry {
 /// | 12 | the cache is of another pair: it has corner pairs, and not under the caller's number |
 /// | 13 | a block's form is neither 0 nor 2; given before 10 |
 /// | 15 | the lent list has no room for all corners |
+/// | 16 | a route has fewer than 2 or more than 33 waypoints |
+/// | 17 | a route has no still outline or more than 32 |
 ///
 /// ```
 /// use foldflake::{distance, Cache, Refusal};
@@ -130,6 +147,8 @@ impl fmt::Display for Refusal {
             12 => "the cache is of another pair",
             13 => "the form is neither 0 nor 2",
             15 => "the lent list has no room for all corners",
+            16 => "the route has fewer than 2 or more than 33 waypoints",
+            17 => "the route has no still outline or more than 32",
             _ => "no reason is known",
         };
         write!(f, "refused by {}: {why}", self.0)
@@ -642,5 +661,86 @@ fn built(answer: u32, list: &[f32], numbers: usize) -> Result<&[f32], Refusal> {
     match answer {
         32 => Ok(&list[..numbers]),
         number => Err(Refusal(number)),
+    }
+}
+
+/// Where a cart is on its route: its centre and its rotation, a cosine and a sine.
+#[derive(Clone, Copy, Debug, PartialEq)]
+pub struct Waypoint {
+    /// The centre.
+    pub center: [f32; 2],
+    /// The rotation.
+    pub rotation: [f32; 2],
+}
+
+/// The sweep that ends a route.
+#[derive(Clone, Copy, Debug, PartialEq, Eq)]
+pub struct Stop {
+    /// The leg, from 1.
+    pub leg: u32,
+    /// The still outline, from 1.
+    pub outline: u32,
+    /// The distance calls of all sweeps up to this one, its own included.
+    pub distance_calls: u32,
+}
+
+/// What a route comes to.
+#[derive(Clone, Copy, Debug, PartialEq)]
+pub enum Route {
+    /// Every leg is separated from every still outline, in so many distance calls. It clears no more than [`Sweep::Separated`] does.
+    Clear(u32),
+    /// The cart touches or overlaps an outline where the search stood.
+    Overlapped(Stop),
+    /// The cart comes within the target distance of an outline.
+    Hit(Stop, Contact),
+    /// No verdict: the search gave up.
+    Failed(Stop, Contact),
+}
+
+/// The route of a cart past still outlines, leg by leg and past the outlines in order on each leg; or the number of the refusal, with the sweep that was
+/// refused, if it was one.
+///
+/// ```
+/// use foldflake::{route, Route, Waypoint};
+/// let ways = [Waypoint { center: [0.0, 0.0], rotation: [1.0, 0.0] }, Waypoint { center: [9.0, 0.0], rotation: [1.0, 0.0] }];
+/// assert!(matches!(route(&[-1.0, 0.0, 1.0, 0.0], &ways, &[&[5.0, 3.0]], 0.01), Ok(Route::Clear(_))));
+/// match route(&[-1.0, 0.0, 1.0, 0.0], &ways, &[&[5.0, 3.0], &[6.0, 0.0]], 0.01) {
+///     Ok(Route::Hit(stop, _)) => assert_eq!((stop.leg, stop.outline), (1, 2)),
+///     other => panic!("{other:?}"),
+/// }
+/// ```
+pub fn route(cart: &[f32], waypoints: &[Waypoint], stills: &[&[f32]], slop: f32) -> Result<Route, (Refusal, Option<Stop>)> {
+    let ways: Vec<f32> = waypoints.iter().flat_map(|w| [w.center[0], w.center[1], w.rotation[0], w.rotation[1]]).collect();
+    // of an outline that has more than 128 numbers, and is refused for that, 129 are handed on
+    let kept = || stills.iter().map(|s| &s[..s.len().min(129)]);
+    let points: Vec<f32> = kept().flatten().copied().collect();
+    let lengths: Vec<u32> = kept().map(|s| s.len() as u32).collect();
+    let (mut out, mut place) = ([0f32; 5], [0u32; 3]);
+    // Safety: each list has the length handed over, and the two that are written are ours alone.
+    let answer = unsafe {
+        entry::foldflake_route(
+            cart.as_ptr(),
+            cart.len(),
+            ways.as_ptr(),
+            ways.len(),
+            points.as_ptr(),
+            points.len(),
+            lengths.as_ptr(),
+            lengths.len(),
+            slop,
+            out.as_mut_ptr(),
+            out.len(),
+            place.as_mut_ptr(),
+            place.len(),
+        )
+    };
+    let contact = Contact { fraction: out[0], point: [out[1], out[2]], normal: [out[3], out[4]] };
+    let stop = Stop { leg: place[0], outline: place[1], distance_calls: place[2] };
+    match answer {
+        32 => Ok(Route::Clear(stop.distance_calls)),
+        33 => Ok(Route::Overlapped(stop)),
+        34 => Ok(Route::Hit(stop, contact)),
+        35 => Ok(Route::Failed(stop, contact)),
+        number => Err((Refusal(number), Some(stop).filter(|s| s.leg > 0))),
     }
 }

@@ -1,5 +1,5 @@
 //! The safe face against answers worked out by hand or listed in README.md.
-use foldflake::{bar, distance, gap, line, placed_bar, placed_plate, plate, pose, root, sweep, Cache, Ending, Move, Pose, Refusal, Sweep};
+use foldflake::{bar, distance, gap, line, placed_bar, placed_plate, plate, pose, root, route, sweep, Cache, Ending, Move, Pose, Refusal, Route, Stop, Sweep, Waypoint};
 
 const SQUARE: [f32; 8] = [-1.0, -1.0, 1.0, -1.0, 1.0, 1.0, -1.0, 1.0];
 const POINT: [f32; 2] = [0.0, 0.0];
@@ -342,4 +342,41 @@ fn a_moment_of_another_length_is_told_first_of_all() {
         let good = (a, b, room) == (10, 10, 1);
         assert_eq!((answer, out), (if good { 7 } else { 255 }, [7.5; 2]), "{a} {b} {room}");
     }
+}
+
+fn at(x: f32, y: f32) -> Waypoint {
+    Waypoint { center: [x, y], rotation: [1.0, 0.0] }
+}
+
+#[test]
+fn every_answer_of_a_route() {
+    let there = [at(0.0, 0.0), at(9.0, 0.0), at(9.0, 9.0)];
+    let far: &[f32] = &[50.0, 50.0];
+    assert_eq!(route(&POINT, &there, &[far], 0.01), Ok(Route::Clear(2)));
+    let Ok(Route::Hit(stop, contact)) = route(&POINT, &there, &[far, &[9.0, 5.0]], 0.01) else { panic!("no hit") };
+    assert_eq!((stop.leg, stop.outline), (2, 2));
+    // the sweep named, asked by itself
+    let alone = sweep(&POINT, 0.0, &goes([9.0, 0.0], [9.0, 9.0]), &[9.0, 5.0], 0.0, &still(0.0, 0.0), 1.0, 0.01);
+    assert!(matches!(alone, Ok(Sweep::Hit(same, ..)) if same == contact), "{alone:?}");
+    assert_eq!(route(&SQUARE, &there, &[far, &SQUARE], 0.01), Ok(Route::Overlapped(Stop { leg: 1, outline: 2, distance_calls: 2 })));
+    // a case of tests/route_cases.py: so small a slop that no root step lands, and all 20 calls are made
+    let cart = [-1.0, -0.5, 1.0, -0.5, 1.0, 0.5, -1.0, 0.5];
+    let turned = |x, y, turn: f64| Waypoint { center: [x, y], rotation: [turn.to_radians().cos() as f32, turn.to_radians().sin() as f32] };
+    let post: &[f32] = &[0.3, 0.2, 1.7, 0.2, 1.7, 0.8, 0.3, 0.8];
+    let Ok(Route::Failed(stop, contact)) = route(&cart, &[turned(-6.0, 4.0, 20.0), turned(8.0, -3.0, 70.0)], &[post], 1e-7) else { panic!("no F") };
+    assert_eq!((stop, contact.point[0].to_bits()), (Stop { leg: 1, outline: 1, distance_calls: 20 }, 0xC012_DB86));
+    let at_2 = |number| Err((Refusal(number), Some(Stop { leg: 1, outline: 2, distance_calls: 1 })));
+    let at_1 = |number| Err((Refusal(number), Some(Stop { leg: 1, outline: 1, distance_calls: 0 })));
+    assert_eq!(route(&[], &there, &[far], 0.01), at_1(1));
+    assert_eq!(route(&POINT, &there, &[far, &[]], 0.01), at_2(2));
+    assert_eq!(route(&POINT, &there, &[far, &[0.0; 130]], 0.01), at_2(2));
+    assert_eq!(route(&POINT, &there, &[far, &[f32::NAN, 0.0]], 0.01), at_2(3));
+    assert_eq!(route(&POINT, &[at(0.0, 0.0), Waypoint { center: [9.0, 0.0], rotation: [0.0, 0.0] }], &[far], 0.01), at_1(5));
+    assert_eq!(route(&POINT, &[at(0.0, 0.0), at(f32::INFINITY, 0.0)], &[far], 0.01), at_1(6));
+    assert_eq!(route(&POINT, &there, &[far], 0.0), at_1(8));
+    assert_eq!(route(&POINT, &there[..1], &[], 0.01), Err((Refusal(16), None)));
+    assert_eq!(route(&POINT, &[at(0.0, 0.0); 34], &[far], 0.01), Err((Refusal(16), None)));
+    assert!(matches!(route(&POINT, &[at(0.0, 0.0); 33], &[far; 32], 0.01), Ok(Route::Clear(_))));
+    assert_eq!(route(&[], &there, &[], 0.01), Err((Refusal(17), None)));
+    assert_eq!(route(&[], &there, &[far; 33], 0.01), Err((Refusal(17), None)));
 }

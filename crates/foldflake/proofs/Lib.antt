@@ -3,3 +3,4 @@ mod Line
 mod Told
 mod Placed
 mod Moment
+mod Route

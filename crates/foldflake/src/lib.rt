@@ -2,6 +2,7 @@
 mod numbers;
 mod tell;
 mod tell_moment;
+mod tell_route;
 
 use model::Vector;
 use numbers::cache_of;
@@ -12,6 +13,7 @@ use tell::tell_distance;
 use tell::tell_sweep;
 use tell_moment::tell_gap;
 use tell_moment::tell_pose;
+use tell_route::tell_route;
 ghost use mathlib.Core.Path.{_≡_};
 ghost use lib.Ieee.{binary32};
 ghost use Rattle.model.specs.Nearest.{Rooted};
@@ -19,6 +21,7 @@ ghost use Rattle.model.specs.Ground.{vector};
 ghost use Rattle.shapes.specs.Shapes.{plateTold, plateLeft, placedPlateTold, placedPlateLeft, barTold, barLeft, placedBarTold, placedBarLeft};
 ghost use Rattle.foldflake.specs.Entry.{LineTold, SweepTold, DistanceTold, builtNumber, PlacedTold};
 ghost use Rattle.foldflake.specs.Moment.{PoseTold, GapTold};
+ghost use Rattle.foldflake.specs.Route.{RouteTold};
 
 // The square root of every f32.
 #[no_mangle]
@@ -186,6 +189,31 @@ pub extern "C" fn foldflake_gap(
         let sweep_b = work::move_of(move_b);
         let apart = moment::gap_at(points_a, sweep_a, points_b, sweep_b, fraction);
         tell_gap(apart, out)
+    } else {
+        255
+    }
+}
+
+// The route of a cart past still outlines: waypoints of four numbers (centre, cosine and sine), the outlines in one list with the length of each in
+// numbers beside it. The answer: 32 clear, 33 overlapped, 34 hit, 35 failed; a refusal, 1 to 8 of the sweep in hand, 16 for fewer than 2 or more than
+// 33 waypoints, 17 for no outline or more than 32; 255 where a list has the wrong length. From 33 to 35 the fraction, the point and the normal stand in
+// out. In place the leg and the outline, both from 1, and the distance calls of all sweeps run; for 32 two zeros and the calls; for 16, 17 and 255
+// nothing is written.
+#[no_mangle]
+pub extern "C" fn foldflake_route(
+    cart: &[f32],
+    waypoints: &[f32],
+    stills: &[f32],
+    lengths: &[u32],
+    slop: f32,
+    out: &mut [f32],
+    place: &mut [u32],
+) -> u32
+    ensures { λ r. ⌜ RouteTold (now (cart .entry)) (now (waypoints .entry)) (now (stills .entry)) (now (lengths .entry)) slop (now (out .entry)) (now (place .entry)) (now (out .exit)) (now (place .exit)) r ⌝ }
+{
+    if (out.len() == 5) & (place.len() == 3) {
+        let answer = legs::route(cart, waypoints, stills, lengths, slop);
+        tell_route(answer, out, place)
     } else {
         255
     }

@@ -16,7 +16,7 @@ ghost use Prim.Native.Nat.{_+_, _*_, _≤_};
 ghost use lib.ListN.{length};
 ghost use Rattle.foldflake.specs.Entry.{contactFloats, countsWords, statusNumber, sweepNumber, contactAfter, countsAfter, endingNumber, outputNumber, outputFloats, cacheWords, roundsOf, distanceNumber, outputAfter, cacheAfter, builtNumber};
 
-fn put_contact(out: &mut [f32], c: Contact)
+pub fn put_contact(out: &mut [f32], c: Contact)
     requires { ⌜ length (now out) ≡ 5 ⌝ }
     ensures { λ _. ⌜ now (out .exit) ≡ contactFloats c ⌝ }
 {

@@ -1,3 +1,3 @@
-mod Pieces
+pub mod Pieces
 mod Parts
 pub mod Run

@@ -4,7 +4,7 @@ use model::Corners;
 use model::SupportPair;
 ghost use Prim.Native.Nat.{_+_, _≤_};
 ghost use lib.ListN.{length};
-ghost use Rattle.text.specs.Put.{Put, number};
+ghost use Rattle.text.specs.Put.{Put, number, whereRoom};
 ghost use Rattle.lines.specs.Pieces.{hexOf, three, floats, corner, pairText, cornersText};
 
 // The index that tells of no corner.
@@ -54,6 +54,20 @@ pub fn put_contact(out: &mut [u8], at: usize, c: Contact) -> usize
     let e3 = put_float(out, e2, c.point.y);
     let e4 = put_float(out, e3, c.normal.x);
     put_float(out, e4, c.normal.y)
+}
+
+// The same, where there is room for them; else nothing is written, and the place stays.
+pub fn write_contact(out: &mut [u8], at: usize, c: Contact) -> usize
+    ensures { λ r. ⌜ Put (now (out .entry)) at (whereRoom (at + 45) (length (now (out .entry))) (floats c)) (now (out .exit)) r ⌝ }
+{
+    let size = out.len();
+    if size < 45 {
+        return at;
+    }
+    if size - 45 < at {
+        return at;
+    }
+    put_contact(out, at, c)
 }
 
 // The number of a corner, or - where there is none, and a byte after it.

@@ -34,6 +34,8 @@ use Rattle.job_text.proofs as job_text
 use Rattle.summary.proofs as summary
 use Rattle.report_lines.proofs as report_lines
 use Rattle.monthly.proofs as monthly
+use Rattle.legs.proofs as legs
+use Rattle.route_text.proofs as route_text
 use Rattle.foldflake.proofs as foldflake
 use Rattle.toi_proxy.specs.declared.ToiProxy.{ToiProxy}
 use Rattle.lines.specs.declared.part.Written.{Written}
@@ -624,6 +626,20 @@ module _ {M : Type 1} (𝓤 : URA M) (H : Heap 𝓤) (A : Atoms 𝓤) (mem : Mem
   }
 
   -- ---- lines
+  pub lines-letter-of : OneResult 𝓤 H A lines.letter_of.ended (lines.letter_of.spec 𝓤 H A mem run)
+  lines-letter-of = record {
+    clauses = lines.letter_of.clauses 𝓤 H A mem run;
+    of-contract = refl;
+    once = λ κs a g r r' v v'. told 𝓤 (λ p q. (search same-value, refl));
+  }
+
+  pub lines-write-contact : OneResult 𝓤 H A lines.write_contact.ended (lines.write_contact.spec 𝓤 H A mem run)
+  lines-write-contact = record {
+    clauses = lines.write_contact.clauses 𝓤 H A mem run;
+    of-contract = refl;
+    once = λ κs a g r r' v v'. told 𝓤 (λ p q. (search same-value, each-list lines.write_contact.ended κs a v v' (search same-value depth 12)));
+  }
+
   pub lines-write-line : OneResult 𝓤 H A lines.write_line.ended (lines.write_line.spec 𝓤 H A mem run)
   lines-write-line = record {
     clauses = lines.write_line.clauses 𝓤 H A mem run;
@@ -785,6 +801,36 @@ module _ {M : Type 1} (𝓤 : URA M) (H : Heap 𝓤) (A : Atoms 𝓤) (mem : Mem
     once = λ κs a g r r' v v'. told 𝓤 (λ p q. (search same-value, each-list monthly.write_batches.ended κs a v v' (search same-value depth 12)));
   }
 
+  -- ---- legs
+  pub legs-route : OneResult 𝓤 H A legs.route.ended (legs.route.spec 𝓤 H A mem run)
+  legs-route = record {
+    clauses = legs.route.clauses 𝓤 H A mem run;
+    of-contract = refl;
+    once = λ κs a g r r' v v'. told 𝓤 (λ p q. (search same-value, refl));
+  }
+
+  -- ---- route_text
+  pub route-text-no-text : OneResult 𝓤 H A route_text.no_text.ended (route_text.no_text.spec 𝓤 H A mem run)
+  route-text-no-text = record {
+    clauses = route_text.no_text.clauses 𝓤 H A mem run;
+    of-contract = refl;
+    once = λ κs a g r r' v v'. told 𝓤 (λ p q. (search same-value, refl));
+  }
+
+  pub route-text-read-part : OneResult 𝓤 H A route_text.read_part.ended (route_text.read_part.spec 𝓤 H A mem run)
+  route-text-read-part = record {
+    clauses = route_text.read_part.clauses 𝓤 H A mem run;
+    of-contract = refl;
+    once = λ κs a g r r' v v'. told 𝓤 (λ p q. (search same-value, each-list route_text.read_part.ended κs a v v' (search same-value depth 12)));
+  }
+
+  pub route-text-write-answer : OneResult 𝓤 H A route_text.write_answer.ended (route_text.write_answer.spec 𝓤 H A mem run)
+  route-text-write-answer = record {
+    clauses = route_text.write_answer.clauses 𝓤 H A mem run;
+    of-contract = refl;
+    once = λ κs a g r r' v v'. told 𝓤 (λ p q. (search same-value, each-list route_text.write_answer.ended κs a v v' (search same-value depth 12)));
+  }
+
   -- ---- foldflake
   pub foldflake-foldflake-bar : OneResult 𝓤 H A foldflake.foldflake_bar.ended (foldflake.foldflake_bar.spec 𝓤 H A mem run)
   foldflake-foldflake-bar = record {
@@ -847,6 +893,13 @@ module _ {M : Type 1} (𝓤 : URA M) (H : Heap 𝓤) (A : Atoms 𝓤) (mem : Mem
     clauses = foldflake.foldflake_root.clauses 𝓤 H A mem run;
     of-contract = refl;
     once = λ κs a g r r' v v'. told 𝓤 (λ p q. (search same-value, refl));
+  }
+
+  pub foldflake-foldflake-route : OneResult 𝓤 H A foldflake.foldflake_route.ended (foldflake.foldflake_route.spec 𝓤 H A mem run)
+  foldflake-foldflake-route = record {
+    clauses = foldflake.foldflake_route.clauses 𝓤 H A mem run;
+    of-contract = refl;
+    once = λ κs a g r r' v v'. told 𝓤 (λ p q. (search same-value, each-list foldflake.foldflake_route.ended κs a v v' (search same-value depth 12)));
   }
 
   pub foldflake-foldflake-sweep : OneResult 𝓤 H A foldflake.foldflake_sweep.ended (foldflake.foldflake_sweep.spec 𝓤 H A mem run)

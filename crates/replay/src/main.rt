@@ -11,6 +11,7 @@ mod packed;
 mod plates;
 mod pool;
 mod reports;
+mod routes;
 mod salvages;
 mod sweeps;
 mod table;

@@ -8,6 +8,7 @@ use crate::packed;
 use crate::plates;
 use crate::pool::Numbers;
 use crate::reports;
+use crate::routes;
 use crate::salvages;
 use crate::sweeps;
 use crate::tally;
@@ -53,6 +54,7 @@ fn shape_of(table: u32) -> RowShape
         9 => shape(10912, 0, 8, 4),
         10 => shape(10912, 0, 8, 4),
         11 => shape(10912, 0, 8, 4),
+        12 => shape(10912, 0, 8, 4),
         _ => shape(65536, 0, 0, 0),
     }
 }
@@ -70,6 +72,7 @@ fn answer(table: u32, row: &[u8], n: u64, pool: &[u8], numbers: &[f32], words: &
         9 => unpacked::answer(row, words),
         10 => salvages::answer(row, words),
         11 => reports::answer(row, words),
+        12 => routes::answer(row, words),
         _ => {}
     }
 }
