@@ -80,6 +80,17 @@ uint32_t foldflake_sweep(const float *points_a, size_t numbers_in_a, const float
 uint32_t foldflake_distance(const float *points_a, size_t numbers_in_a, const float *points_b, size_t numbers_in_b, const float *numbers,
                             size_t numbers_len, uint32_t use_radii, uint32_t pair, uint32_t *cache, size_t cache_len, float *out, size_t out_len);
 
+/* The same in f64: the same lists in the same order with double in the place of float, the same answers and refusals.
+   Everything is worked in f64 from the first check on; EPSILON is 2^-52 in the place of 2^-23. The bounds of the domain are the same numbers, but c * c +
+   s * s is rounded elsewhere: the rotation of the floats 3F800000 3E000003 passes in f32, and as doubles it is refused by 5.
+   A float that is handed over as a double is the same number. If it was rounded to float before it stays so, and what was wanted, 0.1 say, is another
+   double: work the lists out in double. A cache holds no float and serves both widths. */
+double foldflake_root64(double x);
+uint32_t foldflake_sweep64(const double *points_a, size_t numbers_in_a, const double *points_b, size_t numbers_in_b, const double *numbers,
+                           size_t numbers_len, double *out, size_t out_len, uint32_t *counts, size_t counts_len);
+uint32_t foldflake_distance64(const double *points_a, size_t numbers_in_a, const double *points_b, size_t numbers_in_b, const double *numbers,
+                              size_t numbers_len, uint32_t use_radii, uint32_t pair, uint32_t *cache, size_t cache_len, double *out, size_t out_len);
+
 /* Outlines without typing corners. The corners go to the front of out, x y each, and the rest of out stays as it was.
 
      float cart[8];

@@ -1,5 +1,6 @@
 #!/usr/bin/env bash
-# build.sh SRC OUT [RUSTC] [CFG]: compiles the sweep_toi module of parry2d 0.31.1 over our prelude into OUT/oracle, in release mode.
+# build.sh [--f64] SRC OUT [RUSTC] [CFG]: compiles the sweep_toi module of parry2d 0.31.1 over our prelude into OUT/oracle, in release mode; with --f64
+# in f64 into OUT/oracle64, from the same files.
 # SRC is the folder that holds query/sweep_toi/*.rs and shape/cuboid.rs as published. Nothing of it is kept here: OUT gets a working copy, of
 # shape/cuboid.rs only the function that numbers a corner.
 # Mechanical edits, and no others, each of which must fit as often as it says:
@@ -11,6 +12,8 @@
 #      `support` told of it, or that the side is a face's.
 set -eu
 here="$(cd "$(dirname "$0")" && pwd)"
+width=f32; name=oracle
+if [ "$1" = --f64 ]; then width=f64; name=oracle64; shift; fi
 src="$1/query/sweep_toi"; out="$2"; rustc="${3:-rustc}"
 mkdir -p "$out/sweep_toi"
 for f in sweep toi_proxy proxy_distance separation sweep_toi; do cat "$src/$f.rs" > "$out/sweep_toi/$f.rs"; done
@@ -79,4 +82,4 @@ body, end, _ = text.partition(head)[2].partition("\n    }\n")
 open(sys.argv[2], "w", encoding="utf-8").write("use crate::{math::Vector, shape::Cuboid};\nimpl Cuboid {\n" + head + body + end + "}\n")
 PY
 cp "$here"/*.rs "$out/"
-"$rustc" --edition 2021 -C opt-level=3 --cfg 'feature="dim2"' --cfg 'feature="f32"' -A warnings ${4:+--cfg "$4"} -o "$out/oracle" "$out/main.rs"
+"$rustc" --edition 2021 -C opt-level=3 --cfg 'feature="dim2"' --cfg "feature=\"$width\"" -A warnings ${4:+--cfg "$4"} -o "$out/$name" "$out/main.rs"

@@ -1,14 +1,14 @@
-//! The checks that the project adds, from the rules: the first number that applies, or 0.
-use crate::math::{Pose, Rotation, Vector};
+//! The checks that the project adds, from the rules, by the operations of the width: the first number that applies, or 0.
+use crate::math::{Pose, Real, Rotation, Vector};
 use crate::sweep_toi::sweep::Sweep;
 
-pub const LIMIT: f32 = 1_048_576.0;
+pub const LIMIT: Real = 1_048_576.0;
 
-fn bad_outline(numbers: &[f32]) -> bool {
+fn bad_outline(numbers: &[Real]) -> bool {
     numbers.is_empty() || numbers.len() % 2 == 1 || numbers.len() > 128
 }
 
-fn bad_part(x: f32) -> bool {
+fn bad_part(x: Real) -> bool {
     !x.is_finite() || x.abs() > LIMIT
 }
 
@@ -16,7 +16,7 @@ fn bad_vector(v: Vector) -> bool {
     bad_part(v.x) || bad_part(v.y)
 }
 
-fn bad_radius(r: f32) -> bool {
+fn bad_radius(r: Real) -> bool {
     !r.is_finite() || r < 0.0 || r > LIMIT
 }
 
@@ -30,8 +30,8 @@ fn first(tests: &[(u32, bool)]) -> u32 {
 }
 
 /// Numbers 1 to 4.
-pub fn pair(a: &[f32], b: &[f32], ra: f32, rb: f32) -> u32 {
-    let parts = |s: &[f32]| s.iter().any(|&x| bad_part(x));
+pub fn pair(a: &[Real], b: &[Real], ra: Real, rb: Real) -> u32 {
+    let parts = |s: &[Real]| s.iter().any(|&x| bad_part(x));
     first(&[
         (1, bad_outline(a)),
         (2, bad_outline(b)),
@@ -51,7 +51,7 @@ pub fn cache(count: u8, number: u32, callers: u32) -> u32 {
 }
 
 /// Numbers 5 to 8 of a sweep.
-pub fn sweep(a: &Sweep, b: &Sweep, max_fraction: f32, slop: f32) -> u32 {
+pub fn sweep(a: &Sweep, b: &Sweep, max_fraction: Real, slop: Real) -> u32 {
     let centres = |w: &Sweep| bad_vector(w.local_center) || bad_vector(w.c1) || bad_vector(w.c2);
     first(&[
         (5, [a.q1, a.q2, b.q1, b.q2].into_iter().any(bad_rotation)),

@@ -1,7 +1,8 @@
-//! Batches for measuring speed, one family of jobs each: carts, convex outlines, and one job that takes the most root steps there are.
+//! Batches of one family of jobs each: carts and convex outlines, for measuring speed, and outlines that nearly touch, where EPSILON decides.
+use crate::batches::{block, Job};
 use crate::math::{Rotation, Vector};
+use crate::pool;
 use crate::random::Random;
-use crate::sheet::{block, Job};
 use crate::sweep_toi::sweep::Sweep;
 use std::io::Write;
 
@@ -68,11 +69,21 @@ fn convex(r: &mut Random) -> Job {
     Job { a: outline(r), b: outline(r), head: [0.0, 0.0, 1.0, SLOP], moves: [going(r, -14.0), going(r, 14.0)] }
 }
 
+/// Outlines on a small grid that start little apart. In f64 the answer is often another than with the EPSILON of f32.
+fn near(r: &mut Random) -> Job {
+    let slop = r.pick(&[SLOP, 1e-6, 1e-8, 1e-9, 1e-10, 1e-12, 1e-20]);
+    Job { a: pool::thin(r), b: pool::thin(r), head: [0.0, 0.0, 1.0, slop], moves: [pool::near_movement(r), pool::near_movement(r)] }
+}
+
 pub fn batch(family: &str, seed: u64, count: u64) {
     let mut r = Random(seed);
     let mut out = std::io::BufWriter::new(std::io::stdout().lock());
     for i in 1..=count {
-        let job = if family == "carts" { cart(&mut r) } else { convex(&mut r) };
+        let job = match family {
+            "carts" => cart(&mut r),
+            "convex" => convex(&mut r),
+            _ => near(&mut r),
+        };
         out.write_all(&block(i as u32, &job)).unwrap();
     }
 }

@@ -1,9 +1,9 @@
 //! Stored jobs whose answer a reader would not expect. A square that turns a quarter beside a wall is S, although its corners reach into the wall; the
 //! nine steps of 10 degrees of the same turn are S H O O O O O O S; and a bar on a half turn, which has no direction, is S beside a point that it
 //! would sweep through either way round.
+use crate::batches::{self, Job};
 use crate::math::{Rotation, Vector};
 use crate::pool::Pool;
-use crate::sheet::{self, Job};
 use crate::sweep::{self, Call};
 use crate::sweep_toi::sweep::Sweep;
 use crate::words::{self, Parts};
@@ -57,7 +57,7 @@ pub fn rows() {
     for (number, k) in (1..).zip(&calls) {
         let (a, b) = (p.outlines[k.a].clone(), p.outlines[k.b].clone());
         let job = Job { a, b, head: [0.0, 0.0, 1.0, p.slops[0]], moves: [p.moves[k.move_a], p.moves[k.move_b]] };
-        out.row(&sheet::row(number, &sheet::block(number as u32, &job)));
+        out.row(&batches::row(number, &batches::block(number as u32, &job)));
     }
     out.end();
 }

@@ -1,17 +1,32 @@
 //! Outlines, poses, caches, radii and moves from which test calls are put together. The first of each kind are in the domain (`GOOD` says how
 //! many), the rest is outside of it or on its edge.
 use crate::domain::LIMIT;
-use crate::math::{Pose, Rotation, Vector};
+use crate::math::{Pose, Real, Rotation, Vector};
 use crate::random::Random;
 use crate::sweep_toi::proxy_distance::SimplexCache;
 use crate::sweep_toi::sweep::Sweep;
+use crate::width::{step, Bits, ABOVE_ONE, BELOW_ONE, TINY};
+use core::ops::Range;
 
-pub const ABOVE_LIMIT: f32 = 1_048_576.125;
+pub const ABOVE_LIMIT: Real = step(LIMIT, 1);
+
+/// Small sizes of outlines and small slops, down to subnormals.
+#[cfg(feature = "f32")]
+const SMALL_SIZES: [Real; 4] = [1e-3, 1e-20, 1e-38, 1e-44];
+#[cfg(feature = "f32")]
+const SMALL_SLOPS: [Real; 3] = [TINY, 1e-38, 1e-20];
+#[cfg(feature = "f64")]
+const SMALL_SIZES: [Real; 6] = [1e-3, 1e-9, 1e-20, 1e-154, 1e-308, 1e-321];
+#[cfg(feature = "f64")]
+const SMALL_SLOPS: [Real; 8] = [TINY, 1e-308, 1e-154, 1e-20, 1e-13, 1e-11, 1e-10, 1e-9];
+
+/// How little outlines that nearly touch are apart: between the EPSILON of f64 and that of f32, and beside them.
+const LITTLE: [Real; 8] = [1e-6, 1e-7, 1e-9, 1e-12, 1e-15, 4e-16, 1e-16, 2e-17];
 
 /// A list of numbers x0 y0 x1 y1 ..
-pub type Outline = Vec<f32>;
+pub type Outline = Vec<Real>;
 
-pub fn points(outline: &[f32]) -> Vec<Vector> {
+pub fn points(outline: &[Real]) -> Vec<Vector> {
     outline.chunks_exact(2).map(|p| Vector::new(p[0], p[1])).collect()
 }
 
@@ -20,7 +35,7 @@ fn polygon(r: &mut Random, n: usize) -> Outline {
     let (x, y) = (2.0 * r.unit(), 2.0 * r.unit());
     (0..n)
         .flat_map(|i| {
-            let t = turn + i as f32 / n as f32 * 6.2831855;
+            let t = turn + i as Real / n as Real * 6.2831855;
             [x + size * t.cos(), y + size * t.sin()]
         })
         .collect()
@@ -31,7 +46,7 @@ fn rectangle(r: &mut Random) -> Outline {
     vec![-x, -y, x, -y, x, y, -x, y]
 }
 
-fn of(n: usize, mut number: impl FnMut() -> f32) -> Outline {
+fn of(n: usize, mut number: impl FnMut() -> Real) -> Outline {
     (0..2 * n).map(|_| number()).collect()
 }
 
@@ -48,9 +63,9 @@ pub fn outline(r: &mut Random) -> Outline {
             let (u, v, w) = (r.whole(4), r.whole(4), r.whole(3));
             (0..n).flat_map(|_| { let k = r.whole(2); [u + k * v, w + k * v] }).collect()
         }
-        8 => { let scale = r.pick(&[1e-3, 1e-20, 1e-38, 1e-44]); of(n, || r.unit() * scale) }
+        8 => { let scale = r.pick(&SMALL_SIZES); of(n, || r.unit() * scale) }
         9 => { let scale = r.pick(&[1e3, 1e5, LIMIT]); of(n, || r.unit() * scale) }
-        10 => of(n, || r.pick(&[0.0, -0.0, 1.0, -1.0, 1e-45, LIMIT, -LIMIT])),
+        10 => of(n, || r.pick(&[0.0, -0.0, 1.0, -1.0, TINY, LIMIT, -LIMIT])),
         _ => of(1, || r.whole(8) * 0.5),
     }
 }
@@ -58,17 +73,51 @@ pub fn outline(r: &mut Random) -> Outline {
 pub fn angle(r: &mut Random) -> Rotation {
     let t = 3.1415927 * r.unit();
     match r.below(3) {
-        0 => { let (c, s) = r.pick(&[(1.0, 0.0), (0.0, 1.0), (-1.0, 0.0), (0.0, -1.0)]); Rotation { c, s } }
+        0 => quarter(r),
         _ => Rotation { c: t.cos(), s: t.sin() },
     }
 }
 
+/// The origin, or one to four points on a small grid.
+pub fn thin(r: &mut Random) -> Outline {
+    match r.below(5) {
+        0 => vec![0.0; 2],
+        n => of(n as usize, || r.whole(2)),
+    }
+}
+
+/// A shift on the grid, in two of three parts off it by little.
+pub fn near(r: &mut Random) -> Vector {
+    let mut part = || match r.below(3) {
+        0 => r.whole(2),
+        1 => r.pick(&LITTLE) * r.unit(),
+        _ => r.whole(2) + r.pick(&LITTLE) * r.unit(),
+    };
+    Vector::new(part(), part())
+}
+
+/// A quarter-turn.
+pub fn quarter(r: &mut Random) -> Rotation {
+    let (c, s) = r.pick(&[(1.0, 0.0), (0.0, 1.0), (-1.0, 0.0), (0.0, -1.0)]);
+    Rotation { c, s }
+}
+
+/// From one such shift to another, often turned by quarters.
+pub fn near_movement(r: &mut Random) -> Sweep {
+    let q1 = quarter(r);
+    Sweep { local_center: Vector::ZERO, c1: near(r), c2: near(r), q1, q2: if r.below(4) == 0 { quarter(r) } else { q1 } }
+}
+
+/// Where the f64 pool has outlines, poses and moves that nearly touch; f32's has none.
+pub const NEAR_OUTLINES: Range<usize> = 0..24;
+pub const NEAR_POSES: Range<usize> = 32..48;
+pub const NEAR_MOVES: Range<usize> = 64..108;
+
 /// A pair of the largest s with 1 + s * s at most 1.015625 and the next; likewise for c * c at least 0.984375.
 pub fn edge_rotations() -> Vec<Rotation> {
-    let step = |x: f32, d: i32| f32::from_bits((x.to_bits() as i32 + d) as u32);
-    let mut s = 0.125f32;
+    let mut s = 0.125;
     while 1.0 + step(s, 1) * step(s, 1) <= 1.015625 { s = step(s, 1); }
-    let mut c = 1.0f32;
+    let mut c = step((0.984375 as Real).sqrt(), 8);
     while step(c, -1) * step(c, -1) >= 0.984375 { c = step(c, -1); }
     vec![
         Rotation { c: 1.0, s },
@@ -78,8 +127,8 @@ pub fn edge_rotations() -> Vec<Rotation> {
     ]
 }
 
-fn bad_numbers(good: f32) -> [f32; 6] {
-    [f32::NAN, f32::INFINITY, f32::NEG_INFINITY, ABOVE_LIMIT, -ABOVE_LIMIT, good]
+fn bad_numbers(good: Real) -> [Real; 6] {
+    [Real::NAN, Real::INFINITY, Real::NEG_INFINITY, ABOVE_LIMIT, -ABOVE_LIMIT, good]
 }
 
 /// A cache with the number of its pair, which the published text does not know.
@@ -93,25 +142,25 @@ pub struct Pool {
     pub outlines: Vec<Outline>,
     pub poses: Vec<Pose>,
     pub caches: Vec<Numbered>,
-    pub radii: Vec<(f32, f32)>,
+    pub radii: Vec<(Real, Real)>,
     pub moves: Vec<Sweep>,
-    pub fractions: Vec<f32>,
-    pub slops: Vec<f32>,
+    pub fractions: Vec<Real>,
+    pub slops: Vec<Real>,
 }
 
 impl Pool {
     /// Where each outline starts among these words and how many numbers it has, poses, caches, radii, moves, fractions, slops, and the outlines.
-    pub fn words(&self) -> Vec<u32> {
+    pub fn words(&self) -> Vec<Bits> {
         let mut w = vec![0; 2416];
         for (i, s) in self.outlines.iter().enumerate() {
-            w[2 * i] = w.len() as u32;
-            w[2 * i + 1] = s.len() as u32;
+            w[2 * i] = w.len() as Bits;
+            w[2 * i + 1] = s.len() as Bits;
             w.extend(s.iter().map(|x| x.to_bits()));
         }
         for (i, c) in self.caches.iter().enumerate() {
             w[512 + 8 * i..520 + 8 * i].copy_from_slice(&cache_words(c));
         }
-        let mut put = |at: usize, numbers: &[f32]| numbers.iter().enumerate().for_each(|(k, x)| w[at + k] = x.to_bits());
+        let mut put = |at: usize, numbers: &[Real]| numbers.iter().enumerate().for_each(|(k, x)| w[at + k] = x.to_bits());
         for (i, p) in self.poses.iter().enumerate() {
             put(256 + 4 * i, &[p.rotation.c, p.rotation.s, p.translation.x, p.translation.y]);
         }
@@ -127,13 +176,13 @@ impl Pool {
     }
 }
 
-pub fn move_numbers(m: &Sweep) -> [f32; 10] {
+pub fn move_numbers(m: &Sweep) -> [Real; 10] {
     [m.local_center.x, m.local_center.y, m.c1.x, m.c1.y, m.c2.x, m.c2.y, m.q1.c, m.q1.s, m.q2.c, m.q2.s]
 }
 
-pub fn cache_words(n: &Numbered) -> [u32; 8] {
+pub fn cache_words(n: &Numbered) -> [Bits; 8] {
     let c = &n.cache;
-    [n.pair, c.count as u32, c.index_a[0], c.index_a[1], c.index_a[2], c.index_b[0], c.index_b[1], c.index_b[2]]
+    [n.pair, c.count as u32, c.index_a[0], c.index_a[1], c.index_a[2], c.index_b[0], c.index_b[1], c.index_b[2]].map(|x| x as Bits)
 }
 
 /// How many of each kind are in the domain, of 128 outlines, 64 poses, 32 radii, 128 moves, 16 fractions and 32 slops.
@@ -148,7 +197,7 @@ pub struct Good {
 
 pub const GOOD: Good = Good { outlines: 108, poses: 52, radii: 24, moves: 112, fractions: 10, slops: 24 };
 
-fn vector(r: &mut Random, size: f32) -> Vector {
+fn vector(r: &mut Random, size: Real) -> Vector {
     match r.below(3) {
         0 => Vector::new(r.whole(8), r.whole(8)),
         _ => Vector::new(size * r.unit(), size * r.unit()),
@@ -188,7 +237,7 @@ pub fn pool(r: &mut Random) -> Pool {
     while outlines.len() < 128 {
         let mut s = outline(r);
         let at = if outlines.len() % 2 == 0 { 0 } else { s.len() - 1 };
-        s[at] = bad_numbers(f32::NAN)[outlines.len() % 6];
+        s[at] = bad_numbers(Real::NAN)[outlines.len() % 6];
         outlines.push(s);
     }
 
@@ -197,14 +246,18 @@ pub fn pool(r: &mut Random) -> Pool {
     poses.push(Pose::from_parts(Vector::new(1.0, 2.0), edges[0]));
     poses.push(Pose::from_parts(Vector::new(-3.0, 0.5), edges[1]));
     poses.push(Pose::from_parts(Vector::new(LIMIT, -LIMIT), Rotation { c: 1.0, s: -0.0 }));
-    poses.push(Pose::from_parts(Vector::new(-0.0, 1e-45), Rotation { c: -1.0, s: 1e-45 }));
+    poses.push(Pose::from_parts(Vector::new(-0.0, TINY), Rotation { c: -1.0, s: TINY }));
     poses.push(Pose::from_parts(Vector::ZERO, edges[2]));
     poses.push(Pose::from_parts(Vector::ZERO, edges[3]));
-    for (c, s) in [(f32::NAN, 0.0), (1.0, f32::NAN), (1.0000001, 0.0), (0.0, -1.0000001), (0.0, 0.0), (f32::INFINITY, 0.0)] {
+    if cfg!(feature = "f64") {
+        // in f32 this one passes
+        poses.push(Pose::from_parts(Vector::ZERO, Rotation { c: 1.0, s: f32::from_bits(0x3e00_0003) as Real }));
+    }
+    for (c, s) in [(Real::NAN, 0.0), (1.0, Real::NAN), (ABOVE_ONE, 0.0), (0.0, -ABOVE_ONE), (0.0, 0.0), (Real::INFINITY, 0.0)] {
         poses.push(Pose::from_parts(vector(r, 4.0), Rotation { c, s }));
     }
     while poses.len() < 64 {
-        let bad = bad_numbers(f32::NAN)[poses.len() % 6];
+        let bad = bad_numbers(Real::NAN)[poses.len() % 6];
         let v = if poses.len() % 2 == 0 { Vector::new(bad, 0.0) } else { Vector::new(1.0, bad) };
         poses.push(Pose::from_parts(v, angle(r)));
     }
@@ -222,9 +275,9 @@ pub fn pool(r: &mut Random) -> Pool {
         })
         .collect();
 
-    let mut radii: Vec<(f32, f32)> = vec![(0.0, 0.0), (-0.0, 0.0), (0.0, -0.0), (LIMIT, LIMIT), (LIMIT, 0.0), (1e-45, 1e-30), (1.0, 1.0), (0.25, 0.0)];
+    let mut radii: Vec<(Real, Real)> = vec![(0.0, 0.0), (-0.0, 0.0), (0.0, -0.0), (LIMIT, LIMIT), (LIMIT, 0.0), (TINY, 1e-30), (1.0, 1.0), (0.25, 0.0)];
     while radii.len() < GOOD.radii { radii.push((r.unit().abs() * 2.0, r.unit().abs())); }
-    for x in [f32::NAN, f32::INFINITY, ABOVE_LIMIT, -1.0] { radii.push((x, 1.0)); radii.push((0.5, if x == -1.0 { -1e-45 } else { x })); }
+    for x in [Real::NAN, Real::INFINITY, ABOVE_LIMIT, -1.0] { radii.push((x, 1.0)); radii.push((0.5, if x == -1.0 { -TINY } else { x })); }
 
     let mut moves: Vec<Sweep> = (0..GOOD.moves - 4).map(|_| movement(r)).collect();
     for k in 0..4 {
@@ -234,9 +287,9 @@ pub fn pool(r: &mut Random) -> Pool {
     }
     while moves.len() < 128 {
         let mut w = movement(r);
-        let bad = bad_numbers(f32::NAN)[moves.len() % 6];
+        let bad = bad_numbers(Real::NAN)[moves.len() % 6];
         match moves.len() % 8 {
-            0 => w.q1.c = f32::NAN,
+            0 => w.q1.c = Real::NAN,
             1 => w.q2 = edges[2],
             2 => w.q1 = edges[3],
             3 => w.q2.s = 1.5,
@@ -248,10 +301,16 @@ pub fn pool(r: &mut Random) -> Pool {
         moves.push(w);
     }
 
-    let fractions = vec![1.0, 1.0, 1.0, 1.0, 0.5, 0.0, -0.0, 1e-45, f32::from_bits(0x3f7f_ffff), 0.21619e0,
-        f32::from_bits(0x3f80_0001), -1e-45, f32::NAN, f32::INFINITY, f32::NEG_INFINITY, 2.0];
-    let mut slops: Vec<f32> = vec![0.005, 0.005, 0.005, 0.005, 0.01, 0.5, 0.5, 1e-3, 1e-6, 1e-45, 1e-38, 1e-20, LIMIT, 100.0, 10.0, 1.0, 0.25];
+    let fractions = vec![1.0, 1.0, 1.0, 1.0, 0.5, 0.0, -0.0, TINY, BELOW_ONE, 0.21619e0,
+        ABOVE_ONE, -TINY, Real::NAN, Real::INFINITY, Real::NEG_INFINITY, 2.0];
+    let mut slops = [&[0.005, 0.005, 0.005, 0.005, 0.01, 0.5, 0.5, 1e-3, 1e-6], &SMALL_SLOPS[..], &[LIMIT, 100.0, 10.0, 1.0, 0.25]].concat();
     while slops.len() < GOOD.slops { slops.push(r.unit().abs() * 0.1 + 1e-6); }
-    slops.extend([0.0, -0.0, -1.0, f32::NAN, f32::INFINITY, ABOVE_LIMIT, -1e-45, f32::NEG_INFINITY]);
+    slops.extend([0.0, -0.0, -1.0, Real::NAN, Real::INFINITY, ABOVE_LIMIT, -TINY, Real::NEG_INFINITY]);
+    if cfg!(feature = "f64") {
+        outlines[NEAR_OUTLINES].fill_with(|| thin(r));
+        poses[NEAR_POSES].fill_with(|| Pose::from_parts(near(r), quarter(r)));
+        moves[NEAR_MOVES].fill_with(|| near_movement(r));
+        for x in radii[8..GOOD.radii].iter_mut().step_by(2) { *x = (0.0, 0.0) }
+    }
     Pool { outlines, poses, caches, radii, moves, fractions, slops }
 }

@@ -1,18 +1,18 @@
 //! What the module's text leans on and does not hold: the ground operations, spelled out rule by rule, and empty shapes so that it compiles whole.
-//! Every operation rounds once to f32, in the written order.
+//! Every operation rounds once to the width, in the written order.
 
 pub mod math {
     use core::ops::{Add, AddAssign, Mul, Neg, Sub, SubAssign};
 
-    pub use f32 as Real;
+    pub use crate::width::Real;
 
     /// `x.max_of(y)`: y if x < y or x is NaN, else x.
     pub trait MaxOf {
         fn max_of(self, y: Self) -> Self;
     }
 
-    impl MaxOf for f32 {
-        fn max_of(self, y: f32) -> f32 {
+    impl MaxOf for Real {
+        fn max_of(self, y: Real) -> Real {
             if self < y || self.is_nan() {
                 y
             } else {
@@ -23,34 +23,34 @@ pub mod math {
 
     #[derive(Copy, Clone, Debug, Default, PartialEq)]
     pub struct Vector {
-        pub x: f32,
-        pub y: f32,
+        pub x: Real,
+        pub y: Real,
     }
 
     impl Vector {
         pub const ZERO: Self = Self { x: 0.0, y: 0.0 };
 
-        pub fn new(x: f32, y: f32) -> Self {
+        pub fn new(x: Real, y: Real) -> Self {
             Self { x, y }
         }
 
-        pub fn splat(k: f32) -> Self {
+        pub fn splat(k: Real) -> Self {
             Self { x: k, y: k }
         }
 
-        pub fn dot(self, b: Self) -> f32 {
+        pub fn dot(self, b: Self) -> Real {
             self.x * b.x + self.y * b.y
         }
 
-        pub fn perp_dot(self, b: Self) -> f32 {
+        pub fn perp_dot(self, b: Self) -> Real {
             self.x * b.y - self.y * b.x
         }
 
-        pub fn length(self) -> f32 {
+        pub fn length(self) -> Real {
             self.dot(self).sqrt()
         }
 
-        pub fn distance(self, q: Self) -> f32 {
+        pub fn distance(self, q: Self) -> Real {
             (self - q).length()
         }
 
@@ -63,7 +63,7 @@ pub mod math {
             }
         }
 
-        pub fn lerp(self, b: Self, t: f32) -> Self {
+        pub fn lerp(self, b: Self, t: Real) -> Self {
             Self::new(self.x * (1.0 - t) + b.x * t, self.y * (1.0 - t) + b.y * t)
         }
 
@@ -97,7 +97,7 @@ pub mod math {
         }
     }
 
-    impl Mul<Vector> for f32 {
+    impl Mul<Vector> for Real {
         type Output = Vector;
         fn mul(self, v: Vector) -> Vector {
             Vector::new(self * v.x, self * v.y)
@@ -119,8 +119,8 @@ pub mod math {
     /// Cosine and sine.
     #[derive(Copy, Clone, Debug, Default, PartialEq)]
     pub struct Rotation {
-        pub c: f32,
-        pub s: f32,
+        pub c: Real,
+        pub s: Real,
     }
 
     impl Rotation {
@@ -132,7 +132,7 @@ pub mod math {
             Vector::new(self.c * v.x + self.s * v.y, self.c * v.y - self.s * v.x)
         }
 
-        pub fn lerp(self, b: Self, t: f32) -> Self {
+        pub fn lerp(self, b: Self, t: Real) -> Self {
             let u = 1.0 - t;
             Self {
                 c: u * self.c + t * b.c,
@@ -198,10 +198,10 @@ pub mod bounding_volume {
 
 /// Shapes with the fields that the module's text names. None is ever made; `Cuboid` has the Rust's function that numbers a corner.
 pub mod shape {
-    use crate::math::Vector;
+    use crate::math::{Real, Vector};
 
     pub struct Ball {
-        pub radius: f32,
+        pub radius: Real,
     }
     pub struct Cuboid {
         pub half_extents: Vector,
@@ -212,7 +212,7 @@ pub mod shape {
     }
     pub struct Capsule {
         pub segment: Segment,
-        pub radius: f32,
+        pub radius: Real,
     }
     pub struct Triangle {
         pub a: Vector,
@@ -221,7 +221,7 @@ pub mod shape {
     }
     pub struct Round<S> {
         pub inner_shape: S,
-        pub border_radius: f32,
+        pub border_radius: Real,
     }
 
     pub enum TypedShape<'a> {

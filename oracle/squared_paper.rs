@@ -1,13 +1,16 @@
 //! Demand 3 tested by running: on squared paper within 16 a distance call never ends at the round limit, it ends touching exactly when the outlines share a
 //! point, and otherwise the corners in the returned cache span a nearest place; and from one solve to the next what is kept comes nearer to the origin, or it
 //! comes as near and the call settles there; and with the outlines exchanged or B shifted the nearest difference is the same, seen from there. What is right
-//! is worked out here in whole numbers and fractions of them, with no float.
+//! is worked out here in whole numbers and fractions of them, with no float. In f64 the same within 2,048, where a call may end at the round limit.
 use crate::counts;
-use crate::math::{Pose, Rotation, Vector};
+use crate::math::{Pose, Real, Rotation, Vector};
 use crate::random::Random;
 use crate::sweep_toi::proxy_distance::{proxy_distance, SimplexCache};
 use crate::sweep_toi::toi_proxy::ToiProxy;
 use std::time::Instant;
+
+/// How far apart points may lie on each axis.
+const BOUND: i64 = if cfg!(feature = "f64") { 2048 } else { 16 };
 
 // ---- exact geometry
 
@@ -212,7 +215,7 @@ struct Tally {
 
 impl Tally {
     /// Makes the call and looks at what the claims say of it.
-    fn call(&mut self, job: &Job, radii: (f32, f32, bool), given: SimplexCache) -> Called {
+    fn call(&mut self, job: &Job, radii: (Real, Real, bool), given: SimplexCache) -> Called {
         let (a, b) = (ToiProxy::from_points(job.a, radii.0), ToiProxy::from_points(job.b, radii.1));
         let mut cache = given;
         let output = proxy_distance(&job.pose, &a, &b, radii.2, &mut cache);
@@ -230,8 +233,8 @@ impl Tally {
                     !job.least.below(spanned(&places))
                 }
             }
-            // 20 rounds never run out within 16
-            _ => false,
+            // 20 rounds never run out within 16; further apart, in f64, they may
+            _ => BOUND > 16,
         };
         let mut last: Option<Fraction> = None;
         let (mut stays, mut circles) = (0, false);
@@ -294,7 +297,7 @@ fn outlines(n: i64, most: usize) -> Vec<Vec<Point>> {
 }
 
 fn floats(o: &[Point]) -> Vec<Vector> {
-    o.iter().map(|p| Vector::new(p.0 as f32, p.1 as f32)).collect()
+    o.iter().map(|p| Vector::new(p.0 as Real, p.1 as Real)).collect()
 }
 
 /// Every cache whose counted entries name corners.
@@ -353,11 +356,11 @@ fn any_cache(random: &mut Random, na: u32, nb: u32) -> SimplexCache {
 }
 
 /// A number, and for 0 either zero.
-fn float(random: &mut Random, x: i64) -> f32 {
+fn float(random: &mut Random, x: i64) -> Real {
     if x == 0 {
         random.pick(&[0.0, -0.0])
     } else {
-        x as f32
+        x as Real
     }
 }
 
@@ -457,8 +460,8 @@ impl Pair {
     }
 }
 
-fn any_radii(random: &mut Random) -> (f32, f32, bool) {
-    (random.below(1 << 20) as f32 / 64.0, random.below(1 << 20) as f32 / 64.0, random.below(2) == 0)
+fn any_radii(random: &mut Random) -> (Real, Real, bool) {
+    (random.below(1 << 20) as Real / 64.0, random.below(1 << 20) as Real / 64.0, random.below(2) == 0)
 }
 
 fn random_calls(bound: i64, calls: u64, seed: u64) {
@@ -575,20 +578,22 @@ fn hunted_calls(bound: i64, calls: u64, seed: u64) {
     println!("  a longest one: {:?}, from {:?}", longest.1, longest.2);
 }
 
-/// `millions` of random calls from `seed` on, after all small outlines; then half as many pairs, each called three ways; and `millions` of hunted calls.
+/// `millions` of random calls from `seed` on, in f32 after all small outlines; then half as many pairs, each called three ways; and `millions` of hunted calls.
 pub fn run(millions: u64, seed: u64) {
     if !cfg!(rounds) {
         eprintln!("squared-paper: build with the cfg `rounds`, as tests/squared-paper.sh does");
         std::process::exit(2)
     }
-    all_pairs(4, 3, "every valid cache", valid_caches);
-    let mut random = Random(seed);
-    all_pairs(4, 4, "an empty cache and seven random ones", |na, nb| {
-        let mut caches = vec![SimplexCache::default()];
-        caches.extend((0..7).map(|_| any_cache(&mut random, na, nb)));
-        caches
-    });
-    random_calls(16, millions * 1_000_000, seed);
-    either_way(16, millions * 500_000, seed);
-    hunted_calls(16, millions * 1_000_000, seed);
+    if cfg!(feature = "f32") {
+        all_pairs(4, 3, "every valid cache", valid_caches);
+        let mut random = Random(seed);
+        all_pairs(4, 4, "an empty cache and seven random ones", |na, nb| {
+            let mut caches = vec![SimplexCache::default()];
+            caches.extend((0..7).map(|_| any_cache(&mut random, na, nb)));
+            caches
+        });
+    }
+    random_calls(BOUND, millions * 1_000_000, seed);
+    either_way(BOUND, millions * 500_000, seed);
+    hunted_calls(BOUND, millions * 1_000_000, seed);
 }

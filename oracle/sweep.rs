@@ -1,12 +1,13 @@
 //! Stored sweeps: a pool, then rows of 15 words (see docs/REPLAYS.md).
 use crate::counts;
 use crate::domain;
-use crate::ground::bits;
-use crate::pool::{self, points, Outline, Pool, GOOD};
+use crate::math::Real;
+use crate::pool::{self, points, Outline, Pool, GOOD, NEAR_MOVES, NEAR_OUTLINES};
 use crate::random::Random;
 use crate::sweep_toi::sweep::Sweep;
 use crate::sweep_toi::sweep_toi::{sweep_time_of_impact, SweepToiStatus};
 use crate::sweep_toi::toi_proxy::ToiProxy;
+use crate::width::{bits, Bits};
 use crate::words::{self, Parts};
 
 pub struct Answer {
@@ -15,7 +16,7 @@ pub struct Answer {
     /// 0 O, 1 H, 2 S, 3 F.
     pub status: u32,
     /// Fraction, point, normal.
-    pub floats: [f32; 5],
+    pub floats: [Real; 5],
     pub counts: [u32; 3],
     /// First and second corner of A, then of B, of the last search; FFFFFFFF for a face side or where there was none.
     pub corners: [u32; 4],
@@ -23,7 +24,7 @@ pub struct Answer {
     pub most: [u32; 2],
 }
 
-pub fn answer(a: &Outline, ra: f32, wa: &Sweep, b: &Outline, rb: f32, wb: &Sweep, max_fraction: f32, slop: f32) -> Answer {
+pub fn answer(a: &Outline, ra: Real, wa: &Sweep, b: &Outline, rb: Real, wb: &Sweep, max_fraction: Real, slop: Real) -> Answer {
     let refused = domain::or(domain::pair(a, b, ra, rb), || domain::sweep(wa, wb, max_fraction, slop));
     if refused != 0 {
         return Answer { refused, status: 0, floats: [0.0; 5], counts: [0; 3], corners: [u32::MAX; 4], most: [0; 2] };
@@ -58,17 +59,17 @@ pub fn ask(p: &Pool, k: Call) -> Answer {
     answer(&p.outlines[k.a], ra, &p.moves[k.move_a], &p.outlines[k.b], rb, &p.moves[k.move_b], p.fractions[k.fraction], p.slops[k.slop])
 }
 
-pub fn row(k: Call, x: &Answer) -> [u32; 15] {
+pub fn row(k: Call, x: &Answer) -> [Bits; 15] {
     let mut w = [0; 15];
-    w[0] = k.a as u32 | (k.b as u32) << 8 | (k.move_a as u32) << 16 | (k.move_b as u32) << 24;
-    w[1] = k.radii as u32 | (k.fraction as u32) << 8 | (k.slop as u32) << 16;
-    w[2] = if x.refused != 0 { x.refused } else { 16 + x.status };
+    w[0] = k.a as Bits | (k.b as Bits) << 8 | (k.move_a as Bits) << 16 | (k.move_b as Bits) << 24;
+    w[1] = k.radii as Bits | (k.fraction as Bits) << 8 | (k.slop as Bits) << 16;
+    w[2] = if x.refused != 0 { x.refused } else { 16 + x.status } as Bits;
     if x.refused == 0 {
         for (i, &y) in x.floats.iter().enumerate() {
             w[3 + i] = bits(y);
         }
-        w[8..11].copy_from_slice(&x.counts);
-        w[11..].copy_from_slice(&x.corners);
+        w[8..11].copy_from_slice(&x.counts.map(|n| n as Bits));
+        w[11..].copy_from_slice(&x.corners.map(|i| i as Bits));
     }
     w
 }
@@ -89,7 +90,7 @@ const RARE: [&str; 12] = [
     "hit with t1 advanced",
 ];
 
-fn rare(x: &Answer, max_fraction: f32) -> Option<usize> {
+fn rare(x: &Answer, max_fraction: Real) -> Option<usize> {
     let f = x.floats;
     let zeros = f[1..].iter().all(|&y| y == 0.0);
     let found = [
@@ -130,7 +131,10 @@ pub fn rows(seed: u64, count: usize, effort: u64) {
         out.row(&w);
     };
     for i in 0..count - count / 4 {
-        let k = call(&mut r, i % 3 == 2);
+        let mut k = call(&mut r, i % 3 == 2);
+        if cfg!(feature = "f64") && i % 4 == 0 {
+            k = Call { a: r.within(NEAR_OUTLINES), b: r.within(NEAR_OUTLINES), move_a: r.within(NEAR_MOVES), move_b: r.within(NEAR_MOVES), ..k };
+        }
         write(k, &ask(&p, k));
     }
     let (mut kept, mut met) = ([0usize; 12], [0usize; 12]);

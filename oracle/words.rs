@@ -1,22 +1,23 @@
-//! Tables on standard output, in parts of 16,384 words, little-endian: the table's number, how many of its rows came before, two zeros, and rows. No
-//! row lies across two parts; zeros fill what is left of one.
+//! Tables on standard output, in parts of 65,536 bytes of words as wide as a float, little-endian: the table's number, how many of its rows came before,
+//! two zeros, and rows. No row lies across two parts; zeros fill what is left of one.
 use crate::pool::Pool;
+use crate::width::Bits;
 use std::io::Write;
 
 /// The tables, by their numbers.
-pub const POOL: u32 = 0;
-pub const GROUND: u32 = 1;
-pub const DISTANCE: u32 = 2;
-pub const SWEEP: u32 = 3;
-pub const BLOCK: u32 = 4;
+pub const POOL: Bits = 0;
+pub const GROUND: Bits = 1;
+pub const DISTANCE: Bits = 2;
+pub const SWEEP: Bits = 3;
+pub const BLOCK: Bits = 4;
 
-const PART: usize = 16_384;
+const PART: usize = 65_536 / size_of::<Bits>();
 
 pub struct Parts {
     out: std::io::BufWriter<std::io::StdoutLock<'static>>,
     used: usize,
-    table: u32,
-    rows: u32,
+    table: Bits,
+    rows: Bits,
 }
 
 impl Parts {
@@ -24,7 +25,7 @@ impl Parts {
         Self { out: std::io::BufWriter::new(std::io::stdout().lock()), used: 0, table: POOL, rows: 0 }
     }
 
-    fn put(&mut self, words: &[u32]) {
+    fn put(&mut self, words: &[Bits]) {
         for w in words {
             self.out.write_all(&w.to_le_bytes()).expect("standard output takes the words");
         }
@@ -36,13 +37,13 @@ impl Parts {
     }
 
     /// The rows that follow are a table's first.
-    pub fn table(&mut self, table: u32) {
+    pub fn table(&mut self, table: Bits) {
         self.pad();
         self.table = table;
         self.rows = 0;
     }
 
-    pub fn row(&mut self, words: &[u32]) {
+    pub fn row(&mut self, words: &[Bits]) {
         assert!(words.len() <= PART - 4, "{} words", words.len());
         if self.used + words.len() > PART {
             self.pad();

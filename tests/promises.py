@@ -115,6 +115,11 @@ def by_parts(crate, header):
     sys.exit(f"{crate}: no struct {name}, whose parts a contract tells")
 
 
+def alias_of(owner, name):
+    """What a struct is called here: those of the f64 crates have the names of the others."""
+    return f"{name}64" if owner.endswith("64") else name
+
+
 def lemma_of(name):
     return re.sub(r"(?<=[a-z0-9])(?=[A-Z])", "-", name).lower() + "-by-parts"
 
@@ -148,7 +153,7 @@ def promised(crate, structs):
         struct = by_parts(crate, header)
         if struct:
             structs[struct[1]] = struct
-        by = BY_PARTS.format(lemma=lemma_of(struct[2])) if struct else BY_VALUE
+        by = BY_PARTS.format(lemma=lemma_of(alias_of(struct[0], struct[2]))) if struct else BY_VALUE
         left = EACH_LIST.format(path=path) if lent else NOTHING_LENT
         found[path] = STATEMENT.format(name=re.sub(r"[._]", "-", path), path=path, told=TOLD[clauses], by=by, left=left)
     return [found[path] for path in sorted(found)]
@@ -160,8 +165,11 @@ def made():
     by_crate = {c: promised(c, structs) for c in crates()}
     used = [c for c in by_crate if by_crate[c]]
     statements = "\n".join(f"  -- ---- {c}\n" + "\n".join(by_crate[c]) for c in used)
-    uses = [f"use Rattle.{c}.proofs as {c}" for c in used] + [f"use {place}.{{{name}}}" for _, place, name, _ in structs.values()]
-    lemmas = "".join(lemma(name, fields) for _, _, name, fields in structs.values())
+    uses = [f"use Rattle.{c}.proofs as {c}" for c in used] + [
+        f"use {place}.{{{name}}}" if alias_of(owner, name) == name else f"use {place}.{{{name} as {alias_of(owner, name)}}}"
+        for owner, place, name, _ in structs.values()
+    ]
+    lemmas = "".join(lemma(alias_of(owner, name), fields) for owner, _, name, fields in structs.values())
     text = HEAD.format(crates="\n".join(uses), structs=lemmas, statements=statements)
     named = {owner for owner, _, _, _ in structs.values()}.union(used)
     return text, f"{OWN}: " + " ".join(c for c in by_crate if c in named)

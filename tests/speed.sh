@@ -1,20 +1,23 @@
 #!/usr/bin/env bash
-# speed.sh SRC [RUSTC]: `sheet` beside the oracle's sheet on the same 20,000 blocks of each family: mixed, carts, convex, and copies of one block that
-# takes 8,000 root steps. Of seven runs of each, taking turns, the least processor time (user and system), the ratio, and the largest memory that the
-# system tells of the program itself; instructions on the first 2,000 blocks beside them where valgrind is installed. Then `sheet` alone at 1,024,
-# 10,240 and 102,400 mixed blocks, to show that time grows with the batch and memory does not. Both are x86-64 programs; on Arm give a RUSTC that
-# writes such programs, and in RUN the emulator for both: then neither seconds nor memory are the programs' own.
+# speed.sh [--f64] SRC [RUSTC]: `sheet` beside the oracle's sheet on the same 20,000 blocks of each family: mixed, carts, convex, and copies of the block
+# that takes the most root steps; with --f64 `sheet64` beside that of the oracle's f64 build, on the same blocks. Of seven runs of each, taking turns, the
+# least processor time (user and system), the ratio, and the largest memory that the system tells of the program itself; instructions on the first 2,000
+# blocks beside them where valgrind is installed. Then `sheet` alone at 1,024, 10,240 and 102,400 mixed blocks, to show that time grows with the batch
+# and memory does not. Both are x86-64 programs; on Arm give a RUSTC that writes such programs, and in RUN the emulator for both: then neither seconds
+# nor memory are the programs' own.
 # SRC is the folder that holds query/sweep_toi/*.rs of parry2d 0.31.1.
 set -eu
+wide=""; if [ "$1" = --f64 ]; then wide=64; shift; fi
 cd "$(dirname "$0")/.."
 oracle/build.sh "$1" target/oracle "${2:-rustc}"
-rt check sheet > /dev/null
-python3 - <<'PY'
-import os, re, shutil, subprocess, tempfile, threading
+[ -z "$wide" ] || oracle/build.sh --f64 "$1" target/oracle "${2:-rustc}"
+rt check "sheet$wide" > /dev/null
+python3 - "$wide" <<'PY'
+import os, re, shutil, subprocess, sys, tempfile, threading
 
 RUNS, COUNT, FEW, BLOCK = 7, 20000, 2000, 512
-run = os.environ.get("RUN", "").split()
-ours, theirs = run + ["target/bin/sheet"], run + ["target/oracle/oracle", "sheet"]
+wide, run = sys.argv[1], os.environ.get("RUN", "").split()
+ours, theirs = run + [f"target/bin/sheet{wide}"], run + [f"target/oracle/oracle{wide}", "sheet"]
 
 
 def made(family, count):
@@ -22,11 +25,12 @@ def made(family, count):
 
 
 def worst(count):
-    """Copies of the first mixed block that takes 8,000 root steps."""
+    """Root steps of the mixed block that takes the most, and copies of the first such block."""
     blocks = made("batch", 2000)
     lines = subprocess.run(theirs, input=blocks, stdout=subprocess.PIPE, check=True).stdout.decode().splitlines()
-    number = next(i for i, line in enumerate(lines) if len(line.split()) > 11 and line.split()[11] == "8000")
-    return blocks[BLOCK * number : BLOCK * (number + 1)] * count
+    steps = [int(line.split()[11]) if len(line.split()) > 11 else 0 for line in lines]
+    number = steps.index(max(steps))
+    return max(steps), blocks[BLOCK * number : BLOCK * (number + 1)] * count
 
 
 def stored(data):
@@ -69,11 +73,12 @@ def memory(command, data, count):
     return largest
 
 
+most, copies = worst(COUNT)
 families = {
     "mixed": made("batch", COUNT),
     "carts": made("carts", COUNT),
     "convex": made("convex", COUNT),
-    "8,000 root steps": worst(COUNT),
+    f"{most:,} root steps": copies,
 }
 for name, data in families.items():
     file, times = stored(data), ([], [])

@@ -5,6 +5,8 @@
 //! `x y x y ..`, of 1 to 64 points, in any order, although another order can give slightly other numbers. [`plate`] and [`bar`] build the commonest
 //! outlines. A rotation is a cosine and a sine.
 //!
+//! Numbers are f32; [`wide`] has the root, the sweep and the distance in f64, with the same types at that width, as `Move<f64>`.
+//!
 //! Read [`Sweep::Separated`] before you rely on it: it does not clear a move that turns.
 //!
 //! ```
@@ -28,40 +30,15 @@ mod draw;
 mod gaps;
 pub mod jobs;
 pub mod page;
+pub mod wide;
+mod width;
 mod words;
 
 use std::fmt;
 
 mod entry {
     extern "C" {
-        pub fn foldflake_root(x: f32) -> f32;
         pub fn foldflake_line(number: u64, block: *const u8, block_len: usize, out: *mut u8, out_len: usize) -> usize;
-        pub fn foldflake_sweep(
-            points_a: *const f32,
-            numbers_in_a: usize,
-            points_b: *const f32,
-            numbers_in_b: usize,
-            numbers: *const f32,
-            numbers_len: usize,
-            out: *mut f32,
-            out_len: usize,
-            counts: *mut u32,
-            counts_len: usize,
-        ) -> u32;
-        pub fn foldflake_distance(
-            points_a: *const f32,
-            numbers_in_a: usize,
-            points_b: *const f32,
-            numbers_in_b: usize,
-            numbers: *const f32,
-            numbers_len: usize,
-            use_radii: u32,
-            pair: u32,
-            cache: *mut u32,
-            cache_len: usize,
-            out: *mut f32,
-            out_len: usize,
-        ) -> u32;
         pub fn foldflake_plate(half_x: f32, half_y: f32, out: *mut f32, out_len: usize) -> u32;
         pub fn foldflake_bar(ax: f32, ay: f32, bx: f32, by: f32, out: *mut f32, out_len: usize) -> u32;
         pub fn foldflake_placed_plate(half_x: f32, half_y: f32, pose: *const f32, pose_len: usize, out: *mut f32, out_len: usize) -> u32;
@@ -169,27 +146,17 @@ impl std::error::Error for Refusal {}
 /// assert_eq!(turn.first, turn.last);
 /// ```
 #[derive(Clone, Copy, Debug, PartialEq)]
-pub struct Move {
+pub struct Move<T = f32> {
     /// The turning centre, in the frame in which the outline's points are given.
-    pub local_center: [f32; 2],
+    pub local_center: [T; 2],
     /// Where the turning centre stands in the hall at fraction 0.
-    pub first: [f32; 2],
+    pub first: [T; 2],
     /// Where it stands at fraction 1.
-    pub last: [f32; 2],
+    pub last: [T; 2],
     /// Cosine and sine at fraction 0; counterclockwise is positive where y points to the left of x.
-    pub first_rotation: [f32; 2],
+    pub first_rotation: [T; 2],
     /// Cosine and sine at fraction 1.
-    pub last_rotation: [f32; 2],
-}
-
-impl Move {
-    /// The ten numbers of the move, in the order of a block.
-    fn numbers(&self) -> [f32; 10] {
-        let mut numbers = [0f32; 10];
-        let pairs = [self.local_center, self.first, self.last, self.first_rotation, self.last_rotation];
-        numbers.chunks_mut(2).zip(&pairs).for_each(|(place, pair)| place.copy_from_slice(pair));
-        numbers
-    }
+    pub last_rotation: [T; 2],
 }
 
 /// Where and when two bodies meet. Zeros where nothing is to be told.
@@ -205,13 +172,13 @@ impl Move {
 /// }
 /// ```
 #[derive(Clone, Copy, Debug, PartialEq)]
-pub struct Contact {
+pub struct Contact<T = f32> {
     /// The fraction of the move.
-    pub fraction: f32,
+    pub fraction: T,
     /// Midway between the two nearest points, each moved out by its radius, in the hall's frame.
-    pub point: [f32; 2],
+    pub point: [T; 2],
     /// The direction from A to B, in the hall's frame.
-    pub normal: [f32; 2],
+    pub normal: [T; 2],
 }
 
 /// How much work a sweep took: at most 20, 160 and 8,000.
@@ -276,16 +243,16 @@ pub struct Corners {
 /// assert!(matches!(step(10.0, 20.0), Ok(Sweep::Hit(..))));
 /// ```
 #[derive(Clone, Copy, Debug, PartialEq)]
-pub enum Sweep {
+pub enum Sweep<T = f32> {
     /// The outlines touch or overlap where the search stood, which may be later than at fraction 0.
     Overlapped(Counts, Corners),
     /// They come within the target distance at the contact's fraction.
-    Hit(Contact, Counts, Corners),
+    Hit(Contact<T>, Counts, Corners),
     /// Along one axis they are apart by more than target and tolerance, where the search stood last and at the planned end. A straight move is
     /// clear then, up to the tolerance; **a body that turns may swing in and out again in between**: cut a turn into steps.
-    Separated(Contact, Counts, Corners),
+    Separated(Contact<T>, Counts, Corners),
     /// No verdict: the search gave up. The fraction is the last safe one.
-    Failed(Contact, Counts, Corners),
+    Failed(Contact<T>, Counts, Corners),
 }
 
 /// The corner pairs from which the next distance call starts, under the number of the two outlines' pair; `Cache::default()` for a first call.
@@ -342,15 +309,15 @@ pub enum Ending {
 /// assert_eq!(measured.rounds, 1);
 /// ```
 #[derive(Clone, Copy, Debug, PartialEq)]
-pub struct Distance {
+pub struct Distance<T = f32> {
     /// The point of A nearest to B.
-    pub point_a: [f32; 2],
+    pub point_a: [T; 2],
     /// The point of B nearest to A.
-    pub point_b: [f32; 2],
+    pub point_b: [T; 2],
     /// The direction from A to B; zeros where they touch.
-    pub normal: [f32; 2],
+    pub normal: [T; 2],
     /// How far apart they are; not below 0.
-    pub distance: f32,
+    pub distance: T,
     /// Rounds of the search, at most 20.
     pub rounds: u32,
     /// How the call ended.
@@ -364,8 +331,7 @@ pub struct Distance {
 /// assert!(foldflake::root(-1.0).is_nan());
 /// ```
 pub fn root(x: f32) -> f32 {
-    // Safety: the call takes and returns a number.
-    unsafe { entry::foldflake_root(x) }
+    width::Width::root(x)
 }
 
 /// The line of a block as block `number` of a file, newline included; `None` where the number is 0 or above 2^63.
@@ -407,37 +373,7 @@ pub fn sweep(
     max_fraction: f32,
     linear_slop: f32,
 ) -> Result<Sweep, Refusal> {
-    let mut numbers = [0f32; 24];
-    numbers[..4].copy_from_slice(&[radius_a, radius_b, max_fraction, linear_slop]);
-    numbers[4..14].copy_from_slice(&move_a.numbers());
-    numbers[14..].copy_from_slice(&move_b.numbers());
-    let (mut out, mut counts) = ([0f32; 5], [0u32; 7]);
-    // Safety: each list has the length handed over, and the two that are written are ours alone.
-    let answer = unsafe {
-        entry::foldflake_sweep(
-            points_a.as_ptr(),
-            points_a.len(),
-            points_b.as_ptr(),
-            points_b.len(),
-            numbers.as_ptr(),
-            numbers.len(),
-            out.as_mut_ptr(),
-            out.len(),
-            counts.as_mut_ptr(),
-            counts.len(),
-        )
-    };
-    let contact = Contact { fraction: out[0], point: [out[1], out[2]], normal: [out[3], out[4]] };
-    let side = |first: u32, second: u32| if first == u32::MAX { None } else { Some([first, second]) };
-    let corners = Corners { a: side(counts[3], counts[4]), b: side(counts[5], counts[6]) };
-    let counts = Counts { distance_calls: counts[0], searches: counts[1], root_steps: counts[2] };
-    match answer {
-        16 => Ok(Sweep::Overlapped(counts, corners)),
-        17 => Ok(Sweep::Hit(contact, counts, corners)),
-        18 => Ok(Sweep::Separated(contact, counts, corners)),
-        19 => Ok(Sweep::Failed(contact, counts, corners)),
-        number => Err(Refusal(number)),
-    }
+    width::sweep(points_a, radius_a, move_a, points_b, radius_b, move_b, max_fraction, linear_slop)
 }
 
 /// The distance of two outlines, B turned by `rotation` (cosine, sine) and moved by `translation` in the frame of A. The radii count where
@@ -464,42 +400,7 @@ pub fn distance(
     pair: u32,
     cache: &mut Cache,
 ) -> Result<Distance, Refusal> {
-    let numbers = [rotation[0], rotation[1], translation[0], translation[1], radius_a, radius_b];
-    let (a, b) = (cache.index_a, cache.index_b);
-    let mut words = [cache.pair, cache.count as u32, a[0], a[1], a[2], b[0], b[1], b[2]];
-    let mut out = [0f32; 7];
-    // Safety: each list has the length handed over, and the two that are written are ours alone.
-    let answer = unsafe {
-        entry::foldflake_distance(
-            points_a.as_ptr(),
-            points_a.len(),
-            points_b.as_ptr(),
-            points_b.len(),
-            numbers.as_ptr(),
-            numbers.len(),
-            use_radii as u32,
-            pair,
-            words.as_mut_ptr(),
-            words.len(),
-            out.as_mut_ptr(),
-            out.len(),
-        )
-    };
-    let ending = match answer % 256 {
-        16 => Ending::Touching,
-        17 => Ending::Settled,
-        18 => Ending::RoundLimit,
-        number => return Err(Refusal(number)),
-    };
-    *cache = Cache { pair: words[0], count: words[1] as u8, index_a: [words[2], words[3], words[4]], index_b: [words[5], words[6], words[7]] };
-    Ok(Distance {
-        point_a: [out[0], out[1]],
-        point_b: [out[2], out[3]],
-        normal: [out[4], out[5]],
-        distance: out[6],
-        rounds: answer / 256,
-        ending,
-    })
+    width::distance(rotation, translation, points_a, radius_a, points_b, radius_b, use_radii, pair, cache)
 }
 
 /// Where a body stands: its points are turned by the rotation and then moved by the translation.

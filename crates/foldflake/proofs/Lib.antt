@@ -1,6 +1,5 @@
-mod Filled
 mod Line
-mod Told
 mod Placed
 mod Moment
 mod Route
+mod Wide

@@ -7,7 +7,8 @@ use lib.ListN.{length}
 use lib.Ieee.{Float}
 use Rattle.model.specs.declared.Pose.{Pose}
 use Rattle.shapes.specs.declared.Built.{Built}
-use Rattle.foldflake.specs.Entry.{poseOf, builtNumber, PlacedTold}
+use Rattle.entries.specs.Entry.{poseOf}
+use Rattle.foldflake.specs.Entry.{builtNumber, PlacedTold}
 
 module _ (told : Pose → List Float → Built) (left : Pose → List Float → List Float) (ns out : List Float) where
   pub no-pose : (length ns ≡ 4 → ⊥) → PlacedTold told left ns out out 255

@@ -12,7 +12,7 @@ use Rattle.legs.specs.declared.Stop.{Stop}
 use Rattle.legs.specs.declared.RouteAnswer.{RouteAnswer}
 use Rattle.legs.specs.declared.RouteAnswer.the-variants.{Clear, Ended, Refused, Wrong}
 use Rattle.legs.specs.Route.{route}
-use Rattle.foldflake.specs.Entry.{contactFloats}
+use Rattle.entries.specs.Entry.{contactFloats}
 
 -- a status that ends a route; separated ends none
 abbrev pub endNumber : Status → ℕ

@@ -1,25 +1,21 @@
 // The entry points for programs in C and Rust, over numbers and slices. Nothing is required of the caller.
-mod numbers;
-mod tell;
+mod built;
 mod tell_moment;
 mod tell_route;
 
+use built::built_number;
+use entries::pose_of;
 use model::Vector;
-use numbers::cache_of;
-use numbers::distance_of;
-use numbers::pose_of;
-use tell::built_number;
-use tell::tell_distance;
-use tell::tell_sweep;
 use tell_moment::tell_gap;
 use tell_moment::tell_pose;
 use tell_route::tell_route;
 ghost use mathlib.Core.Path.{_≡_};
-ghost use lib.Ieee.{binary32};
+ghost use lib.Ieee.{binary32, binary64};
 ghost use Rattle.model.specs.Nearest.{Rooted};
 ghost use Rattle.model.specs.Ground.{vector};
 ghost use Rattle.shapes.specs.Shapes.{plateTold, plateLeft, placedPlateTold, placedPlateLeft, barTold, barLeft, placedBarTold, placedBarLeft};
-ghost use Rattle.foldflake.specs.Entry.{LineTold, SweepTold, DistanceTold, builtNumber, PlacedTold};
+ghost use Rattle.entries.specs.Entry.{SweepTold, DistanceTold};
+ghost use Rattle.foldflake.specs.Entry.{LineTold, builtNumber, PlacedTold};
 ghost use Rattle.foldflake.specs.Moment.{PoseTold, GapTold};
 ghost use Rattle.foldflake.specs.Route.{RouteTold};
 
@@ -59,14 +55,9 @@ pub extern "C" fn foldflake_sweep(
     out: &mut [f32],
     counts: &mut [u32],
 ) -> u32
-    ensures { λ r. ⌜ SweepTold (now («points_a» .entry)) (now («points_b» .entry)) (now (numbers .entry)) (now (out .entry)) (now (counts .entry)) (now (out .exit)) (now (counts .exit)) r ⌝ }
+    ensures { λ r. ⌜ SweepTold binary32 (now («points_a» .entry)) (now («points_b» .entry)) (now (numbers .entry)) (now (out .entry)) (now (counts .entry)) (now (out .exit)) (now (counts .exit)) r ⌝ }
 {
-    if (numbers.len() == 24) & (out.len() == 5) & (counts.len() == 7) {
-        let swept = work::sweep_of(points_a, points_b, numbers);
-        tell_sweep(work::told(0, swept), out, counts)
-    } else {
-        255
-    }
+    entries::sweep_call(points_a, points_b, numbers, out, counts)
 }
 
 // The distance of two outlines. Numbers: the cosine, the sine and the translation of the pose of B in the frame of A, and both radii, which
@@ -84,19 +75,47 @@ pub extern "C" fn foldflake_distance(
     cache: &mut [u32],
     out: &mut [f32],
 ) -> u32
-    ensures { λ r. ⌜ DistanceTold (now («points_a» .entry)) (now («points_b» .entry)) (now (numbers .entry)) «use_radii» pair (now (cache .entry)) (now (out .entry)) (now (cache .exit)) (now (out .exit)) r ⌝ }
+    ensures { λ r. ⌜ DistanceTold binary32 (now («points_a» .entry)) (now («points_b» .entry)) (now (numbers .entry)) «use_radii» pair (now (cache .entry)) (now (out .entry)) (now (cache .exit)) (now (out .exit)) r ⌝ }
 {
-    if (numbers.len() == 6) & (cache.len() == 8) & (out.len() == 7) {
-        if cache[1] < 256 {
-            let start = cache_of(cache);
-            let measured = distance_of(points_a, points_b, numbers, use_radii > 0, pair, start);
-            tell_distance(measured, cache, out)
-        } else {
-            255
-        }
-    } else {
-        255
-    }
+    entries::distance_call(points_a, points_b, numbers, use_radii, pair, cache, out)
+}
+
+// The square root of every f64.
+#[no_mangle]
+pub extern "C" fn foldflake_root64(x: f64) -> f64
+    ensures { λ r. ⌜ Rooted binary64 x r ⌝ }
+{
+    root64::root(x)
+}
+
+// What `foldflake_sweep` is for f32, in f64.
+#[no_mangle]
+pub extern "C" fn foldflake_sweep64(
+    points_a: &[f64],
+    points_b: &[f64],
+    numbers: &[f64],
+    out: &mut [f64],
+    counts: &mut [u32],
+) -> u32
+    ensures { λ r. ⌜ SweepTold binary64 (now («points_a» .entry)) (now («points_b» .entry)) (now (numbers .entry)) (now (out .entry)) (now (counts .entry)) (now (out .exit)) (now (counts .exit)) r ⌝ }
+{
+    entries64::sweep_call(points_a, points_b, numbers, out, counts)
+}
+
+// What `foldflake_distance` is for f32, in f64.
+#[no_mangle]
+pub extern "C" fn foldflake_distance64(
+    points_a: &[f64],
+    points_b: &[f64],
+    numbers: &[f64],
+    use_radii: u32,
+    pair: u32,
+    cache: &mut [u32],
+    out: &mut [f64],
+) -> u32
+    ensures { λ r. ⌜ DistanceTold binary64 (now («points_a» .entry)) (now («points_b» .entry)) (now (numbers .entry)) «use_radii» pair (now (cache .entry)) (now (out .entry)) (now (cache .exit)) (now (out .exit)) r ⌝ }
+{
+    entries64::distance_call(points_a, points_b, numbers, use_radii, pair, cache, out)
 }
 
 // The corners of a plate, by its half sizes, at the front of out: x y each, x negated at corners 1 and 3, y at 2 and 3. The answer: 32 built; 3 for

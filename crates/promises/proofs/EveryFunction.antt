@@ -27,6 +27,16 @@ use Rattle.wire.proofs as wire
 use Rattle.block.proofs as block
 use Rattle.work.proofs as work
 use Rattle.lines.proofs as lines
+use Rattle.root64.proofs as root64
+use Rattle.ground64.proofs as ground64
+use Rattle.domain64.proofs as domain64
+use Rattle.outline64.proofs as outline64
+use Rattle.simplex64.proofs as simplex64
+use Rattle.distance64.proofs as distance64
+use Rattle.separation64.proofs as separation64
+use Rattle.sweep_toi64.proofs as sweep_toi64
+use Rattle.work64.proofs as work64
+use Rattle.lines64.proofs as lines64
 use Rattle.contacts.proofs as contacts
 use Rattle.forms.proofs as forms
 use Rattle.salvaging.proofs as salvaging
@@ -36,9 +46,12 @@ use Rattle.report_lines.proofs as report_lines
 use Rattle.monthly.proofs as monthly
 use Rattle.legs.proofs as legs
 use Rattle.route_text.proofs as route_text
+use Rattle.entries.proofs as entries
+use Rattle.entries64.proofs as entries64
 use Rattle.foldflake.proofs as foldflake
 use Rattle.toi_proxy.specs.declared.ToiProxy.{ToiProxy}
 use Rattle.lines.specs.declared.part.Written.{Written}
+use Rattle.lines64.specs.declared.part.Written.{Written as Written64}
 use Rattle.forms.specs.declared.Converted.{Converted}
 use Rattle.salvaging.specs.declared.Salvaged.{Salvaged}
 use Rattle.job_text.specs.declared.pack.Packed.{Packed}
@@ -51,6 +64,10 @@ toi-proxy-by-parts p0 p1 = λ i. record { points = p0 i; radius = p1 i }
 -- `Written`, where a contract tells its parts
 written-by-parts : {x y : Written} → x .at ≡ y .at → x .totals ≡ y .totals → x .last ≡ y .last → x ≡ y
 written-by-parts p0 p1 p2 = λ i. record { at = p0 i; totals = p1 i; last = p2 i }
+
+-- `Written64`, where a contract tells its parts
+written64-by-parts : {x y : Written64} → x .at ≡ y .at → x .totals ≡ y .totals → x .last ≡ y .last → x ≡ y
+written64-by-parts p0 p1 p2 = λ i. record { at = p0 i; totals = p1 i; last = p2 i }
 
 -- `Converted`, where a contract tells its parts
 converted-by-parts : {x y : Converted} → x .file ≡ y .file → x .text ≡ y .text → x .blocks ≡ y .blocks → x .last ≡ y .last → x ≡ y
@@ -552,6 +569,13 @@ module _ {M : Type 1} (𝓤 : URA M) (H : Heap 𝓤) (A : Atoms 𝓤) (mem : Mem
     once = λ κs a g r r' v v'. told 𝓤 (λ p q. (search same-value, each-list text.put_text.ended κs a v v' (search same-value depth 12)));
   }
 
+  pub text-put-wide-hex : OneResult 𝓤 H A text.put_wide_hex.ended (text.put_wide_hex.spec 𝓤 H A mem run)
+  text-put-wide-hex = record {
+    clauses = text.put_wide_hex.clauses 𝓤 H A mem run;
+    of-contract = refl;
+    once = λ κs a g r r' v v'. told 𝓤 (λ p q. (search same-value, each-list text.put_wide_hex.ended κs a v v' (search same-value depth 12)));
+  }
+
   pub text-read-numbers : OneResult 𝓤 H A text.read_numbers.ended (text.read_numbers.spec 𝓤 H A mem run)
   text-read-numbers = record {
     clauses = text.read_numbers.clauses 𝓤 H A mem run;
@@ -652,6 +676,415 @@ module _ {M : Type 1} (𝓤 : URA M) (H : Heap 𝓤) (A : Atoms 𝓤) (mem : Mem
     clauses = lines.write_part.clauses 𝓤 H A mem run;
     of-contract = refl;
     once = λ κs a g r r' v v'. told-in-two 𝓤 (λ p q. (search (same-value, written-by-parts), each-list lines.write_part.ended κs a v v' (search same-value depth 12)));
+  }
+
+  -- ---- root64
+  pub root64-root : OneResult 𝓤 H A root64.root.ended (root64.root.spec 𝓤 H A mem run)
+  root64-root = record {
+    clauses = root64.root.clauses 𝓤 H A mem run;
+    of-contract = refl;
+    once = λ κs a g r r' v v'. told 𝓤 (λ p q. (search same-value, refl));
+  }
+
+  -- ---- ground64
+  pub ground64-abs : OneResult 𝓤 H A ground64.abs.ended (ground64.abs.spec 𝓤 H A mem run)
+  ground64-abs = record {
+    clauses = ground64.abs.clauses 𝓤 H A mem run;
+    of-contract = refl;
+    once = λ κs a g r r' v v'. told 𝓤 (λ p q. (search same-value, refl));
+  }
+
+  pub ground64-add : OneResult 𝓤 H A ground64.add.ended (ground64.add.spec 𝓤 H A mem run)
+  ground64-add = record {
+    clauses = ground64.add.clauses 𝓤 H A mem run;
+    of-contract = refl;
+    once = λ κs a g r r' v v'. told 𝓤 (λ p q. (search same-value, refl));
+  }
+
+  pub ground64-distance : OneResult 𝓤 H A ground64.distance.ended (ground64.distance.spec 𝓤 H A mem run)
+  ground64-distance = record {
+    clauses = ground64.distance.clauses 𝓤 H A mem run;
+    of-contract = refl;
+    once = λ κs a g r r' v v'. told 𝓤 (λ p q. (search same-value, refl));
+  }
+
+  pub ground64-dot : OneResult 𝓤 H A ground64.dot.ended (ground64.dot.spec 𝓤 H A mem run)
+  ground64-dot = record {
+    clauses = ground64.dot.clauses 𝓤 H A mem run;
+    of-contract = refl;
+    once = λ κs a g r r' v v'. told 𝓤 (λ p q. (search same-value, refl));
+  }
+
+  pub ground64-from-bits : OneResult 𝓤 H A ground64.from_bits.ended (ground64.from_bits.spec 𝓤 H A mem run)
+  ground64-from-bits = record {
+    clauses = ground64.from_bits.clauses 𝓤 H A mem run;
+    of-contract = refl;
+    once = λ κs a g r r' v v'. told 𝓤 (λ p q. (search same-value, refl));
+  }
+
+  pub ground64-inv-mul : OneResult 𝓤 H A ground64.inv_mul.ended (ground64.inv_mul.spec 𝓤 H A mem run)
+  ground64-inv-mul = record {
+    clauses = ground64.inv_mul.clauses 𝓤 H A mem run;
+    of-contract = refl;
+    once = λ κs a g r r' v v'. told 𝓤 (λ p q. (search same-value, refl));
+  }
+
+  pub ground64-inv-rotate-vec : OneResult 𝓤 H A ground64.inv_rotate_vec.ended (ground64.inv_rotate_vec.spec 𝓤 H A mem run)
+  ground64-inv-rotate-vec = record {
+    clauses = ground64.inv_rotate_vec.clauses 𝓤 H A mem run;
+    of-contract = refl;
+    once = λ κs a g r r' v v'. told 𝓤 (λ p q. (search same-value, refl));
+  }
+
+  pub ground64-length : OneResult 𝓤 H A ground64.length.ended (ground64.length.spec 𝓤 H A mem run)
+  ground64-length = record {
+    clauses = ground64.length.clauses 𝓤 H A mem run;
+    of-contract = refl;
+    once = λ κs a g r r' v v'. told 𝓤 (λ p q. (search same-value, refl));
+  }
+
+  pub ground64-lerp : OneResult 𝓤 H A ground64.lerp.ended (ground64.lerp.spec 𝓤 H A mem run)
+  ground64-lerp = record {
+    clauses = ground64.lerp.clauses 𝓤 H A mem run;
+    of-contract = refl;
+    once = λ κs a g r r' v v'. told 𝓤 (λ p q. (search same-value, refl));
+  }
+
+  pub ground64-max : OneResult 𝓤 H A ground64.max.ended (ground64.max.spec 𝓤 H A mem run)
+  ground64-max = record {
+    clauses = ground64.max.clauses 𝓤 H A mem run;
+    of-contract = refl;
+    once = λ κs a g r r' v v'. told 𝓤 (λ p q. (search same-value, refl));
+  }
+
+  pub ground64-neg : OneResult 𝓤 H A ground64.neg.ended (ground64.neg.spec 𝓤 H A mem run)
+  ground64-neg = record {
+    clauses = ground64.neg.clauses 𝓤 H A mem run;
+    of-contract = refl;
+    once = λ κs a g r r' v v'. told 𝓤 (λ p q. (search same-value, refl));
+  }
+
+  pub ground64-nlerp : OneResult 𝓤 H A ground64.nlerp.ended (ground64.nlerp.spec 𝓤 H A mem run)
+  ground64-nlerp = record {
+    clauses = ground64.nlerp.clauses 𝓤 H A mem run;
+    of-contract = refl;
+    once = λ κs a g r r' v v'. told 𝓤 (λ p q. (search same-value, refl));
+  }
+
+  pub ground64-normalize-or-zero : OneResult 𝓤 H A ground64.normalize_or_zero.ended (ground64.normalize_or_zero.spec 𝓤 H A mem run)
+  ground64-normalize-or-zero = record {
+    clauses = ground64.normalize_or_zero.clauses 𝓤 H A mem run;
+    of-contract = refl;
+    once = λ κs a g r r' v v'. told 𝓤 (λ p q. (search same-value, refl));
+  }
+
+  pub ground64-perp-dot : OneResult 𝓤 H A ground64.perp_dot.ended (ground64.perp_dot.spec 𝓤 H A mem run)
+  ground64-perp-dot = record {
+    clauses = ground64.perp_dot.clauses 𝓤 H A mem run;
+    of-contract = refl;
+    once = λ κs a g r r' v v'. told 𝓤 (λ p q. (search same-value, refl));
+  }
+
+  pub ground64-rotate-vec : OneResult 𝓤 H A ground64.rotate_vec.ended (ground64.rotate_vec.spec 𝓤 H A mem run)
+  ground64-rotate-vec = record {
+    clauses = ground64.rotate_vec.clauses 𝓤 H A mem run;
+    of-contract = refl;
+    once = λ κs a g r r' v v'. told 𝓤 (λ p q. (search same-value, refl));
+  }
+
+  pub ground64-scale : OneResult 𝓤 H A ground64.scale.ended (ground64.scale.spec 𝓤 H A mem run)
+  ground64-scale = record {
+    clauses = ground64.scale.clauses 𝓤 H A mem run;
+    of-contract = refl;
+    once = λ κs a g r r' v v'. told 𝓤 (λ p q. (search same-value, refl));
+  }
+
+  pub ground64-sub : OneResult 𝓤 H A ground64.sub.ended (ground64.sub.spec 𝓤 H A mem run)
+  ground64-sub = record {
+    clauses = ground64.sub.clauses 𝓤 H A mem run;
+    of-contract = refl;
+    once = λ κs a g r r' v v'. told 𝓤 (λ p q. (search same-value, refl));
+  }
+
+  pub ground64-to-bits : OneResult 𝓤 H A ground64.to_bits.ended (ground64.to_bits.spec 𝓤 H A mem run)
+  ground64-to-bits = record {
+    clauses = ground64.to_bits.clauses 𝓤 H A mem run;
+    of-contract = refl;
+    once = λ κs a g r r' v v'. told 𝓤 (λ p q. (search same-value, refl));
+  }
+
+  pub ground64-transform-point : OneResult 𝓤 H A ground64.transform_point.ended (ground64.transform_point.spec 𝓤 H A mem run)
+  ground64-transform-point = record {
+    clauses = ground64.transform_point.clauses 𝓤 H A mem run;
+    of-contract = refl;
+    once = λ κs a g r r' v v'. told 𝓤 (λ p q. (search same-value, refl));
+  }
+
+  -- ---- domain64
+  pub domain64-bad-vector : OneResult 𝓤 H A domain64.bad_vector.ended (domain64.bad_vector.spec 𝓤 H A mem run)
+  domain64-bad-vector = record {
+    clauses = domain64.bad_vector.clauses 𝓤 H A mem run;
+    of-contract = refl;
+    once = λ κs a g r r' v v'. told 𝓤 (λ p q. (search same-value, refl));
+  }
+
+  pub domain64-check-cache : OneResult 𝓤 H A domain64.check_cache.ended (domain64.check_cache.spec 𝓤 H A mem run)
+  domain64-check-cache = record {
+    clauses = domain64.check_cache.clauses 𝓤 H A mem run;
+    of-contract = refl;
+    once = λ κs a g r r' v v'. told 𝓤 (λ p q. (search same-value, refl));
+  }
+
+  pub domain64-check-fraction : OneResult 𝓤 H A domain64.check_fraction.ended (domain64.check_fraction.spec 𝓤 H A mem run)
+  domain64-check-fraction = record {
+    clauses = domain64.check_fraction.clauses 𝓤 H A mem run;
+    of-contract = refl;
+    once = λ κs a g r r' v v'. told 𝓤 (λ p q. (search same-value, refl));
+  }
+
+  pub domain64-check-outline : OneResult 𝓤 H A domain64.check_outline.ended (domain64.check_outline.spec 𝓤 H A mem run)
+  domain64-check-outline = record {
+    clauses = domain64.check_outline.clauses 𝓤 H A mem run;
+    of-contract = refl;
+    once = λ κs a g r r' v v'. told 𝓤 (λ p q. (search same-value, refl));
+  }
+
+  pub domain64-check-pair : OneResult 𝓤 H A domain64.check_pair.ended (domain64.check_pair.spec 𝓤 H A mem run)
+  domain64-check-pair = record {
+    clauses = domain64.check_pair.clauses 𝓤 H A mem run;
+    of-contract = refl;
+    once = λ κs a g r r' v v'. told 𝓤 (λ p q. (search same-value, refl));
+  }
+
+  pub domain64-check-pose : OneResult 𝓤 H A domain64.check_pose.ended (domain64.check_pose.spec 𝓤 H A mem run)
+  domain64-check-pose = record {
+    clauses = domain64.check_pose.clauses 𝓤 H A mem run;
+    of-contract = refl;
+    once = λ κs a g r r' v v'. told 𝓤 (λ p q. (search same-value, refl));
+  }
+
+  pub domain64-check-slop : OneResult 𝓤 H A domain64.check_slop.ended (domain64.check_slop.spec 𝓤 H A mem run)
+  domain64-check-slop = record {
+    clauses = domain64.check_slop.clauses 𝓤 H A mem run;
+    of-contract = refl;
+    once = λ κs a g r r' v v'. told 𝓤 (λ p q. (search same-value, refl));
+  }
+
+  pub domain64-check-sweeps : OneResult 𝓤 H A domain64.check_sweeps.ended (domain64.check_sweeps.spec 𝓤 H A mem run)
+  domain64-check-sweeps = record {
+    clauses = domain64.check_sweeps.clauses 𝓤 H A mem run;
+    of-contract = refl;
+    once = λ κs a g r r' v v'. told 𝓤 (λ p q. (search same-value, refl));
+  }
+
+  pub domain64-pose-refusal : OneResult 𝓤 H A domain64.pose_refusal.ended (domain64.pose_refusal.spec 𝓤 H A mem run)
+  domain64-pose-refusal = record {
+    clauses = domain64.pose_refusal.clauses 𝓤 H A mem run;
+    of-contract = refl;
+    once = λ κs a g r r' v v'. told 𝓤 (λ p q. (search same-value, refl));
+  }
+
+  pub domain64-refusal : OneResult 𝓤 H A domain64.refusal.ended (domain64.refusal.spec 𝓤 H A mem run)
+  domain64-refusal = record {
+    clauses = domain64.refusal.clauses 𝓤 H A mem run;
+    of-contract = refl;
+    once = λ κs a g r r' v v'. told 𝓤 (λ p q. (search same-value, refl));
+  }
+
+  -- ---- outline64
+  pub outline64-point : OneResult 𝓤 H A outline64.point.ended (outline64.point.spec 𝓤 H A mem run)
+  outline64-point = record {
+    clauses = outline64.point.clauses 𝓤 H A mem run;
+    of-contract = refl;
+    once = λ κs a g r r' v v'. told 𝓤 (λ p q. (search same-value, refl));
+  }
+
+  pub outline64-support : OneResult 𝓤 H A outline64.support.ended (outline64.support.spec 𝓤 H A mem run)
+  outline64-support = record {
+    clauses = outline64.support.clauses 𝓤 H A mem run;
+    of-contract = refl;
+    once = λ κs a g r r' v v'. told 𝓤 (λ p q. (search same-value, refl));
+  }
+
+  pub outline64-support-index : OneResult 𝓤 H A outline64.support_index.ended (outline64.support_index.spec 𝓤 H A mem run)
+  outline64-support-index = record {
+    clauses = outline64.support_index.clauses 𝓤 H A mem run;
+    of-contract = refl;
+    once = λ κs a g r r' v v'. told 𝓤 (λ p q. (search same-value, refl));
+  }
+
+  pub outline64-support-pair : OneResult 𝓤 H A outline64.support_pair.ended (outline64.support_pair.spec 𝓤 H A mem run)
+  outline64-support-pair = record {
+    clauses = outline64.support_pair.clauses 𝓤 H A mem run;
+    of-contract = refl;
+    once = λ κs a g r r' v v'. told 𝓤 (λ p q. (search same-value, refl));
+  }
+
+  -- ---- simplex64
+  pub simplex64-solve : OneResult 𝓤 H A simplex64.solve.ended (simplex64.solve.spec 𝓤 H A mem run)
+  simplex64-solve = record {
+    clauses = simplex64.solve.clauses 𝓤 H A mem run;
+    of-contract = refl;
+    once = λ κs a g r r' v v'. told 𝓤 (λ p q. (search same-value, refl));
+  }
+
+  pub simplex64-solve-simplex2 : OneResult 𝓤 H A simplex64.solve_simplex2.ended (simplex64.solve_simplex2.spec 𝓤 H A mem run)
+  simplex64-solve-simplex2 = record {
+    clauses = simplex64.solve_simplex2.clauses 𝓤 H A mem run;
+    of-contract = refl;
+    once = λ κs a g r r' v v'. told 𝓤 (λ p q. (search same-value, refl));
+  }
+
+  pub simplex64-solve-simplex3 : OneResult 𝓤 H A simplex64.solve_simplex3.ended (simplex64.solve_simplex3.spec 𝓤 H A mem run)
+  simplex64-solve-simplex3 = record {
+    clauses = simplex64.solve_simplex3.clauses 𝓤 H A mem run;
+    of-contract = refl;
+    once = λ κs a g r r' v v'. told 𝓤 (λ p q. (search same-value, refl));
+  }
+
+  pub simplex64-witness-points : OneResult 𝓤 H A simplex64.witness_points.ended (simplex64.witness_points.spec 𝓤 H A mem run)
+  simplex64-witness-points = record {
+    clauses = simplex64.witness_points.clauses 𝓤 H A mem run;
+    of-contract = refl;
+    once = λ κs a g r r' v v'. told 𝓤 (λ p q. (search same-value, refl));
+  }
+
+  -- ---- distance64
+  pub distance64-proxy-distance-measure : OneResult 𝓤 H A distance64.proxy_distance.measure.ended (distance64.proxy_distance.measure.spec 𝓤 H A mem run)
+  distance64-proxy-distance-measure = record {
+    clauses = distance64.proxy_distance.measure.clauses 𝓤 H A mem run;
+    of-contract = refl;
+    once = λ κs a g r r' v v'. told 𝓤 (λ p q. (search same-value, refl));
+  }
+
+  pub distance64-proxy-distance-proxy-distance : OneResult 𝓤 H A distance64.proxy_distance.proxy_distance.ended (distance64.proxy_distance.proxy_distance.spec 𝓤 H A mem run)
+  distance64-proxy-distance-proxy-distance = record {
+    clauses = distance64.proxy_distance.proxy_distance.clauses 𝓤 H A mem run;
+    of-contract = refl;
+    once = λ κs a g r r' v v'. told 𝓤 (λ p q. (search same-value, refl));
+  }
+
+  -- ---- separation64
+  pub separation64-end-a : OneResult 𝓤 H A separation64.end_a.ended (separation64.end_a.spec 𝓤 H A mem run)
+  separation64-end-a = record {
+    clauses = separation64.end_a.clauses 𝓤 H A mem run;
+    of-contract = refl;
+    once = λ κs a g r r' v v'. told 𝓤 (λ p q. (search same-value, refl));
+  }
+
+  pub separation64-end-b : OneResult 𝓤 H A separation64.end_b.ended (separation64.end_b.spec 𝓤 H A mem run)
+  separation64-end-b = record {
+    clauses = separation64.end_b.clauses 𝓤 H A mem run;
+    of-contract = refl;
+    once = λ κs a g r r' v v'. told 𝓤 (λ p q. (search same-value, refl));
+  }
+
+  pub separation64-evaluate : OneResult 𝓤 H A separation64.evaluate.ended (separation64.evaluate.spec 𝓤 H A mem run)
+  separation64-evaluate = record {
+    clauses = separation64.evaluate.clauses 𝓤 H A mem run;
+    of-contract = refl;
+    once = λ κs a g r r' v v'. told 𝓤 (λ p q. (search same-value, refl));
+  }
+
+  pub separation64-find-min-separation : OneResult 𝓤 H A separation64.find_min_separation.ended (separation64.find_min_separation.spec 𝓤 H A mem run)
+  separation64-find-min-separation = record {
+    clauses = separation64.find_min_separation.clauses 𝓤 H A mem run;
+    of-contract = refl;
+    once = λ κs a g r r' v v'. told 𝓤 (λ p q. (search same-value, refl));
+  }
+
+  pub separation64-new-separation : OneResult 𝓤 H A separation64.new_separation.ended (separation64.new_separation.spec 𝓤 H A mem run)
+  separation64-new-separation = record {
+    clauses = separation64.new_separation.clauses 𝓤 H A mem run;
+    of-contract = refl;
+    once = λ κs a g r r' v v'. told 𝓤 (λ p q. (search same-value, refl));
+  }
+
+  pub separation64-shifted : OneResult 𝓤 H A separation64.shifted.ended (separation64.shifted.spec 𝓤 H A mem run)
+  separation64-shifted = record {
+    clauses = separation64.shifted.clauses 𝓤 H A mem run;
+    of-contract = refl;
+    once = λ κs a g r r' v v'. told 𝓤 (λ p q. (search same-value, refl));
+  }
+
+  pub separation64-transform-at : OneResult 𝓤 H A separation64.transform_at.ended (separation64.transform_at.spec 𝓤 H A mem run)
+  separation64-transform-at = record {
+    clauses = separation64.transform_at.clauses 𝓤 H A mem run;
+    of-contract = refl;
+    once = λ κs a g r r' v v'. told 𝓤 (λ p q. (search same-value, refl));
+  }
+
+  -- ---- sweep_toi64
+  pub sweep-toi64-advance : OneResult 𝓤 H A sweep_toi64.advance.ended (sweep_toi64.advance.spec 𝓤 H A mem run)
+  sweep-toi64-advance = record {
+    clauses = sweep_toi64.advance.clauses 𝓤 H A mem run;
+    of-contract = refl;
+    once = λ κs a g r r' v v'. told 𝓤 (λ p q. (search same-value, refl));
+  }
+
+  pub sweep-toi64-sweep-time-of-impact : OneResult 𝓤 H A sweep_toi64.sweep_time_of_impact.ended (sweep_toi64.sweep_time_of_impact.spec 𝓤 H A mem run)
+  sweep-toi64-sweep-time-of-impact = record {
+    clauses = sweep_toi64.sweep_time_of_impact.clauses 𝓤 H A mem run;
+    of-contract = refl;
+    once = λ κs a g r r' v v'. told 𝓤 (λ p q. (search same-value, refl));
+  }
+
+  -- ---- work64
+  pub work64-answer-block : OneResult 𝓤 H A work64.answer_block.ended (work64.answer_block.spec 𝓤 H A mem run)
+  work64-answer-block = record {
+    clauses = work64.answer_block.clauses 𝓤 H A mem run;
+    of-contract = refl;
+    once = λ κs a g r r' v v'. told 𝓤 (λ p q. (search same-value, refl));
+  }
+
+  pub work64-move-of : OneResult 𝓤 H A work64.move_of.ended (work64.move_of.spec 𝓤 H A mem run)
+  work64-move-of = record {
+    clauses = work64.move_of.clauses 𝓤 H A mem run;
+    of-contract = refl;
+    once = λ κs a g r r' v v'. told 𝓤 (λ p q. (search same-value, refl));
+  }
+
+  pub work64-sweep-of : OneResult 𝓤 H A work64.sweep_of.ended (work64.sweep_of.spec 𝓤 H A mem run)
+  work64-sweep-of = record {
+    clauses = work64.sweep_of.clauses 𝓤 H A mem run;
+    of-contract = refl;
+    once = λ κs a g r r' v v'. told 𝓤 (λ p q. (search same-value, refl));
+  }
+
+  pub work64-told : OneResult 𝓤 H A work64.told.ended (work64.told.spec 𝓤 H A mem run)
+  work64-told = record {
+    clauses = work64.told.clauses 𝓤 H A mem run;
+    of-contract = refl;
+    once = λ κs a g r r' v v'. told 𝓤 (λ p q. (search same-value, refl));
+  }
+
+  -- ---- lines64
+  pub lines64-letter-of : OneResult 𝓤 H A lines64.letter_of.ended (lines64.letter_of.spec 𝓤 H A mem run)
+  lines64-letter-of = record {
+    clauses = lines64.letter_of.clauses 𝓤 H A mem run;
+    of-contract = refl;
+    once = λ κs a g r r' v v'. told 𝓤 (λ p q. (search same-value, refl));
+  }
+
+  pub lines64-write-contact : OneResult 𝓤 H A lines64.write_contact.ended (lines64.write_contact.spec 𝓤 H A mem run)
+  lines64-write-contact = record {
+    clauses = lines64.write_contact.clauses 𝓤 H A mem run;
+    of-contract = refl;
+    once = λ κs a g r r' v v'. told 𝓤 (λ p q. (search same-value, each-list lines64.write_contact.ended κs a v v' (search same-value depth 12)));
+  }
+
+  pub lines64-write-line : OneResult 𝓤 H A lines64.write_line.ended (lines64.write_line.spec 𝓤 H A mem run)
+  lines64-write-line = record {
+    clauses = lines64.write_line.clauses 𝓤 H A mem run;
+    of-contract = refl;
+    once = λ κs a g r r' v v'. told 𝓤 (λ p q. (search same-value, each-list lines64.write_line.ended κs a v v' (search same-value depth 12)));
+  }
+
+  pub lines64-write-part : OneResult 𝓤 H A lines64.write_part.ended (lines64.write_part.spec 𝓤 H A mem run)
+  lines64-write-part = record {
+    clauses = lines64.write_part.clauses 𝓤 H A mem run;
+    of-contract = refl;
+    once = λ κs a g r r' v v'. told-in-two 𝓤 (λ p q. (search (same-value, written64-by-parts), each-list lines64.write_part.ended κs a v v' (search same-value depth 12)));
   }
 
   -- ---- contacts
@@ -831,6 +1264,50 @@ module _ {M : Type 1} (𝓤 : URA M) (H : Heap 𝓤) (A : Atoms 𝓤) (mem : Mem
     once = λ κs a g r r' v v'. told 𝓤 (λ p q. (search same-value, each-list route_text.write_answer.ended κs a v v' (search same-value depth 12)));
   }
 
+  -- ---- entries
+  pub entries-distance-call : OneResult 𝓤 H A entries.distance_call.ended (entries.distance_call.spec 𝓤 H A mem run)
+  entries-distance-call = record {
+    clauses = entries.distance_call.clauses 𝓤 H A mem run;
+    of-contract = refl;
+    once = λ κs a g r r' v v'. told 𝓤 (λ p q. (search same-value, each-list entries.distance_call.ended κs a v v' (search same-value depth 12)));
+  }
+
+  pub entries-pose-of : OneResult 𝓤 H A entries.pose_of.ended (entries.pose_of.spec 𝓤 H A mem run)
+  entries-pose-of = record {
+    clauses = entries.pose_of.clauses 𝓤 H A mem run;
+    of-contract = refl;
+    once = λ κs a g r r' v v'. told 𝓤 (λ p q. (search same-value, refl));
+  }
+
+  pub entries-sweep-call : OneResult 𝓤 H A entries.sweep_call.ended (entries.sweep_call.spec 𝓤 H A mem run)
+  entries-sweep-call = record {
+    clauses = entries.sweep_call.clauses 𝓤 H A mem run;
+    of-contract = refl;
+    once = λ κs a g r r' v v'. told 𝓤 (λ p q. (search same-value, each-list entries.sweep_call.ended κs a v v' (search same-value depth 12)));
+  }
+
+  -- ---- entries64
+  pub entries64-distance-call : OneResult 𝓤 H A entries64.distance_call.ended (entries64.distance_call.spec 𝓤 H A mem run)
+  entries64-distance-call = record {
+    clauses = entries64.distance_call.clauses 𝓤 H A mem run;
+    of-contract = refl;
+    once = λ κs a g r r' v v'. told 𝓤 (λ p q. (search same-value, each-list entries64.distance_call.ended κs a v v' (search same-value depth 12)));
+  }
+
+  pub entries64-pose-of : OneResult 𝓤 H A entries64.pose_of.ended (entries64.pose_of.spec 𝓤 H A mem run)
+  entries64-pose-of = record {
+    clauses = entries64.pose_of.clauses 𝓤 H A mem run;
+    of-contract = refl;
+    once = λ κs a g r r' v v'. told 𝓤 (λ p q. (search same-value, refl));
+  }
+
+  pub entries64-sweep-call : OneResult 𝓤 H A entries64.sweep_call.ended (entries64.sweep_call.spec 𝓤 H A mem run)
+  entries64-sweep-call = record {
+    clauses = entries64.sweep_call.clauses 𝓤 H A mem run;
+    of-contract = refl;
+    once = λ κs a g r r' v v'. told 𝓤 (λ p q. (search same-value, each-list entries64.sweep_call.ended κs a v v' (search same-value depth 12)));
+  }
+
   -- ---- foldflake
   pub foldflake-foldflake-bar : OneResult 𝓤 H A foldflake.foldflake_bar.ended (foldflake.foldflake_bar.spec 𝓤 H A mem run)
   foldflake-foldflake-bar = record {
@@ -844,6 +1321,13 @@ module _ {M : Type 1} (𝓤 : URA M) (H : Heap 𝓤) (A : Atoms 𝓤) (mem : Mem
     clauses = foldflake.foldflake_distance.clauses 𝓤 H A mem run;
     of-contract = refl;
     once = λ κs a g r r' v v'. told 𝓤 (λ p q. (search same-value, each-list foldflake.foldflake_distance.ended κs a v v' (search same-value depth 12)));
+  }
+
+  pub foldflake-foldflake-distance64 : OneResult 𝓤 H A foldflake.foldflake_distance64.ended (foldflake.foldflake_distance64.spec 𝓤 H A mem run)
+  foldflake-foldflake-distance64 = record {
+    clauses = foldflake.foldflake_distance64.clauses 𝓤 H A mem run;
+    of-contract = refl;
+    once = λ κs a g r r' v v'. told 𝓤 (λ p q. (search same-value, each-list foldflake.foldflake_distance64.ended κs a v v' (search same-value depth 12)));
   }
 
   pub foldflake-foldflake-gap : OneResult 𝓤 H A foldflake.foldflake_gap.ended (foldflake.foldflake_gap.spec 𝓤 H A mem run)
@@ -895,6 +1379,13 @@ module _ {M : Type 1} (𝓤 : URA M) (H : Heap 𝓤) (A : Atoms 𝓤) (mem : Mem
     once = λ κs a g r r' v v'. told 𝓤 (λ p q. (search same-value, refl));
   }
 
+  pub foldflake-foldflake-root64 : OneResult 𝓤 H A foldflake.foldflake_root64.ended (foldflake.foldflake_root64.spec 𝓤 H A mem run)
+  foldflake-foldflake-root64 = record {
+    clauses = foldflake.foldflake_root64.clauses 𝓤 H A mem run;
+    of-contract = refl;
+    once = λ κs a g r r' v v'. told 𝓤 (λ p q. (search same-value, refl));
+  }
+
   pub foldflake-foldflake-route : OneResult 𝓤 H A foldflake.foldflake_route.ended (foldflake.foldflake_route.spec 𝓤 H A mem run)
   foldflake-foldflake-route = record {
     clauses = foldflake.foldflake_route.clauses 𝓤 H A mem run;
@@ -907,4 +1398,11 @@ module _ {M : Type 1} (𝓤 : URA M) (H : Heap 𝓤) (A : Atoms 𝓤) (mem : Mem
     clauses = foldflake.foldflake_sweep.clauses 𝓤 H A mem run;
     of-contract = refl;
     once = λ κs a g r r' v v'. told 𝓤 (λ p q. (search same-value, each-list foldflake.foldflake_sweep.ended κs a v v' (search same-value depth 12)));
+  }
+
+  pub foldflake-foldflake-sweep64 : OneResult 𝓤 H A foldflake.foldflake_sweep64.ended (foldflake.foldflake_sweep64.spec 𝓤 H A mem run)
+  foldflake-foldflake-sweep64 = record {
+    clauses = foldflake.foldflake_sweep64.clauses 𝓤 H A mem run;
+    of-contract = refl;
+    once = λ κs a g r r' v v'. told 𝓤 (λ p q. (search same-value, each-list foldflake.foldflake_sweep64.ended κs a v v' (search same-value depth 12)));
   }

@@ -27,3 +27,7 @@ number n end = decimal n ++ (end ∷ [])
 -- a word by its eight digits
 abbrev pub hex : ℕ → ℕ → List ℕ
 hex n end = hexBy 8 n ++ (end ∷ [])
+
+-- a long word by its sixteen
+abbrev pub wideHex : ℕ → ℕ → List ℕ
+wideHex n end = hexBy 16 n ++ (end ∷ [])

@@ -6,4 +6,5 @@ mod read;
 pub use put::put_hex;
 pub use put::put_number;
 pub use put::put_text;
+pub use put::put_wide_hex;
 pub use read::read_numbers;

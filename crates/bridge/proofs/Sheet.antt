@@ -1,0 +1,109 @@
+-- What a block of the f64 crates comes to, its line, the lines and the totals of a file are model's. Assumes nothing.
+use Prim.Native.Nat.{ℕ, zero, suc, _+_, _/_, _%_}
+use mathlib.Core.Bool.{Bool, true, false, cond}
+use mathlib.Core.List.{List, [], _∷_, _++_, map}
+use mathlib.Core.Path.{_≡_, refl, ap, sym, _∙_}
+use lib.Dec.{eqb}
+use lib.ListN.{length, take, drop}
+use lib.Ieee.{Float, Format}
+use Rattle.model.specs.declared.Status.{Status}
+use Rattle.model.specs.declared.Status.the-variants as Status
+use Rattle.model.specs.declared.Totals.{Totals}
+use Rattle.model.specs.declared.Corners.{Corners}
+use Rattle.model.specs.declared.CheckedBlock.{CheckedBlock}
+use Rattle.model.specs.declared.CheckedBlock.the-variants as Checked
+use Rattle.model.specs.declared.SweepAnswer.{SweepAnswer}
+use Rattle.model.specs.declared.SweepAnswer.the-variants.{Overlapped, Hit, Separated, Failed, Refused}
+use Rattle.model.specs.declared.BlockAnswer.{BlockAnswer}
+use Rattle.model.specs.declared.BlockAnswer.the-variants as Block
+use Rattle.model.specs.declared.Verdict.{Verdict}
+use Rattle.model.specs.Support.{point}
+use Rattle.model.specs.Block.{checkedBlock}
+use Rattle.model.specs.Work.{moveAt, sweepFor, blockAnswer}
+use Rattle.model.specs.Work as W
+use Rattle.model.specs.Sheet.{wholeAnswers, restAnswer, answers, workedLine, linesFrom, counted, totalsFrom, sheet}
+use Rattle.model.specs.Sheet as Sheet
+use Rattle.model64.specs.Work.{moveAt as moveAt64, sweepFor as sweepFor64, blockAnswer as answerOf64}
+use Rattle.model64.specs.Work as W64
+use Rattle.model64.specs.Sheet.{wholeAnswers as wholeAnswers64, answers as answers64, workedLine as workedLine64, linesFrom as linesFrom64, totalsFrom as totalsFrom64}
+use Rattle.model64.specs.Sheet as Sheet64
+use Rattle.model64.specs.declared.BlockAnswer.the-variants as Block64
+use Rattle.bridge.specs.Wide.{sweep64, swept64, sweepAnswer64, verdict64, blockAnswer64}
+use Rattle.bridge.proofs.Corners.{swept-same}
+
+-- ---- a block
+move-same : (ns : List Float) (i : ℕ) → moveAt64 ns i ≡ sweep64 (moveAt ns i)
+unfolding moveAt64 moveAt
+move-same ns i = refl
+
+pub sweep-for-same : (f : Format) (a b ns : List Float) → sweepFor64 f a b ns ≡ swept64 (sweepFor f a b ns)
+unfolding sweepFor64 sweepFor
+sweep-for-same f a b ns =
+    rw (move-same ns 2, move-same ns 7)
+    (swept-same f a (point ns 0 .x) (moveAt ns 2) b (point ns 0 .y) (moveAt ns 7) (point ns 1 .x) (point ns 1 .y))
+
+pub told-same : (f : Format) (job : ℕ) (k : Corners) (x : SweepAnswer) → W64.toldBy f job k (sweepAnswer64 x) ≡ blockAnswer64 (W.toldBy f job k x)
+told-same f job k (Overlapped n) = refl
+told-same f job k (Hit c n) = refl
+told-same f job k (Separated c n) = refl
+told-same f job k (Failed c n) = refl
+told-same f job k (Refused number) = refl
+
+by-check : (f : Format) (b : List ℕ) (x : CheckedBlock) → W64.answerBy f b x ≡ blockAnswer64 (W.answerBy f b x)
+by-check f b (Checked.Good k) =
+    rw (sweep-for-same f (W.pointsA b k) (W.pointsB b k) (W.numbersOf b))
+    (told-same f (k .job) (W.sweepOf f b k .corners) (W.sweepOf f b k .answer))
+by-check f b (Checked.Refused job number) = refl
+
+pub block-answer-same : (f : Format) (b : List ℕ) → answerOf64 f b ≡ blockAnswer64 (blockAnswer f b)
+unfolding answerOf64 blockAnswer
+block-answer-same f b = by-check f b (checkedBlock b)
+
+-- ---- a file
+map-append : {A B : Type 0} (g : A → B) (l r : List A) → map g (l ++ r) ≡ map g l ++ map g r
+map-append g [] r = refl
+map-append g (x ∷ l) r = ap (λ (t : List _). g x ∷ t) (map-append g l r)
+
+whole-same : (f : Format) (k : ℕ) (b : List ℕ) → wholeAnswers64 f k b ≡ map blockAnswer64 (wholeAnswers f k b)
+unfolding wholeAnswers64 wholeAnswers
+whole-same f zero b = refl
+whole-same f (suc k) b = rw (block-answer-same f (take 512 b), whole-same f k (drop 512 b))
+
+rest-same : (empty : Bool) → cond empty [] (Block64.Refused 0 9 ∷ []) ≡ map blockAnswer64 (cond empty [] (Block.Refused 0 9 ∷ []))
+rest-same true = refl
+rest-same false = refl
+
+pub answers-same : (f : Format) (b : List ℕ) → answers64 f b ≡ map blockAnswer64 (answers f b)
+unfolding answers64 answers
+answers-same f b =
+    rw (
+      whole-same f (length b / 512) b,
+      rest-same (eqb (length b % 512) 0),
+      ← map-append blockAnswer64 (wholeAnswers f (length b / 512) b) (restAnswer (length b % 512)),
+    )
+
+-- ---- its lines and totals
+pub line-same : (f : Format) (n : ℕ) (x : BlockAnswer) → Sheet64.answerLine f n (blockAnswer64 x) ≡ Sheet.answerLine f n x
+unfolding workedLine64 workedLine
+line-same f n (Block.Worked job v) = refl
+line-same f n (Block.Refused job number) = refl
+
+lines-of-same : (f : Format) (n : ℕ) (xs : List BlockAnswer) → linesFrom64 f n (map blockAnswer64 xs) ≡ linesFrom f n xs
+unfolding linesFrom64 linesFrom
+lines-of-same f n [] = refl
+lines-of-same f n (x ∷ xs) = rw (line-same f (n + 1) x, lines-of-same f (n + 1) xs)
+
+pub lines-same : (f : Format) (n : ℕ) (b : List ℕ) → linesFrom64 f n (answers64 f b) ≡ linesFrom f n (answers f b)
+lines-same f n b = rw (answers-same f b) (lines-of-same f n (answers f b))
+
+counted-same : (t : Totals) (x : BlockAnswer) → Sheet64.counted t (blockAnswer64 x) ≡ counted t x
+counted-same t (Block.Worked job v) = refl
+counted-same t (Block.Refused job number) = refl
+
+totals-of-same : (t : Totals) (xs : List BlockAnswer) → totalsFrom64 t (map blockAnswer64 xs) ≡ totalsFrom t xs
+unfolding totalsFrom64 totalsFrom
+totals-of-same t [] = refl
+totals-of-same t (x ∷ xs) = ap (λ (s : Totals). totalsFrom64 s (map blockAnswer64 xs)) (counted-same t x) ∙ totals-of-same (counted t x) xs
+
+pub totals-same : (f : Format) (t : Totals) (b : List ℕ) → totalsFrom64 t (answers64 f b) ≡ totalsFrom t (answers f b)
+totals-same f t b = rw (answers-same f b) (totals-of-same t (answers f b))

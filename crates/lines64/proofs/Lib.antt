@@ -1,0 +1,3 @@
+pub mod Pieces
+mod Parts
+pub mod Run

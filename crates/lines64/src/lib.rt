@@ -1,0 +1,12 @@
+// Written by tests/wide.py from lines, in f64.
+// The lines of the sheet, written into lent bytes.
+mod answer;
+mod part;
+mod put;
+mod write;
+
+pub use answer::letter_of;
+pub use part::Written;
+pub use part::write_line;
+pub use part::write_part;
+pub use put::write_contact;

@@ -1,0 +1,102 @@
+-- `replay64::main` is safe and ends: the turns that are left fall. Nothing has to hold from turn to turn. Assumes nothing.
+use Prim.Native.Nat.{_-_}
+use borrow.Author.Needs.{needs}
+use Rattle.replay64.proofs.main.Statement.{statement}
+use Rattle.replay64.proofs.main.Tie as tie
+
+abbrev Inv-loop : tie.InvT-loop
+Inv-loop pool₀ numbers₀ counts₀ turn₀ pool numbers counts turn = Unit {0}
+
+abbrev μ-loop : tie.MeasureT-loop
+μ-loop pool₀ numbers₀ counts₀ turn₀ pool numbers counts turn = 18446744073709551615 - turn
+
+large-buffer-requires : tie.Need-large-buffer-requires Inv-loop μ-loop
+large-buffer-requires c κs = search needs
+
+slice-aggregate-numbers : tie.Need-slice-aggregate-numbers Inv-loop μ-loop
+slice-aggregate-numbers c = search needs
+
+numbers-requires : tie.Need-numbers-requires Inv-loop μ-loop
+numbers-requires c κs = search needs
+
+nothing-requires : tie.Need-nothing-requires Inv-loop μ-loop
+nothing-requires c κs = search needs
+
+loop-holds : tie.Need-loop-holds Inv-loop μ-loop
+loop-holds c = search needs
+
+large-buffer-requires-2 : tie.Need-large-buffer-requires-2 Inv-loop μ-loop
+large-buffer-requires-2 c κs = search needs
+
+slice-aggregate-read-full : tie.Need-slice-aggregate-read-full Inv-loop μ-loop
+slice-aggregate-read-full c = search needs
+
+read-full-requires : tie.Need-read-full-requires Inv-loop μ-loop
+read-full-requires c κs = search needs
+
+print-requires : tie.Need-print-requires Inv-loop μ-loop
+print-requires c κs = search needs
+
+returns : tie.Need-returns Inv-loop μ-loop
+returns c = search needs
+
+slice-aggregate-word : tie.Need-slice-aggregate-word Inv-loop μ-loop
+slice-aggregate-word c = search needs
+
+word-requires : tie.Need-word-requires Inv-loop μ-loop
+word-requires c κs = search needs
+
+slice-aggregate-numbers-2 : tie.Need-slice-aggregate-numbers-2 Inv-loop μ-loop
+slice-aggregate-numbers-2 c = search needs
+
+numbers-requires-2 : tie.Need-numbers-requires-2 Inv-loop μ-loop
+numbers-requires-2 c κs = search needs
+
+array-share-prefix-part : tie.Need-array-share-prefix-part Inv-loop μ-loop
+array-share-prefix-part c = search needs
+
+slice-aggregate-replay : tie.Need-slice-aggregate-replay Inv-loop μ-loop
+slice-aggregate-replay c = search needs
+
+replay-requires : tie.Need-replay-requires Inv-loop μ-loop
+replay-requires c κs = search needs
+
+add-turn : tie.Need-add-turn Inv-loop μ-loop
+add-turn c = search needs
+
+loop-less : tie.Need-loop-less Inv-loop μ-loop
+loop-less c = search needs
+
+loop-again : tie.Need-loop-again Inv-loop μ-loop
+loop-again c = search needs
+
+returns-2 : tie.Need-returns-2 Inv-loop μ-loop
+returns-2 c = search needs
+
+pub main-spec : {M : Type 1} → statement M
+main-spec =
+    tie.close
+    (tie.spec
+    Inv-loop
+    μ-loop
+    large-buffer-requires
+    slice-aggregate-numbers
+    numbers-requires
+    nothing-requires
+    loop-holds
+    large-buffer-requires-2
+    slice-aggregate-read-full
+    read-full-requires
+    print-requires
+    returns
+    slice-aggregate-word
+    word-requires
+    slice-aggregate-numbers-2
+    numbers-requires-2
+    array-share-prefix-part
+    slice-aggregate-replay
+    replay-requires
+    add-turn
+    loop-less
+    loop-again
+    returns-2)

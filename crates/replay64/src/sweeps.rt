@@ -1,0 +1,58 @@
+// Table 3: sweeps. A row has 15 words: bytes 0 to 3 and 8 to 10 are outline A, outline B, move A, move B, radii, max fraction and slop; the answer from word 2
+// on is the kind (the number of refusal, or 16 O, 17 H, 18 S, 19 F), fraction, point, normal, the three counts, and the first and second corner of A
+// and of B.
+use crate::pool::index;
+use crate::pool::outline;
+use crate::pool::request;
+use crate::words::Words;
+use crate::words::put;
+use crate::words::put_float;
+use crate::words::put_vector;
+use model::Status;
+use model64::BlockAnswer;
+use model64::Verdict;
+
+fn status_number(s: Status) -> u32 {
+    match s {
+        Status::Overlapped => 16,
+        Status::Hit => 17,
+        Status::Separated => 18,
+        Status::Failed => 19,
+    }
+}
+
+// The kind of a row that has this answer.
+pub fn kind(answer: BlockAnswer) -> u32 {
+    match answer {
+        BlockAnswer::Worked(_, v) => {
+            let status = v.status;
+            status_number(status)
+        }
+        BlockAnswer::Refused(_, number) => number,
+    }
+}
+
+fn put_verdict(words: &mut Words, v: Verdict) {
+    put_float(words, 1, v.contact.fraction);
+    put_vector(words, 2, v.contact.point);
+    put_vector(words, 4, v.contact.normal);
+    put(words, 6, v.counts.distance_calls);
+    put(words, 7, v.counts.searches);
+    put(words, 8, v.counts.root_steps);
+    put(words, 9, v.corners.a.first);
+    put(words, 10, v.corners.a.second);
+    put(words, 11, v.corners.b.first);
+    put(words, 12, v.corners.b.second);
+}
+
+pub fn answer(row: &[u8], pool: &[u8], numbers: &[f64], words: &mut Words) {
+    let a = outline(numbers, pool, index(row, 0));
+    let b = outline(numbers, pool, index(row, 1));
+    let request = request(row, numbers);
+    let answer = work64::told(0, work64::sweep_of(a, b, &request));
+    put(words, 0, kind(answer));
+    match answer {
+        BlockAnswer::Worked(_, v) => put_verdict(words, v),
+        BlockAnswer::Refused(_, _) => {}
+    }
+}

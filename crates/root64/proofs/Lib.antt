@@ -1,0 +1,3 @@
+mod Halves
+mod Pairs
+mod Single

@@ -1,0 +1,4 @@
+mod Call
+mod Laws
+mod Rounds
+mod Steps
