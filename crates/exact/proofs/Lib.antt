@@ -8,7 +8,7 @@ mod Solved
 mod Furthest
 mod Paper
 mod Along
-mod Weights
+pub mod Weights
 mod Nearest
 pub mod Shorter
 pub mod Places
