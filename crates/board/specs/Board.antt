@@ -7,7 +7,7 @@ use lib.ListN.{length}
 use Rattle.integers.specs.Signed.{Int, ofNat, _⊟_, _⊠_, _≼_}
 use Rattle.integers.specs.Whole.{Within}
 use Rattle.exact.specs.Plane.{Point, difference, scaled, dot}
-use Rattle.whole_way.specs.Mover.{Mover}
+use Rattle.whole_way.specs.Mover.{Mover, share, AwayBetween}
 use Rattle.pairs.specs.declared.Vector.{Vector}
 use Rattle.pairs.specs.Pairs.{pointOf, Sized}
 use Rattle.corners.specs.Corners.{cornerOf, Corners}
@@ -55,3 +55,8 @@ module _ (unit finer : ℕ) where
     pub centre2 : CloseTo (2 * unit) (ofNat finer) (difference (b .centre2) (a .centre2)) (ofNat unit) (pointOf (job .d2))
     pub up : finer * keep ≤ job .up * unit
     pub down : job .down * unit ≤ finer * keep
+
+-- ---- what a check says of a job on the grid: whatever it stands for is away from k0 / 2^24 of the way to k1 / 2^24 of it
+abbrev pub ClearBetween : (job : GridJob) (k0 k1 : ℕ) (axs ays bxs bys : List ℕ) → Type 0
+ClearBetween job k0 k1 axs ays bxs bys = (unit finer : ℕ) (a b : Mover) (keep : ℕ) → StandsFor unit finer job axs ays bxs bys a b keep
+    → AwayBetween 1073741824 keep a b (share 16777216 k0) (share 16777216 k1)

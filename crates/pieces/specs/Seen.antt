@@ -77,7 +77,7 @@ pub record Seen (a : Arc) (l0 l1 R E : ℕ) : Type 0 where
   pub small : E ≤ 805306372
   pub kind : Turning a l0 l1 R E ⊎ Still l0 l1 R E
 
--- ---- the whole check: every corner of b stays beyond every corner of a by the distance to keep, the margins, and 27 for all other roundings
+-- ---- the whole check: every corner of b stays beyond every corner of a by the distance to keep, the margins, and 28 for all other roundings
 pub record PieceSeen (job : GridJob) (k0 k1 : ℕ) (p : Proposal) (axs ays bxs bys : List ℕ) : Type 0 where
   pub order : k0 < k1
   pub ends : k1 ≤ 16777216
@@ -96,4 +96,4 @@ pub record PieceSeen (job : GridJob) (k0 k1 : ℕ) (p : Proposal) (axs ays bxs b
   pub end : Vector
   pub at-start : MidVector k0 (job .d1) (job .d2) start
   pub at-end : MidVector k1 (job .d1) (job .d2) end
-  pub far : AllAway (p .n0) (p .n1) arcA arcB start end (268435456 * (job .up + ea + eb + 27)) axs ays bxs bys
+  pub far : AllAway (p .n0) (p .n1) arcA arcB start end (268435456 * (job .up + ea + eb + 28)) axs ays bxs bys
