@@ -1,7 +1,6 @@
 // The numbers of a job on a grid of whole numbers. No float operation: patterns are read.
 use board::GridBody;
 use board::GridJob;
-use grid::Chosen;
 use grid::Parts;
 use grid::grid;
 use grid::grid_down;
@@ -20,6 +19,12 @@ ghost use Rattle.model.specs.Support.{point};
 ghost use Rattle.grid.specs.Grid.{unit};
 ghost use Rattle.pairs.specs.Pairs.{Sized};
 ghost use Rattle.grid_job.specs.Placing.{Near, NearPair, UpTo, Suits, Less, Offset, Span, Turned, Headed, Asked, AllCornered, PlacedBody, Between, Limits, Joined, keepOf, OnBoard, FractionUp, FractionDown};
+
+// An exponent, where there is one.
+struct Chosen {
+    found: bool,
+    g: u32,
+}
 
 // A job on the grid, where it was found.
 pub struct Placed {
