@@ -1,6 +1,8 @@
 // Whole numbers as floats and back, and vectors of floats.
 use pairs::Pair;
 use pairs::Vector;
+ghost use mathlib.Core.Path.{_≡_};
+ghost use lib.ListN.{length};
 
 // A vector of the plane.
 pub struct Place {
@@ -119,7 +121,9 @@ fn part(list: &[u64], i: usize) -> f64 {
 }
 
 // The parts of up to 64 corners.
-pub fn floats(list: &[u64]) -> [f64; 64] {
+pub fn floats(list: &[u64]) -> [f64; 64]
+    ensures { λ r. ⌜ length r ≡ 64 ⌝ }
+{
     let mut out = [0.0f64; 64];
     let mut i: usize = 0;
     while i < 64 {

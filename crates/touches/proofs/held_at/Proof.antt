@@ -46,12 +46,14 @@ returns-4 c =
     let point = c .before .before .weighted in
     let margin = c .before .before .before .before .before .margin-of in
     let arc = c .before .before .before .before .before .before .arc-at in
-    let seen = margin .ensures (c .before .before .before .before .if3 .left) in
-    (record { place = placed .ensures .small; blur = blurred .ensures .few }, λ h. record {
-      turn = arc .result .p0;
-      point = point .result;
-      held = held-by (c .before .before .before .before .before .before .before .before .before .before .before .args .o) (c .before .before .before .before .before .before .before .before .before .before .before .args .xs .now) (c .before .before .before .before .before .before .before .before .before .before .before .args .ys .now) (c .before .before .before .before .before .before .before .before .before .before .before .args .k) (c .before .before .before .before .before .before .before .before .before .before .before .args .l) (c .before .before .before .before .before .before .before .before .before .before .before .args .i0) (c .before .before .before .before .before .before .before .before .before .before .before .args .i1) (c .before .before .before .before .before .before .before .before .before .before .before .args .i2) (c .before .before .before .before .before .before .before .before .before .before .before .args .w0) (c .before .before .before .before .before .before .before .before .before .before .before .args .w1) (c .before .before .before .before .before .before .before .before .before .before .before .args .w2) (blurred .result) (margin .result) (arc .result) (point .result) (placed .result) (c .before .before .before .before .before .before .before .before .if1 .left) (arc .ensures) seen (blurred .ensures) (point .ensures) (placed .ensures);
-    })
+    let seen = margin .ensures (c .before .before .before .before .if3 .left) in (
+      record { place = placed .ensures .small; blur = blurred .ensures .few },
+      λ h. record {
+        turn = arc .result .p0;
+        point = point .result;
+        held = held-by (c .before .before .before .before .before .before .before .before .before .before .before .args .o) (c .before .before .before .before .before .before .before .before .before .before .before .args .xs .now) (c .before .before .before .before .before .before .before .before .before .before .before .args .ys .now) (c .before .before .before .before .before .before .before .before .before .before .before .args .k) (c .before .before .before .before .before .before .before .before .before .before .before .args .l) (c .before .before .before .before .before .before .before .before .before .before .before .args .i0) (c .before .before .before .before .before .before .before .before .before .before .before .args .i1) (c .before .before .before .before .before .before .before .before .before .before .before .args .i2) (c .before .before .before .before .before .before .before .before .before .before .before .args .w0) (c .before .before .before .before .before .before .before .before .before .before .before .args .w1) (c .before .before .before .before .before .before .before .before .before .before .before .args .w2) (blurred .result) (margin .result) (arc .result) (point .result) (placed .result) (c .before .before .before .before .before .before .before .before .if1 .left) (arc .ensures) seen (blurred .ensures) (point .ensures) (placed .ensures);
+      },
+    )
 
 pub held-at-spec : {M : Type 1} → statement M
 held-at-spec =
