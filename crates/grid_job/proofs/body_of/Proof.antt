@@ -32,8 +32,9 @@ point-requires-3 c κs = search needs
 
 corners-requires : tie.Need-corners-requires
 corners-requires c κs =
-    let f = c .before .before .before .before .before .before .before .before .before .before .before .args in
-    subst (λ (v : Vector). Asked (f .points .now) v (f .g) (f .xs .now) (f .ys .now)) (sym (c .before .before .point3 .ensures)) (c .before .before .before .before .before .before .before .before .before .before .before .pre .1)
+    let b1 = c .before .before .before .before .before .before in
+    let f = b1 .before .before .before .before .before .args in
+    subst (λ (v : Vector). Asked (f .points .now) v (f .g) (f .xs .now) (f .ys .now)) (sym (c .before .before .point3 .ensures)) (b1 .before .before .before .before .before .pre .1)
 
 same-length : tie.Need-same-length
 same-length c = search needs
@@ -43,12 +44,14 @@ same-length-2 c = search needs
 
 returns : tie.Need-returns
 returns c =
-    let f = c .before .before .before .before .before .before .before .before .before .before .before .before .before .before .before .before .args in
+    let b1 = c .before .before .before .before .before .before in
+    let b2 = b1 .before .before .before .before .before .before in
+    let f = b2 .before .before .before .before .args in
     let k = c .before .before .before .before .corners in
     record {
-      corners = recentred (f .points .now) (c .before .before .before .before .before .before .before .point3 .result) (point (f .numbers .now) (f .i)) (f .g) _ _ (k .result) (c .before .before .before .before .before .before .before .point3 .ensures) (k .ensures);
-      first = subst (λ (v : Vector). Headed v (c .before .before .before .before .before .before .before .before .before .before .headed .result)) (c .before .before .before .before .before .before .before .before .before .before .before .point .ensures) (c .before .before .before .before .before .before .before .before .before .before .headed .ensures);
-      last = subst (λ (v : Vector). Headed v (c .before .before .before .before .before .before .before .before .headed2 .result)) (c .before .before .before .before .before .before .before .before .before .point2 .ensures) (c .before .before .before .before .before .before .before .before .headed2 .ensures);
+      corners = recentred (f .points .now) (b1 .before .point3 .result) (point (f .numbers .now) (f .i)) (f .g) _ _ (k .result) (b1 .before .point3 .ensures) (k .ensures);
+      first = subst (λ (v : Vector). Headed v (b1 .before .before .before .before .headed .result)) (b1 .before .before .before .before .before .point .ensures) (b1 .before .before .before .before .headed .ensures);
+      last = subst (λ (v : Vector). Headed v (b1 .before .before .headed2 .result)) (b1 .before .before .before .point2 .ensures) (b1 .before .before .headed2 .ensures);
     }
 
 pub body-of-spec : {M : Type 1} → statement M

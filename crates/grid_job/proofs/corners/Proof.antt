@@ -73,8 +73,9 @@ loop-less c = omega (arith, length-set (c .before .before .before .before .befor
 
 loop-again : tie.Need-loop-again Inv-loop μ-loop
 loop-again c =
-    let a = c .before .before .before .before .before .before .before .before .before .before .before .args in
-    let l = c .before .before .before .before .before .before .before .loop in
+    let b1 = c .before .before .before .before .before .before in
+    let a = b1 .before .before .before .before .before .args in
+    let l = b1 .before .loop in
     let x = c .before .before .before .before .offset in
     let y = c .before .before .offset2 in
     let r = c .before .span in

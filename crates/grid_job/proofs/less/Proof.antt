@@ -29,12 +29,13 @@ norm-requires c κs = search needs
 
 returns : tie.Need-returns
 returns c =
-    let a = c .before .before .before .before .before .before .before .grid in
+    let b1 = c .before .before .before .before .before .before in
+    let a = b1 .before .grid in
     let b = c .before .before .before .before .before .grid2 in
-    let f = c .before .before .before .before .before .before .before .before .before .args in
+    let f = b1 .before .before .before .args in
     less-law (f .x) (f .c) (f .g) (intOf (a .result)) (intOf (b .result)) (c .norm .result)
-    (put (f .x) (c .before .before .before .before .before .before .before .before .to-bits .result) (f .g) (intOf (a .result)) (c .before .before .before .before .before .before .before .before .to-bits .ensures) (c .before .before .before .before .before .before .before .before .before .pre .0) (a .ensures))
-    (put (f .c) (c .before .before .before .before .before .before .to-bits2 .result) (f .g) (intOf (b .result)) (c .before .before .before .before .before .before .to-bits2 .ensures) (c .before .before .before .before .before .before .before .before .before .pre .1) (b .ensures)) (c .norm .ensures)
+    (put (f .x) (b1 .before .before .to-bits .result) (f .g) (intOf (a .result)) (b1 .before .before .to-bits .ensures) (b1 .before .before .before .pre .0) (a .ensures))
+    (put (f .c) (b1 .to-bits2 .result) (f .g) (intOf (b .result)) (b1 .to-bits2 .ensures) (b1 .before .before .before .pre .1) (b .ensures)) (c .norm .ensures)
 
 pub less-spec : {M : Type 1} → statement M
 less-spec =
