@@ -40,6 +40,9 @@ down-by x r h l = h .most (low-bits (toBits binary32 x) l) (not-negative x l)
 pub up-by : (x : Float) (r : ℕ) → FractionUp x r → toBits binary32 x ≤ 1065353216 → worthOf x ⊠ ofNat 16777216 ≼ ofNat r ⊠ ofNat unit
 up-by x r h l = h .least (low-bits (toBits binary32 x) l)
 
+pub up-past : (x : Float) (r : ℕ) → FractionUp x r → toBits binary32 x ≤ 1065353216 → worthOf x ⊠ ofNat 16777216 ≼ ofNat (r + 1) ⊠ ofNat unit
+up-past x r h l = omega (arith, up-by x r h l, ⊠-mono (ofNat unit) (ofNat r) (ofNat (r + 1)) (omega arith) (omega arith), ⊠-comm (ofNat r) (ofNat unit), ⊠-comm (ofNat (r + 1)) (ofNat unit))
+
 -- ---- the promise
 module _ (pointsA pointsB numbers : List Float) (from : Float) (job : GridJob) (axs ays bxs bys : List ℕ) (part : Part)
     (on : OnBoard pointsA pointsB numbers job axs ays bxs bys) (asked : Asked from (point numbers 1 .x) part) where

@@ -2,7 +2,7 @@
 use mathlib.Core.Path.{_≡_}
 use mathlib.Core.List.{List}
 use Prim.Native.Nat.{ℕ, _+_, _≤_, _<_}
-use lib.Ieee.{Float}
+use lib.Ieee.{Float, binary32, toBits}
 use Rattle.integers.specs.Signed.{ofNat, _⊠_, _≼_}
 use Rattle.grid.specs.Grid.{unit}
 use Rattle.planned.specs.Planned.{worthOf, Clear, Touch, Open}
@@ -12,6 +12,10 @@ use Rattle.clearance_verdict.specs.Verdict.{Span, Settled}
 use Rattle.clearance_verdict.specs.declared.Answer.{Answer}
 use Rattle.clearance_verdict.specs.declared.Answer.the-variants as answer
 use Rattle.clearance_job.specs.declared.Part.{Part}
+
+-- r 2^24-ths are not less than a fraction up to 1
+abbrev pub NotBefore : Float → ℕ → Type 0
+NotBefore x r = toBits binary32 x ≤ 1065353216 → worthOf x ⊠ ofNat 16777216 ≼ ofNat r ⊠ ofNat unit
 
 pub record Asked (from end : Float) (r : Part) : Type 0 where
   pub span : Span (r .from) (r .low) (r .high)

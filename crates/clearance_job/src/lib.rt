@@ -10,7 +10,7 @@ ghost use mathlib.Core.Bool.{true};
 ghost use mathlib.Core.Path.{_≡_};
 ghost use Prim.Native.Nat.{_+_, _≤_, _<_};
 ghost use Rattle.board.specs.Board.{Fits};
-ghost use Rattle.clearance_job.specs.Promise.{Asked, Spoken, Promised};
+ghost use Rattle.clearance_job.specs.Promise.{NotBefore, Asked, Spoken, Promised};
 
 // Whether there is anything to look at, from where and to where, in 2^24-ths: the end rounded down and up.
 pub struct Part {
@@ -37,6 +37,17 @@ fn nothing() -> Part
     }
 }
 
+// A place after the first one, and not before the end.
+fn end_after(first: u64, end: f32) -> u64
+    ensures { λ r. ⌜ NotBefore end r ⌝ }
+{
+    let up = fraction_up(end);
+    if first < up {
+        return up;
+    }
+    up + 1
+}
+
 // The fractions from 0 to 1 have patterns up to that of 1.
 fn part_of(from: f32, end: f32) -> Part
     ensures { λ r. ⌜ (r .some ≡ true → Asked from end r) ⌝ }
@@ -49,7 +60,7 @@ fn part_of(from: f32, end: f32) -> Part
     }
     let first = fraction_down(from);
     let low = fraction_down(end);
-    let high = fraction_up(end);
+    let high = end_after(first, end);
     if high > 16777216 {
         return nothing();
     }

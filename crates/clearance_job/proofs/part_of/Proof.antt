@@ -1,7 +1,7 @@
 -- Each test leaves what is asked. Assumes nothing.
 use Prim.Native.Nat.{_≤_}
 use lib.Ieee.{binary32, toBits}
-use Rattle.clearance_job.proofs.Laws.{not-less, down-by, up-by}
+use Rattle.clearance_job.proofs.Laws.{not-less, down-by}
 use borrow.Author.Needs.{needs}
 use Rattle.clearance_job.proofs.part_of.Statement.{statement}
 use Rattle.clearance_job.proofs.part_of.Tie as tie
@@ -30,8 +30,8 @@ fraction-down-requires c κs = search needs
 fraction-down-requires-2 : tie.Need-fraction-down-requires-2
 fraction-down-requires-2 c κs = search needs
 
-fraction-up-requires : tie.Need-fraction-up-requires
-fraction-up-requires c κs = search needs
+end-after-requires : tie.Need-end-after-requires
+end-after-requires c κs = search needs
 
 nothing-requires-3 : tie.Need-nothing-requires-3
 nothing-requires-3 c κs = search needs
@@ -68,7 +68,7 @@ returns-7 c = λ h.
       span = record { some = c .before .before .if4 .left; whole = c .before .before .before .if3 .left; over = c .before .if5 .left; under = c .if6 .left };
       starts = down-by (c .before .before .before .before .before .before .before .before .before .before .before .args .from) (c .before .before .before .before .before .before .fraction-down .result) (c .before .before .before .before .before .before .fraction-down .ensures) first;
       within = down-by (c .before .before .before .before .before .before .before .before .before .before .before .args .end) (c .before .before .before .before .before .fraction-down2 .result) (c .before .before .before .before .before .fraction-down2 .ensures) last;
-      ends = up-by (c .before .before .before .before .before .before .before .before .before .before .before .args .end) (c .before .before .before .before .fraction-up .result) (c .before .before .before .before .fraction-up .ensures) last;
+      ends = c .before .before .before .before .end-after .ensures last;
     }
 
 pub part-of-spec : {M : Type 1} → statement M
@@ -83,7 +83,7 @@ part-of-spec =
     returns-2
     fraction-down-requires
     fraction-down-requires-2
-    fraction-up-requires
+    end-after-requires
     nothing-requires-3
     returns-3
     nothing-requires-4
