@@ -41,7 +41,8 @@ pub up-by : (x : Float) (r : ℕ) → FractionUp x r → toBits binary32 x ≤ 1
 up-by x r h l = h .least (low-bits (toBits binary32 x) l)
 
 pub up-past : (x : Float) (r : ℕ) → FractionUp x r → toBits binary32 x ≤ 1065353216 → worthOf x ⊠ ofNat 16777216 ≼ ofNat (r + 1) ⊠ ofNat unit
-up-past x r h l = omega (arith, up-by x r h l, ⊠-mono (ofNat unit) (ofNat r) (ofNat (r + 1)) (omega arith) (omega arith), ⊠-comm (ofNat r) (ofNat unit), ⊠-comm (ofNat (r + 1)) (ofNat unit))
+up-past x r h l = omega (arith, up-by x r h l, ⊠-mono (ofNat unit) (ofNat r) (ofNat (r + 1)) (omega arith) (omega arith), ⊠-comm (ofNat r) (ofNat
+    unit), ⊠-comm (ofNat (r + 1)) (ofNat unit))
 
 -- ---- the promise
 module _ (pointsA pointsB numbers : List Float) (from : Float) (job : GridJob) (axs ays bxs bys : List ℕ) (part : Part)
@@ -68,7 +69,8 @@ module _ (pointsA pointsB numbers : List Float) (from : Float) (job : GridJob) (
     ⊠-comm (ofNat (part .from)) (ofNat unit),
   )
 
-  up-to : (u : ℕ) → ClearUpTo job axs ays bxs bys (part .from) u → fractionOf from <ᶠ share 16777216 u → Away pointsA pointsB numbers (fractionOf from) (share 16777216 u)
+  up-to : (u : ℕ) → ClearUpTo job axs ays bxs bys (part .from) u → fractionOf from <ᶠ share 16777216 u → Away pointsA pointsB numbers (fractionOf from)
+      (share 16777216 u)
   up-to u clear l = go (le-or-lt u (part .from))
     where
       go : (u ≤ part .from) ⊎ (part .from < u) → Away pointsA pointsB numbers (fractionOf from) (share 16777216 u)
@@ -83,6 +85,7 @@ module _ (pointsA pointsB numbers : List Float) (from : Float) (job : GridJob) (
     order = h .touch .order;
     before = within t (h .touch .before);
     clear = up-to u (h .clear);
-    touching = h .touch .touching unit (2 ^ on .g) (bodyA pointsA pointsB numbers) (bodyB pointsA pointsB numbers) (keep pointsA pointsB numbers) (on .stands);
+    touching = h .touch .touching unit (2 ^ on .g) (bodyA pointsA pointsB numbers) (bodyB pointsA pointsB numbers) (keep pointsA pointsB numbers)
+        (on .stands);
   }
   promised (answer.Open u n) h = record { before = within u (h .before); clear = up-to u (h .clear) }

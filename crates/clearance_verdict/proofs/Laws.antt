@@ -21,8 +21,10 @@ module _ (job : GridJob) (axs ays bxs bys : List ℕ) where
     pub few : n ≤ 4096
     pub clear : ClearUpTo job axs ays bxs bys from u
 
-  pub joined : (from u v : ℕ) → from ≤ u → ClearUpTo job axs ays bxs bys from u → ClearBetween job u v axs ays bxs bys → ClearBetween job from v axs ays bxs bys
-  joined from u v h before piece unit finer a b keep stands = one-more 1073741824 keep a b 16777216 from u v h (λ l. before l unit finer a b keep stands) (piece unit finer a b keep stands)
+  pub joined : (from u v : ℕ) → from ≤ u → ClearUpTo job axs ays bxs bys from u → ClearBetween job u v axs ays bxs bys → ClearBetween job from v axs ays
+      bxs bys
+  joined from u v h before piece unit finer a b keep stands = one-more 1073741824 keep a b 16777216 from u v h (λ l. before l unit finer a b keep stands)
+      (piece unit finer a b keep stands)
 
   pub at-start : (from low high : ℕ) → Span from low high → Progress from high from (high - from) 0
   at-start from low high span = record {
@@ -35,6 +37,7 @@ module _ (job : GridJob) (axs ays bxs bys : List ℕ) where
   }
 
   -- where nothing more is tried
-  pub told-settled : (from low high u n : ℕ) (look : Look) → from ≤ u → u ≤ low → n ≤ 4096 → ClearUpTo job axs ays bxs bys from u → Found job u low axs ays bxs bys look → Settled job from low high axs ays bxs bys (toldBy look u n)
+  pub told-settled : (from low high u n : ℕ) (look : Look) → from ≤ u → u ≤ low → n ≤ 4096 → ClearUpTo job axs ays bxs bys from u → Found job u low axs ays
+      bxs bys look → Settled job from low high axs ays bxs bys (toldBy look u n)
   told-settled from low high u n (At t) after before few clear found = record { after = after; clear = clear; touch = found; few = few }
   told-settled from low high u n Nowhere after before few clear found = record { after = after; before = before; clear = clear; few = few }

@@ -51,11 +51,13 @@ scaled-within : (n R : Int) (v : Point) → dot v v ≼ R ⊠ R → dot (scaled 
 scaled-within n R v h = omega (
   arith,
   ⊠-mono (n ⊠ n) (dot v v) (R ⊠ R) (⊠-square n) h,
-  ring (var 0 :* var 1 :* (var 0 :* var 1) :+ var 0 :* var 2 :* (var 0 :* var 2)) (var 0 :* var 0 :* (var 1 :* var 1 :+ var 2 :* var 2)) (n ∷ v .x ∷ v .y ∷ []) tt,
+  ring (var 0 :* var 1 :* (var 0 :* var 1) :+ var 0 :* var 2 :* (var 0 :* var 2)) (var 0 :* var 0 :* (var 1 :* var 1 :+ var 2 :* var 2)) (n ∷ v .x ∷ v .y ∷
+      []) tt,
   ring (var 0 :* var 1 :* (var 0 :* var 1)) (var 0 :* var 0 :* (var 1 :* var 1)) (n ∷ R ∷ []) tt,
 )
 
-corner-inside : (unit R : ℕ) (X v : Point) → Within (2 * unit) (X .x ⊟ ofNat unit ⊠ v .x) → Within (2 * unit) (X .y ⊟ ofNat unit ⊠ v .y) → dot v v ≼ ofNat R ⊠ ofNat R
+corner-inside : (unit R : ℕ) (X v : Point) → Within (2 * unit) (X .x ⊟ ofNat unit ⊠ v .x) → Within (2 * unit) (X .y ⊟ ofNat unit ⊠ v .y) → dot v v ≼ ofNat
+    R ⊠ ofNat R
     → dot X X ≼ ofNat (unit * (R + 3)) ⊠ ofNat (unit * (R + 3))
 corner-inside unit R X v hx hy h =
     let n = ofNat unit in
@@ -64,7 +66,8 @@ corner-inside unit R X v hx hy h =
     let M = ofNat (2 * unit) in
     let nR = n ⊠ ofNat R in
     let t = ofNat (3 * unit) in
-    let d-short : dot d d ≼ t ⊠ t = omega (arith, nine unit, square-within (d .x) M (omega (arith, hx .upper)) (omega (arith, hx .lower)), square-within (d .y) M (omega (arith, hy .upper)) (omega (arith, hy .lower))) in
+    let d-short : dot d d ≼ t ⊠ t = omega (arith, nine unit, square-within (d .x) M (omega (arith, hx .upper)) (omega (arith, hx .lower)), square-within
+        (d .y) M (omega (arith, hy .upper)) (omega (arith, hy .lower))) in
     let both = longer big d nR t (⊠-nonneg n (ofNat R) (omega arith) (omega arith)) (omega arith) (scaled-within n (ofNat R) v h) d-short in
     let all : nR ⊞ t ≃ ofNat (unit * (R + 3)) = omega (arith, nat-product unit R) in
     omega (
@@ -87,7 +90,8 @@ near-small k s e a z h l =
 
 -- made `finer` times as large, with other centres
 abbrev pub sized : ℕ → Point → Point → Mover → Mover
-sized finer c d o = record { count = o .count; corner = λ i. scaled (ofNat finer) (o .corner i); centre1 = c; centre2 = d; heading1 = o .heading1; heading2 = o .heading2 }
+sized finer c d o = record { count = o .count; corner = λ i. scaled (ofNat finer) (o .corner i); centre1 = c; centre2 = d; heading1 = o .heading1;
+    heading2 = o .heading2 }
 
 abbrev pub wholeAt : ℕ → ℕ
 wholeAt k = momentAt k .u + momentAt k .w
@@ -110,15 +114,18 @@ module _ (k unit finer : ℕ) (early : k ≤ 16777216) (some-unit : 0 < unit) wh
   some-scale = omega (arith, mul-le-mul-left unit whole-least)
 
   -- a heading or a centre at the moment
-  pub mid-within : (a b r : Pair) → Cut 16777216 (ofNat (16777216 - k) ⊠ intOf a ⊞ ofNat k ⊠ intOf b) r → Within (wholeAt k) (ofNat (16777216 - k) ⊠ intOf a ⊞ ofNat k ⊠ intOf b ⊟ ofNat (wholeAt k) ⊠ intOf r)
-  mid-within a b r h = subst (λ (n : ℕ). Within n (ofNat (16777216 - k) ⊠ intOf a ⊞ ofNat k ⊠ intOf b ⊟ ofNat n ⊠ intOf r)) (whole-is k early) (cut-within 16777216 (ofNat (16777216 - k) ⊠ intOf a ⊞ ofNat k ⊠ intOf b) r h)
+  pub mid-within : (a b r : Pair) → Cut 16777216 (ofNat (16777216 - k) ⊠ intOf a ⊞ ofNat k ⊠ intOf b) r → Within (wholeAt k) (ofNat (16777216 - k) ⊠ intOf
+      a ⊞ ofNat k ⊠ intOf b ⊟ ofNat (wholeAt k) ⊠ intOf r)
+  mid-within a b r h = subst (λ (n : ℕ). Within n (ofNat (16777216 - k) ⊠ intOf a ⊞ ofNat k ⊠ intOf b ⊟ ofNat n ⊠ intOf r)) (whole-is k early) (cut-within
+      16777216 (ofNat (16777216 - k) ⊠ intOf a ⊞ ofNat k ⊠ intOf b) r h)
 
   module _ (g : GridBody) (xs ys : List ℕ) (o : Mover) (stands : StandsForBody unit finer g xs ys o) (c1 c2 : Point) where
     abbrev body : Mover
     body = sized finer c1 c2 o
 
     -- ---- the turn
-    module _ (l r : ℕ) (some-l : 0 < l) (blur : l + 33554432 ≤ 33554432 * r) (L P : Vector) (mid : MidVector k (g .q1) (g .q2) L) (stretched : Stretched l L 0 L P) (small : Sized 1207959552 P) where
+    module _ (l r : ℕ) (some-l : 0 < l) (blur : l + 33554432 ≤ 33554432 * r) (L P : Vector) (mid : MidVector k (g .q1) (g .q2) L) (stretched : Stretched l
+        L 0 L P) (small : Sized 1207959552 P) where
       none : (x : Int) → ofNat 0 ⊠ x ≃ 0Int
       none x = ring (lit 0Int :* var 0) (lit 0Int) (x ∷ []) tt
 
@@ -129,9 +136,11 @@ module _ (k unit finer : ℕ) (early : k ≤ 16777216) (some-unit : 0 < unit) wh
 
       turn-near : Near (U * r) (lengthened (momentAt k) (1073741824 * l) body) (scaled (ofNat U) (pointOf P))
       turn-near = record {
-        x = turn-part 1073741824 (16777216 - k) k l unit (wholeAt k) r (o .heading1 .x) (o .heading2 .x) (intOf (g .q1 .x)) (intOf (g .q2 .x)) (intOf (L .x)) (intOf (P .x)) (omega arith) (stands .heading1 .x) (stands .heading2 .x)
+        x = turn-part 1073741824 (16777216 - k) k l unit (wholeAt k) r (o .heading1 .x) (o .heading2 .x) (intOf (g .q1 .x)) (intOf (g .q2 .x)) (intOf
+            (L .x)) (intOf (P .x)) (omega arith) (stands .heading1 .x) (stands .heading2 .x)
             (mid-within (g .q1 .x) (g .q2 .x) (L .x) (mid .x .cut)) (stretch-within (L .x) (P .x) (stretched .x)) blur;
-        y = turn-part 1073741824 (16777216 - k) k l unit (wholeAt k) r (o .heading1 .y) (o .heading2 .y) (intOf (g .q1 .y)) (intOf (g .q2 .y)) (intOf (L .y)) (intOf (P .y)) (omega arith) (stands .heading1 .y) (stands .heading2 .y)
+        y = turn-part 1073741824 (16777216 - k) k l unit (wholeAt k) r (o .heading1 .y) (o .heading2 .y) (intOf (g .q1 .y)) (intOf (g .q2 .y)) (intOf
+            (L .y)) (intOf (P .y)) (omega arith) (stands .heading1 .y) (stands .heading2 .y)
             (mid-within (g .q1 .y) (g .q2 .y) (L .y) (mid .y .cut)) (stretch-within (L .y) (P .y) (stretched .y)) blur;
       }
 
@@ -143,26 +152,32 @@ module _ (k unit finer : ℕ) (early : k ≤ 16777216) (some-unit : 0 < unit) wh
 
       turn-small : Small (U * (1207959552 + r)) (lengthened (momentAt k) (1073741824 * l) body)
       turn-small = record {
-        x = widen (lengthened (momentAt k) (1073741824 * l) body .x) (near-small U 1207959552 (U * r) (P .x) (lengthened (momentAt k) (1073741824 * l) body .x) (small .x) (turn-near .x));
-        y = widen (lengthened (momentAt k) (1073741824 * l) body .y) (near-small U 1207959552 (U * r) (P .y) (lengthened (momentAt k) (1073741824 * l) body .y) (small .y) (turn-near .y));
+        x = widen (lengthened (momentAt k) (1073741824 * l) body .x) (near-small U 1207959552 (U * r) (P .x) (lengthened (momentAt k) (1073741824 * l)
+            body .x) (small .x) (turn-near .x));
+        y = widen (lengthened (momentAt k) (1073741824 * l) body .y) (near-small U 1207959552 (U * r) (P .y) (lengthened (momentAt k) (1073741824 * l)
+            body .y) (small .y) (turn-near .y));
       }
 
       seen-small : Small (U * (1207959552 + r)) (scaled (ofNat U) (pointOf P))
       seen-small =
           let px = within-product U 1207959552 (ofNat U) (intOf (P .x)) (itself U) (size-within 1207959552 (P .x) (small .x)) in
           let py = within-product U 1207959552 (ofNat U) (intOf (P .y)) (itself U) (size-within 1207959552 (P .y) (small .y)) in
-          record { x = record { upper = omega (arith, px .upper); lower = omega (arith, px .lower) }; y = record { upper = omega (arith, py .upper); lower = omega (arith, py .lower) } }
+          record { x = record { upper = omega (arith, px .upper); lower = omega (arith, px .lower) }; y = record { upper = omega (arith, py .upper);
+              lower = omega (arith, py .lower) } }
 
       module _ (z E : ℕ) (tame : z ≤ 134217728) (reach : 5 * ((g .reach + 3) * (z + 1)) ≤ 8589934592 * E)
           (long : ofNat 1152921504606846976 ⊞ ofNat (Window.spread U z r) ≼ dot (pointOf P) (pointOf P) ⊞ ofNat (1073741824 * z))
           (short : dot (pointOf P) (pointOf P) ⊞ ofNat (Window.spread U z r) ≼ ofNat 1152921504606846976 ⊞ ofNat (1073741824 * z))
           (inside : Inside (g .reach) xs ys (length xs)) (p : PointOf (frame body)) where
-        within : (i : ℕ) → i < o .count → dot (scaled (ofNat finer) (o .corner i)) (scaled (ofNat finer) (o .corner i)) ≼ ofNat (unit * (g .reach + 3)) ⊠ ofNat (unit * (g .reach + 3))
+        within : (i : ℕ) → i < o .count → dot (scaled (ofNat finer) (o .corner i)) (scaled (ofNat finer) (o .corner i)) ≼ ofNat (unit * (g .reach + 3)) ⊠
+            ofNat (unit * (g .reach + 3))
         within i h =
             let h' : i < length xs = omega (arith, stands .count) in
-            corner-inside unit (g .reach) (scaled (ofNat finer) (o .corner i)) (cornerOf xs ys i) (stands .corner i h' .x) (stands .corner i h' .y) (inside i h')
+            corner-inside unit (g .reach) (scaled (ofNat finer) (o .corner i)) (cornerOf xs ys i) (stands .corner i h' .x) (stands .corner i h' .y) (inside
+                i h')
 
-        abbrev seen : Seen (momentAt k) (Window.F U z r) (Window.slack U z r) (1073741824 * l) body p (U * unit * (1073741824 * E)) (scaled (ofNat U) (pointOf P))
+        abbrev seen : Seen (momentAt k) (Window.F U z r) (Window.slack U z r) (1073741824 * l) body p (U * unit * (1073741824 * E)) (scaled (ofNat U)
+            (pointOf P))
         seen = record {
           y = Window.y U z r;
           R = unit * (g .reach + 3);
@@ -209,11 +224,14 @@ module _ (k unit finer : ℕ) (early : k ≤ 16777216) (some-unit : 0 < unit) wh
             let Y : ℕ → Int = λ i. ofNat finer ⊠ o .corner i .y in
             let mx = moved-to-corners X (three i0 i1 i2) (o .count) 3 (three w0 w1 w2) named .1 in
             let my = moved-to-corners Y (three i0 i1 i2) (o .count) 3 (three w0 w1 w2) named .1 in
-            let px = point-part w0 w1 w2 unit heldTotal (X i0) (X i1) (X i2) (cornerOf xs ys i0 .x) (cornerOf xs ys i1 .x) (cornerOf xs ys i2 .x) (intOf (a .x)) (omega (arith, all, total-is)) (stands .corner i0 h0 .x) (stands .corner i1 h1 .x) (stands .corner i2 h2 .x)
+            let px = point-part w0 w1 w2 unit heldTotal (X i0) (X i1) (X i2) (cornerOf xs ys i0 .x) (cornerOf xs ys i1 .x) (cornerOf xs ys i2 .x) (intOf
+                (a .x)) (omega (arith, all, total-is)) (stands .corner i0 h0 .x) (stands .corner i1 h1 .x) (stands .corner i2 h2 .x)
             (retold (ofNat w0 ⊠ cornerOf xs ys i0 .x ⊞ ofNat w1 ⊠ cornerOf xs ys i1 .x ⊞ ofNat w2 ⊠ cornerOf xs ys i2 .x) (a .x) cut-x) in
-            let py = point-part w0 w1 w2 unit heldTotal (Y i0) (Y i1) (Y i2) (cornerOf xs ys i0 .y) (cornerOf xs ys i1 .y) (cornerOf xs ys i2 .y) (intOf (a .y)) (omega (arith, all, total-is)) (stands .corner i0 h0 .y) (stands .corner i1 h1 .y) (stands .corner i2 h2 .y)
+            let py = point-part w0 w1 w2 unit heldTotal (Y i0) (Y i1) (Y i2) (cornerOf xs ys i0 .y) (cornerOf xs ys i1 .y) (cornerOf xs ys i2 .y) (intOf
+                (a .y)) (omega (arith, all, total-is)) (stands .corner i0 h0 .y) (stands .corner i1 h1 .y) (stands .corner i2 h2 .y)
             (retold (ofNat w0 ⊠ cornerOf xs ys i0 .y ⊞ ofNat w1 ⊠ cornerOf xs ys i1 .y ⊞ ofNat w2 ⊠ cornerOf xs ys i2 .y) (a .y) cut-y) in
-            record { x = record { upper = omega (arith, mx, px .upper); lower = omega (arith, mx, px .lower) }; y = record { upper = omega (arith, my, py .upper); lower = omega (arith, my, py .lower) } }
+            record { x = record { upper = omega (arith, mx, px .upper); lower = omega (arith, mx, px .lower) }; y = record { upper = omega (arith, my,
+                py .upper); lower = omega (arith, my, py .lower) } }
 
         pub point-small : Small (unit * heldTotal * 536870912 + 3 * (unit * heldTotal)) (dividend (frame body) heldPoint)
         point-small = record {
@@ -225,14 +243,18 @@ module _ (k unit finer : ℕ) (early : k ≤ 16777216) (some-unit : 0 < unit) wh
 pub record HeldBody (k unit : ℕ) (body : Mover) (l r E : ℕ) (P a : Vector) : Type 0 where
   pub z : ℕ
   pub p : PointOf (frame body)
-  pub seen : Seen (momentAt k) (scaleOf k unit * 1073741824) (scaleOf k unit * scaleOf k unit * 1073741824) (1073741824 * l) body p (scaleOf k unit * unit * (1073741824 * E)) (scaled (ofNat (scaleOf k unit)) (pointOf P))
+  pub seen : Seen (momentAt k) (scaleOf k unit * 1073741824) (scaleOf k unit * scaleOf k unit * 1073741824) (1073741824 * l) body p (scaleOf k unit * unit
+      * (1073741824 * E)) (scaled (ofNat (scaleOf k unit)) (pointOf P))
   pub e-is : seen .e ≡ scaleOf k unit * r
   pub K-is : seen .K ≡ scaleOf k unit * (1207959552 + r)
-  pub near : Near (3 * (unit * total (body .count) (p .weight))) (dividend (frame body) p) (scaled (ofNat (unit * total (body .count) (p .weight))) (pointOf a))
+  pub near : Near (3 * (unit * total (body .count) (p .weight))) (dividend (frame body) p) (scaled (ofNat (unit * total (body .count) (p .weight)))
+      (pointOf a))
   pub small : Small (unit * total (body .count) (p .weight) * 536870912 + 3 * (unit * total (body .count) (p .weight))) (dividend (frame body) p)
 
-module _ (k unit finer : ℕ) (early : k ≤ 16777216) (some-unit : 0 < unit) (g : GridBody) (xs ys : List ℕ) (o : Mover) (stands : StandsForBody unit finer g xs ys o) (c1 c2 : Point) where
-  pub held-body : (l i0 i1 i2 w0 w1 w2 r E : ℕ) (P a x : Vector) → w0 + w1 + w2 ≡ 268435456 → i0 < length xs → i1 < length xs → i2 < length xs → Inside (g .reach) xs ys (length xs)
+module _ (k unit finer : ℕ) (early : k ≤ 16777216) (some-unit : 0 < unit) (g : GridBody) (xs ys : List ℕ) (o : Mover) (stands : StandsForBody unit finer g
+    xs ys o) (c1 c2 : Point) where
+  pub held-body : (l i0 i1 i2 w0 w1 w2 r E : ℕ) (P a x : Vector) → w0 + w1 + w2 ≡ 268435456 → i0 < length xs → i1 < length xs → i2 < length xs → Inside
+      (g .reach) xs ys (length xs)
       → G.Held g xs ys k l i0 i1 i2 w0 w1 w2 r E P a x → HeldBody k unit (sized finer c1 c2 o) l r E P a
   held-body l i0 i1 i2 w0 w1 w2 r E P a x all h0 h1 h2 inside h =
       let p = heldPoint k unit finer early some-unit g xs ys o stands c1 c2 i0 i1 i2 w0 w1 w2 all h0 h1 h2 in
@@ -240,7 +262,8 @@ module _ (k unit finer : ℕ) (early : k ≤ 16777216) (some-unit : 0 < unit) (g
       record {
         z = h .z;
         p = p;
-        seen = seen k unit finer early some-unit g xs ys o stands c1 c2 l r (h .some) (h .blur .enough) (h .heading) P (h .mid) (h .stretched) (h .small) (h .z) E (h .steady .tame) (h .reach) (h .steady .long) (h .steady .short) inside p;
+        seen = seen k unit finer early some-unit g xs ys o stands c1 c2 l r (h .some) (h .blur .enough) (h .heading) P (h .mid) (h .stretched) (h .small)
+            (h .z) E (h .steady .tame) (h .reach) (h .steady .long) (h .steady .short) inside p;
         e-is = refl;
         K-is = refl;
         near = point-near k unit finer early some-unit g xs ys o stands c1 c2 i0 i1 i2 w0 w1 w2 all h0 h1 h2 a small (h .point .x .cut) (h .point .y .cut);

@@ -27,7 +27,8 @@ unfolding _⊠_
 square-is = omega arith
 
 four-times : (P : Point) → let N = dot P P in dot (doubled P) (doubled P) ≃ N ⊞ N ⊞ (N ⊞ N)
-four-times P = let N = var 0 :* var 0 :+ var 1 :* var 1 in ring ((var 0 :+ var 0) :* (var 0 :+ var 0) :+ (var 1 :+ var 1) :* (var 1 :+ var 1)) (N :+ N :+ (N :+ N)) (P .x ∷ P .y ∷ []) tt
+four-times P = let N = var 0 :* var 0 :+ var 1 :* var 1 in ring ((var 0 :+ var 0) :* (var 0 :+ var 0) :+ (var 1 :+ var 1) :* (var 1 :+ var 1)) (N :+ N :+
+    (N :+ N)) (P .x ∷ P .y ∷ []) tt
 
 spread-fits : (l r s : ℕ) → 0 < l → Blur l r → l + 33554432 ≤ 33554432 * s → 4 * (r * (1207959552 + r)) ≤ 1073741824 * (10 * s)
 spread-fits l r s some h k = omega (arith, h .most, h .few, mul-le-mul-left r (h .few))
@@ -46,7 +47,8 @@ reach-by : (R z E : ℕ) → Reach R z E → 5 * (R * (z + 1)) ≤ 8589934592 * 
 unfolding _⊠_
 reach-by R z E h = omega (arith, h .enough)
 
-pub held-by : (o : GridBody) (xs ys : List ℕ) (k l i0 i1 i2 w0 w1 w2 r E : ℕ) (arc : Arc) (point place : Vector) → 0 < l → ArcAt o l l k k arc → Seen arc l l (o .reach) E → Blur l r
+pub held-by : (o : GridBody) (xs ys : List ℕ) (k l i0 i1 i2 w0 w1 w2 r E : ℕ) (arc : Arc) (point place : Vector) → 0 < l → ArcAt o l l k k arc → Seen arc l
+    l (o .reach) E → Blur l r
     → Weighted xs ys i0 i1 i2 w0 w1 w2 point → TurnedDown (arc .p0) point place → Held o xs ys k l i0 i1 i2 w0 w1 w2 r E (arc .p0) point place
 held-by o xs ys k l i0 i1 i2 w0 w1 w2 r E arc point place some at seen blur weighted placed = go (seen .kind)
   where
@@ -70,7 +72,8 @@ held-by o xs ys k l i0 i1 i2 w0 w1 w2 r E arc point place some at seen blur weig
         clash e = omega arith
 
 pub gripped-by : (job : GridJob) (k : ℕ) (g : Grip) (axs ays bxs bys : List ℕ) (a b : Hold) → k ≤ 16777216 → Names g (length axs) (length bxs)
-    → HeldAt (job .a) axs ays k (g .la) (g .i0) (g .i1) (g .i2) (g .w0) (g .w1) (g .w2) a → HeldAt (job .b) bxs bys k (g .lb) (g .j0) (g .j1) (g .j2) (g .w0) (g .w1) (g .w2) b
+    → HeldAt (job .a) axs ays k (g .la) (g .i0) (g .i1) (g .i2) (g .w0) (g .w1) (g .w2) a → HeldAt (job .b) bxs bys k (g .lb) (g .j0) (g .j1) (g .j2)
+        (g .w0) (g .w1) (g .w2) b
     → Decided job k a b → Gripped job k g axs ays bxs bys
 gripped-by job k g axs ays bxs bys a b early names ha hb d = record {
   early = early;

@@ -48,9 +48,11 @@ module _ (U z r : ℕ) where
 
   module _ (P : Point) where
     dot-is : dot (scaled (ofNat U) P) (scaled (ofNat U) P) ≃ UU ⊠ dot P P
-    dot-is = ring (var 0 :* var 1 :* (var 0 :* var 1) :+ var 0 :* var 2 :* (var 0 :* var 2)) (var 0 :* var 0 :* (var 1 :* var 1 :+ var 2 :* var 2)) (ofNat U ∷ P .x ∷ P .y ∷ []) tt
+    dot-is = ring (var 0 :* var 1 :* (var 0 :* var 1) :+ var 0 :* var 2 :* (var 0 :* var 2)) (var 0 :* var 0 :* (var 1 :* var 1 :+ var 2 :* var 2)) (ofNat
+        U ∷ P .x ∷ P .y ∷ []) tt
 
-    pub long : ofNat 1152921504606846976 ⊞ ofNat spread ≼ dot P P ⊞ ofNat (1073741824 * z) → ofNat F ⊠ ofNat F ⊟ ofNat y ⊞ ofNat (4 * (e * K)) ≼ dot (scaled (ofNat U) P) (scaled (ofNat U) P)
+    pub long : ofNat 1152921504606846976 ⊞ ofNat spread ≼ dot P P ⊞ ofNat (1073741824 * z) → ofNat F ⊠ ofNat F ⊟ ofNat y ⊞ ofNat (4 * (e * K)) ≼ dot
+        (scaled (ofNat U) P) (scaled (ofNat U) P)
     long h = omega (
       arith,
       F-is,
@@ -62,7 +64,8 @@ module _ (U z r : ℕ) where
       ring (var 0 :* (var 1 :+ var 2)) (var 0 :* var 1 :+ var 0 :* var 2) (UU ∷ dot P P ∷ ofNat (1073741824 * z) ∷ []) tt,
     )
 
-    pub short : dot P P ⊞ ofNat spread ≼ ofNat 1152921504606846976 ⊞ ofNat (1073741824 * z) → dot (scaled (ofNat U) P) (scaled (ofNat U) P) ⊞ ofNat (4 * (e * K)) ≼ ofNat F ⊠ ofNat F ⊞ ofNat y
+    pub short : dot P P ⊞ ofNat spread ≼ ofNat 1152921504606846976 ⊞ ofNat (1073741824 * z) → dot (scaled (ofNat U) P) (scaled (ofNat U) P) ⊞ ofNat (4 * (e
+        * K)) ≼ ofNat F ⊠ ofNat F ⊞ ofNat y
     short h = omega (
       arith,
       F-is,
@@ -92,7 +95,8 @@ module _ (U z r : ℕ) where
 
     -- the window moves nothing that lies within unit R by more than unit E
     module _ (unit R E : ℕ) (reach : 5 * (R * (z + 1)) ≤ 8589934592 * E) where
-      linear : ofNat 8 ⊠ (ofNat (unit * R) ⊠ (ofNat F ⊠ (ofNat (U * z) ⊞ ofNat U))) ≼ ofNat 15 ⊠ ((ofNat F ⊟ ofNat (U * z)) ⊠ ofNat (U * unit * (1073741824 * E)))
+      linear : ofNat 8 ⊠ (ofNat (unit * R) ⊠ (ofNat F ⊠ (ofNat (U * z) ⊞ ofNat U))) ≼ ofNat 15 ⊠ ((ofNat F ⊟ ofNat (U * z)) ⊠ ofNat (U * unit * (1073741824
+          * E)))
       unfolding _⊠_
       linear =
           let c = U * U * unit * 1073741824 in
@@ -112,4 +116,5 @@ module _ (U z r : ℕ) where
 
       pub window : ofNat 64 ⊠ (ofNat (unit * R) ⊠ ofNat (unit * R) ⊠ ((ofNat y ⊞ ofNat slack) ⊠ (ofNat y ⊞ ofNat slack)))
           ≼ ofNat 225 ⊠ ((ofNat F ⊠ ofNat F ⊟ ofNat y) ⊠ (ofNat (U * unit * (1073741824 * E)) ⊠ ofNat (U * unit * (1073741824 * E))))
-      window = window-linear (ofNat F) (ofNat y) (ofNat slack) (ofNat (unit * R)) (ofNat (U * unit * (1073741824 * E))) (ofNat (U * z)) (ofNat U) (omega arith) (omega arith) (omega arith) (omega arith) z-most y-most slack-most linear
+      window = window-linear (ofNat F) (ofNat y) (ofNat slack) (ofNat (unit * R)) (ofNat (U * unit * (1073741824 * E))) (ofNat (U * z)) (ofNat U) (omega
+          arith) (omega arith) (omega arith) (omega arith) z-most y-most slack-most linear

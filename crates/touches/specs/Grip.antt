@@ -153,4 +153,5 @@ momentAt k = record { u = 16777216 - k; w = k; some = omega arith }
 
 -- whatever the job stands for touches there
 abbrev pub TouchesAt : (job : GridJob) (k : ℕ) (axs ays bxs bys : List ℕ) → Type 0
-TouchesAt job k axs ays bxs bys = (unit finer : ℕ) (a b : Mover) (keep : ℕ) → StandsFor unit finer job axs ays bxs bys a b keep → TouchAt (momentAt k) 1073741824 keep a b
+TouchesAt job k axs ays bxs bys = (unit finer : ℕ) (a b : Mover) (keep : ℕ) → StandsFor unit finer job axs ays bxs bys a b keep → TouchAt (momentAt k)
+    1073741824 keep a b
