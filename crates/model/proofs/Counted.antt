@@ -18,7 +18,7 @@ use Rattle.model.specs.declared.Totals.{Totals}
 use Rattle.model.specs.Text.{decimalBy, decimal, line}
 use Rattle.model.specs.Sheet.{letterOf, answerLine, workedLine, refusedLine, answers, linesFrom, none, oneWorked, counted, totalsFrom, totalLine, sheet}
 use Rattle.model.specs.Counted.{afterBlanks, printedLetter, linesOneByOne, sheetLines, howMany}
-use Rattle.model.proofs.Sheet.{together}
+use Rattle.model.specs.Parts.{together}
 
 -- ---- the letter of a line
 -- no byte is a blank
