@@ -1,8 +1,8 @@
--- `route_text::line::hex_of` meets its contract, by its tests. Assumes nothing.
+-- `text::read::hex_digit` meets its contract, by its tests. Assumes nothing.
 use borrow.Author.Needs.{needs}
 use borrow.Author.Tests.{lt-ltb, le-ltb}
-use Rattle.route_text.proofs.line.hex_of.Statement.{statement}
-use Rattle.route_text.proofs.line.hex_of.Tie as tie
+use Rattle.text.proofs.read.hex_digit.Statement.{statement}
+use Rattle.text.proofs.read.hex_digit.Tie as tie
 
 returns : tie.Need-returns
 returns c = simp (lt-ltb _ _ (c .if1 .taken))
@@ -25,5 +25,5 @@ returns-4 c = simp (le-ltb _ _ (c .before .before .before .if1 .left), le-ltb _ 
 returns-5 : tie.Need-returns-5
 returns-5 c = simp (le-ltb _ _ (c .before .before .before .if1 .left), le-ltb _ _ (c .before .before .if2 .left), le-ltb _ _ (c .before .if3 .left), le-ltb _ _ (c .if4 .left))
 
-pub hex-of-spec : {M : Type 1} → statement M
-hex-of-spec = tie.close (tie.spec returns sub-result returns-2 returns-3 sub-result-2 returns-4 returns-5)
+pub hex-digit-spec : {M : Type 1} → statement M
+hex-digit-spec = tie.close (tie.spec returns sub-result returns-2 returns-3 sub-result-2 returns-4 returns-5)
