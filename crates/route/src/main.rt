@@ -1,5 +1,5 @@
 // Reads a route as text from standard input and prints its answer, one line. A read that fails is told on standard error, and then nothing is printed.
-use route_text::Reader;
+use route_read::Reader;
 
 // A shorter part is the last one.
 const PART_SIZE: usize = 65536;
@@ -31,7 +31,7 @@ fn next_part(reader: Reader, floats: &mut [f32], lengths: &mut [u32]) -> Step {
         };
     }
     let n = filled.count;
-    let after = route_text::read_part(&buffer[..n], reader, floats, lengths);
+    let after = route_read::read_part(&buffer[..n], reader, floats, lengths);
     if n < PART_SIZE {
         tell(after, floats, lengths);
     }
@@ -48,7 +48,7 @@ fn main() {
     }
     let mut floats = [0.0f32; NUMBERS];
     let mut lengths = [0u32; LENGTHS];
-    let mut reader = route_text::no_text();
+    let mut reader = route_read::no_text();
     for turn in 0..u64::MAX {
         let step = next_part(reader, &mut floats, &mut lengths);
         let after = step.reader;

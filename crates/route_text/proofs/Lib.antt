@@ -1,4 +1,1 @@
-pub mod Runs
 pub mod Lines
-pub mod Shown
-pub mod Written
