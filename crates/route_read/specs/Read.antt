@@ -7,6 +7,7 @@ use lib.Dec.{eqb, ltb}
 use lib.ListN.{length, set}
 use lib.Ieee.{Float, binary32, ofBits}
 use Rattle.model.specs.Parts.{countLimit}
+use Rattle.runs.specs.Run.{textRun}
 use Rattle.route_line.specs.declared.Kind.{Kind}
 use Rattle.route_line.specs.declared.Kind.the-variants.{Nothing, Slop, Cart, At, Still}
 use Rattle.route_line.specs.declared.Line.{Line}
@@ -126,3 +127,14 @@ pub record IsRun (s : Run) (r : Reader) (floats : List Float) (lengths : List �
   pub stands : r ≡ s .reader
   pub numbers : floats ≡ s .floats
   pub outlines : lengths ≡ s .lengths
+
+-- ---- a run over parts of such a length: the answer of what was read is told after the last one, which is shorter
+module _ (size : ℕ) (answer : Run → List ℕ) where
+  abbrev pub isLast : Run → List ℕ → Bool
+  isLast s part = ltb (length part) size
+
+  abbrev pub tellBy : Run → List ℕ → List ℕ
+  tellBy s part = cond (isLast s part) (answer (runOver s part)) []
+
+  abbrev pub textBy : Run → List (List ℕ) → List ℕ
+  textBy = textRun runOver isLast tellBy

@@ -18,7 +18,7 @@ use Rattle.legs.specs.Route.{route}
 use Rattle.route_read.specs.declared.Kept.{Kept}
 use Rattle.route_read.specs.declared.Reader.{Reader}
 use Rattle.route_line.specs.Line.{isRoute}
-use Rattle.route_read.specs.Read.{Run, run, noText, nextLine, runOver}
+use Rattle.route_read.specs.Read.{Run, run, noText, nextLine, runOver, textBy}
 
 -- ---- the route
 abbrev pub least : ℕ → ℕ → ℕ
@@ -92,6 +92,10 @@ abbrev pub answerText : List Float → List ℕ → List ℕ → List ℕ
 answerText floats lengths text =
     let s = runOver (run noText floats lengths) text in
     answerOf (s .reader) (s .floats) (s .lengths)
+
+-- the same by parts of such a length, with so much room for the answer
+abbrev pub answerBy : ℕ → ℕ → List Float → List ℕ → List (List ℕ) → List ℕ
+answerBy size room floats lengths = textBy size (λ s. textFor (s .reader) (s .floats) (s .lengths) room) (run noText floats lengths)
 
 -- ---- pieces
 unfoldable pub two : ℕ → ℕ → ℕ → List ℕ
