@@ -1,4 +1,6 @@
 // A batch converted part by part: each block that is not refused in the other form, and the numbers of those that are.
+use model::COUNT_LIMIT;
+use model::PART_SIZE;
 ghost use mathlib.Core.Path.{_≡_};
 ghost use Prim.Native.Nat.{_+_, _*_, _/_, _≤_, _<_};
 ghost use lib.ListN.{length};
@@ -8,12 +10,6 @@ ghost use Rattle.text.specs.Put.{Put};
 ghost use Rattle.forms.specs.Forms.{otherNumber, otherForm};
 ghost use Rattle.forms.specs.Convert.{wholeOf, fileBy, textBy, converted, toldFrom, fileFor, textFor, countFor, lastFor};
 ghost use Rattle.forms.specs.Convert as Convert;
-
-// Blocks below this can be counted on through any part without wrapping.
-const COUNT_LIMIT: u64 = 0x8000_0000_0000_0000;
-
-// A shorter part is the last one.
-const PART_SIZE: usize = 65536;
 
 // How many bytes go to the file, how many are told; how many blocks came up to the part's end; whether the part was the last.
 pub struct Converted {

@@ -11,3 +11,4 @@ pub mod PackRun
 pub mod UnpackRun
 pub mod Alone
 mod Shown
+mod Slips

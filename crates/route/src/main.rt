@@ -1,8 +1,6 @@
 // Reads a route as text from standard input and prints its answer, one line. A read that fails is told on standard error, and then nothing is printed.
+use model::PART_SIZE;
 use route_read::Reader;
-
-// A shorter part is the last one.
-const PART_SIZE: usize = 65536;
 
 // Numbers and lengths that can matter: a slop, 129 of the cart, four for each of 33 waypoints, 129 for each of 32 outlines; one outline more.
 const NUMBERS: usize = 4390;

@@ -1,4 +1,5 @@
 // A text read part by part: the line that it is in, and what is kept of those before.
+use model::COUNT_LIMIT;
 use route_line::AFTER_WORD;
 use route_line::BETWEEN;
 use route_line::Kind;
@@ -8,9 +9,6 @@ use route_line::MOST_WORDS;
 use route_line::line_after;
 ghost use mathlib.Core.Path.{_≡_};
 ghost use Rattle.route_read.specs.Read as Read;
-
-// Lines are counted so far.
-const COUNT_LIMIT: u64 = 0x8000_0000_0000_0000;
 
 // How many numbers and how many lengths are kept, and where among the numbers the cart and the waypoints end.
 pub struct Kept {
