@@ -35,7 +35,9 @@ use Rattle.model.specs.Support.{point}
 use Rattle.model.specs.Wire.{byte}
 use Rattle.model.specs.Block.{knownForm, checkHolds, badCount, zerosHold, badFields, jobOf, blockOf, checkedBlock}
 use Rattle.model.specs.Work.{floatsAt, numbersOf, pointsA, pointsB, moveAt, sweepFor, sweepOf, toldBy, answerBy, blockAnswer}
+use Rattle.model.specs.Blocks.{wholeBlocks}
 use Rattle.model.specs.Sheet.{wholeAnswers, answers}
+use Rattle.model.proofs.Sheet.{answers-cut}
 use Rattle.summary.specs.Report.{everyAnswer, report}
 use Rattle.summary.proofs.Tally.{by-test}
 use Rattle.monthly.specs.Batches.{answersOf}
@@ -228,7 +230,7 @@ given-append [] ys p q = q
 given-append (x ∷ xs) ys p q = (p .0, given-append xs ys (p .1) q)
 
 whole-given : (f : Format) (k : ℕ) (b : List ℕ) → NumbersGiven (wholeAnswers f k b)
-unfolding wholeAnswers NumbersGiven
+unfolding wholeBlocks NumbersGiven
 whole-given f zero b = tt
 whole-given f (suc k) b = (block-given f (take 512 b), whole-given f k (drop 512 b))
 
@@ -238,8 +240,9 @@ rest-given true = tt
 rest-given false = ((omega arith, omega arith, λ h. omega arith), tt)
 
 pub file-given : (f : Format) (b : List ℕ) → NumbersGiven (answers f b)
-unfolding answers
-file-given f b = given-append (wholeAnswers f (length b / 512) b) _ (whole-given f (length b / 512) b) (rest-given (eqb (length b % 512) 0))
+file-given f b =
+    rw (answers-cut f b)
+    (given-append (wholeAnswers f (length b / 512) b) _ (whole-given f (length b / 512) b) (rest-given (eqb (length b % 512) 0)))
 
 every-given : (files : List (List ℕ)) → NumbersGiven (everyAnswer (answersOf files))
 unfolding everyAnswer answersOf NumbersGiven

@@ -1,8 +1,8 @@
--- `lines::put::put_float` meets its contract: its text is that of the pattern, and there is room. Assumes nothing.
+-- `fields::put_float` meets its contract: its text is that of the pattern, and there is room. Assumes nothing.
 use Rattle.text.proofs.Lengths.{roomy}
 use borrow.Author.Needs.{needs}
-use Rattle.lines.proofs.put.put_float.Statement.{statement}
-use Rattle.lines.proofs.put.put_float.Tie as tie
+use Rattle.fields.proofs.put_float.Statement.{statement}
+use Rattle.fields.proofs.put_float.Tie as tie
 
 to-bits-requires : tie.Need-to-bits-requires
 to-bits-requires c κs = search needs

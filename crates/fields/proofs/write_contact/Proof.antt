@@ -1,12 +1,12 @@
--- `lines::put::write_contact` meets its contract: nothing where there is no room, else the five floats. Assumes nothing.
+-- `fields::write_contact` meets its contract: nothing where there is no room, else the five floats. Assumes nothing.
 use Prim.Native.Nat.{_+_, _<_, _≤_}
 use native.Mathlib.Omega.{arith}
 use borrow.Author.Tests.{lt-ltb, le-ltb}
 use lib.ListN.{length}
 use Rattle.text.proofs.Pasted.{put-nothing}
 use borrow.Author.Needs.{needs}
-use Rattle.lines.proofs.put.write_contact.Statement.{statement}
-use Rattle.lines.proofs.put.write_contact.Tie as tie
+use Rattle.fields.proofs.write_contact.Statement.{statement}
+use Rattle.fields.proofs.write_contact.Tie as tie
 
 returns : tie.Need-returns
 returns c =
