@@ -15,16 +15,23 @@ ghost use Prim.Native.Nat.{_+_, _*_, _≤_};
 ghost use lib.ListN.{length};
 ghost use Rattle.entries.specs.Entry.{contactFloats, contactIn, countsWords, statusNumber, sweepNumber, contactAfter, countsAfter, endingNumber, outputNumber, outputFloats, cacheWords, roundsOf, distanceNumber, outputAfter, cacheAfter};
 
+fn store_contact(out: &mut [f32], c: Contact)
+    requires { ⌜ length (now out) ≡ 5 ⌝ }
+    ensures { λ _. ⌜ now (out .exit) ≡ contactFloats c ⌝ }
+{
+    out[0] = c.fraction;
+    out[1] = c.point.x;
+    out[2] = c.point.y;
+    out[3] = c.normal.x;
+    out[4] = c.normal.y;
+}
+
 // The floats of a contact in a list of five; any other list stays.
 pub fn put_contact(out: &mut [f32], c: Contact)
     ensures { λ _. ⌜ now (out .exit) ≡ contactIn c (now (out .entry)) ⌝ }
 {
     if out.len() == 5 {
-        out[0] = c.fraction;
-        out[1] = c.point.x;
-        out[2] = c.point.y;
-        out[3] = c.normal.x;
-        out[4] = c.normal.y;
+        store_contact(out, c);
     }
 }
 
@@ -60,7 +67,7 @@ fn put_verdict(out: &mut [f32], counts: &mut [u32], v: Verdict) -> u32
     let contact = v.contact;
     let n = v.counts;
     let corners = v.corners;
-    put_contact(out, contact);
+    store_contact(out, contact);
     put_counts(counts, n, corners);
     let status = v.status;
     status_number(status)

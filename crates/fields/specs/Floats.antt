@@ -5,6 +5,14 @@ use lib.Ieee.{binary32, Float}
 use Rattle.model.specs.declared.Contact.{Contact}
 use Rattle.model.specs.Text.{hexFloat}
 
+-- eight digits and a blank
+abbrev pub floatRoom : ℕ
+floatRoom = 9
+
+-- five of them
+abbrev pub contactRoom : ℕ
+contactRoom = 45
+
 -- a blank after each
 abbrev pub hexOf : Float → List ℕ
 hexOf x = hexFloat binary32 x ++ (32 ∷ [])

@@ -6,7 +6,10 @@ ghost use Prim.Native.Nat.{_+_, _≤_};
 ghost use lib.ListN.{length};
 ghost use Rattle.model.specs.Sheet.{letterOf};
 ghost use Rattle.text.specs.Put.{Put, whereRoom};
-ghost use Rattle.fields.specs.Floats.{hexOf, floats};
+ghost use Rattle.fields.specs.Floats.{floatRoom, contactRoom, hexOf, floats};
+
+// Five floats, each with the blank after it.
+const CONTACT_ROOM: usize = 45;
 
 pub fn letter_of(status: Status) -> u8
     ensures { λ r. ⌜ r ≡ letterOf status ⌝ }
@@ -21,7 +24,7 @@ pub fn letter_of(status: Status) -> u8
 
 // A float by its pattern in hexadecimal digits, any NaN as one, and a blank.
 fn put_float(out: &mut [u8], at: usize, x: f32) -> usize
-    requires { ⌜ at + 9 ≤ length (now out) ⌝ }
+    requires { ⌜ at + floatRoom ≤ length (now out) ⌝ }
     ensures { λ r. ⌜ Put (now (out .entry)) at (hexOf x) (now (out .exit)) r ⌝ }
 {
     text::put_hex(out, at, ground::to_bits(x), b' ')
@@ -29,7 +32,7 @@ fn put_float(out: &mut [u8], at: usize, x: f32) -> usize
 
 // The floats of a contact, and a blank after each.
 fn put_contact(out: &mut [u8], at: usize, c: Contact) -> usize
-    requires { ⌜ at + 45 ≤ length (now out) ⌝ }
+    requires { ⌜ at + contactRoom ≤ length (now out) ⌝ }
     ensures { λ r. ⌜ Put (now (out .entry)) at (floats c) (now (out .exit)) r ⌝ }
 {
     let e1 = put_float(out, at, c.fraction);
@@ -41,13 +44,13 @@ fn put_contact(out: &mut [u8], at: usize, c: Contact) -> usize
 
 // The same, where there is room for them; else nothing is written, and the place stays.
 pub fn write_contact(out: &mut [u8], at: usize, c: Contact) -> usize
-    ensures { λ r. ⌜ Put (now (out .entry)) at (whereRoom (at + 45) (length (now (out .entry))) (floats c)) (now (out .exit)) r ⌝ }
+    ensures { λ r. ⌜ Put (now (out .entry)) at (whereRoom (at + contactRoom) (length (now (out .entry))) (floats c)) (now (out .exit)) r ⌝ }
 {
     let size = out.len();
-    if size < 45 {
+    if size < CONTACT_ROOM {
         return at;
     }
-    if size - 45 < at {
+    if size - CONTACT_ROOM < at {
         return at;
     }
     put_contact(out, at, c)

@@ -13,7 +13,7 @@ use Rattle.model.specs.Sheet.{answers, totalsFrom, partText, none, sheet}
 use Rattle.model.proofs.Sheet.{Sums, totals-add-up, blocks-counted, answers-of-whole, part-first}
 use Rattle.runs.specs.Run.{Cut}
 use Rattle.runs.proofs.Whole.{run-makes-whole, text-steps}
-use Rattle.lines.specs.Part.{countable, fits, textFor, totalsFor, lastFor, run}
+use Rattle.lines.specs.Part.{longestLine, countable, fits, textFor, totalsFor, lastFor, run}
 
 -- the totals add up, and so many bytes can still be counted
 pub record Counting (t : Totals) (b : List ℕ) : Type 0 where
@@ -33,7 +33,7 @@ counting-on t b h =
 
 fitting : (size : ℕ) (t : Totals) (b : List ℕ) → size ≤ partSize → Counting t b → fits size partSize t ≡ true
 fitting size t b small h =
-    let room : size / 512 + 2 ≤ partSize / 240 = omega arith in
+    let room : size / 512 + 2 ≤ partSize / longestLine = omega arith in
     rw (le-leb _ _ room, counting-on t b h)
 
 -- ---- a step of the run

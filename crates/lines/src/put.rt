@@ -6,7 +6,7 @@ use model::SupportPair;
 ghost use Prim.Native.Nat.{_+_, _≤_};
 ghost use lib.ListN.{length};
 ghost use Rattle.text.specs.Put.{Put, number};
-ghost use Rattle.fields.specs.Floats.{floats};
+ghost use Rattle.fields.specs.Floats.{contactRoom, floats};
 ghost use Rattle.lines.specs.Pieces.{three, corner, pairText, cornersText};
 
 // A text as it stands.
@@ -37,7 +37,7 @@ pub fn put_three(out: &mut [u8], at: usize, a: u64, b: u64, c: u64, end: u8) -> 
 
 // The floats of a contact, and a blank after each.
 pub fn put_contact(out: &mut [u8], at: usize, c: Contact) -> usize
-    requires { ⌜ at + 45 ≤ length (now out) ⌝ }
+    requires { ⌜ at + contactRoom ≤ length (now out) ⌝ }
     ensures { λ r. ⌜ Put (now (out .entry)) at (floats c) (now (out .exit)) r ⌝ }
 {
     fields::write_contact(out, at, c)

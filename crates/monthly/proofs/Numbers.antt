@@ -34,7 +34,7 @@ use Rattle.model.specs.Corners.{sweep}
 use Rattle.model.specs.Support.{point}
 use Rattle.model.specs.Wire.{byte}
 use Rattle.model.specs.Block.{knownForm, checkHolds, badCount, zerosHold, badFields, jobOf, blockOf, checkedBlock}
-use Rattle.model.specs.Work.{floatsAt, numbersOf, pointsA, pointsB, moveAt, sweepFor, sweepOf, toldBy, answerBy, blockAnswer}
+use Rattle.model.specs.Work.{floatsAt, numbersOf, pointsA, pointsB, moveAt, sweepFor, sweepOf, toldBy, ofJob, answerBy, blockAnswer}
 use Rattle.model.specs.Blocks.{wholeBlocks}
 use Rattle.model.specs.Sheet.{wholeAnswers, answers}
 use Rattle.model.proofs.Sheet.{answers-cut}
@@ -187,7 +187,7 @@ fair-outline b k n e =
     fair-count false true g h e = absurd (let z : _≡_ {A = ℕ} 0 1 = cc in omega arith)
     fair-count false false g h e = let some = eqb-false n 0 g in (omega (arith, some), ltb-false 16 n h)
 
-told-fair : (f : Format) (job : ℕ) (k : Corners) (x : SweepAnswer) → Fair x → NumberGiven (toldBy f job k x)
+told-fair : (f : Format) (job : ℕ) (k : Corners) (x : SweepAnswer) → Fair x → NumberGiven (ofJob job (toldBy f k x))
 told-fair f job k (Answered.Overlapped n) h = tt
 told-fair f job k (Answered.Hit c n) h = tt
 told-fair f job k (Answered.Separated c n) h = tt
@@ -205,7 +205,7 @@ unfolding sweepFor sweep
 fair-for f a b ns fa fb = fair-sweep f a (point ns 0 .x) (moveAt ns 2) b (point ns 0 .y) (moveAt ns 7) (point ns 1 .x) (point ns 1 .y) fa fb
 
 good-given : (f : Format) (b : List ℕ) → badFields b ≡ false →
-    NumberGiven (toldBy f (jobOf b) (sweepOf f b (blockOf b) .corners) (sweepOf f b (blockOf b) .answer))
+    NumberGiven (ofJob (jobOf b) (toldBy f (sweepOf f b (blockOf b) .corners) (sweepOf f b (blockOf b) .answer)))
 good-given f b e =
     let (fa, fb) = both-counts (eqb (jobOf b) 0) (badCount (byte b 4)) (badCount (byte b 5)) (not (zerosHold b)) e in
     told-fair f (jobOf b) (sweepOf f b (blockOf b) .corners) (sweepOf f b (blockOf b) .answer)

@@ -1,5 +1,6 @@
 -- `lines::put::put_contact` meets its contract: there is room. Assumes nothing.
 use Rattle.text.proofs.Lengths.{roomy}
+use Rattle.fields.specs.Floats.{contactRoom}
 use borrow.Author.Needs.{needs}
 use Rattle.lines.proofs.put.put_contact.Statement.{statement}
 use Rattle.lines.proofs.put.put_contact.Tie as tie
@@ -11,7 +12,7 @@ same-length : tie.Need-same-length
 same-length c = search needs
 
 returns : tie.Need-returns
-returns c = roomy 45 (c .before .before .write-contact .ensures) (c .before .before .before .before .before .pre)
+returns c = roomy contactRoom (c .before .before .write-contact .ensures) (c .before .before .before .before .before .pre)
 
 pub put-contact-spec : {M : Type 1} → statement M
 put-contact-spec = tie.close (tie.spec write-contact-requires same-length returns)
