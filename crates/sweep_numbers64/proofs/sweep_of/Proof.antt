@@ -1,8 +1,8 @@
--- `work::sweep_of` meets its contract, by what its callees ensure. Assumes nothing.
+-- `sweep_numbers::sweep_of` meets its contract, by what its callees ensure. Assumes nothing.
 use Rattle.model64.specs.Work.{sweepFor}
 use borrow.Author.Needs.{needs}
-use Rattle.work64.proofs.sweep_of.Statement.{statement}
-use Rattle.work64.proofs.sweep_of.Tie as tie
+use Rattle.sweep_numbers64.proofs.sweep_of.Statement.{statement}
+use Rattle.sweep_numbers64.proofs.sweep_of.Tie as tie
 
 point-requires : tie.Need-point-requires
 point-requires c κs = search needs

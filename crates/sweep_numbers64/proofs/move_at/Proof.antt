@@ -1,8 +1,8 @@
--- `work::move_at` meets its contract, by what its callees ensure. Assumes nothing.
+-- `sweep_numbers::move_at` meets its contract, by what its callees ensure. Assumes nothing.
 use Rattle.model64.specs.Work.{moveAt}
 use borrow.Author.Needs.{needs}
-use Rattle.work64.proofs.move_at.Statement.{statement}
-use Rattle.work64.proofs.move_at.Tie as tie
+use Rattle.sweep_numbers64.proofs.move_at.Statement.{statement}
+use Rattle.sweep_numbers64.proofs.move_at.Tie as tie
 
 point-requires : tie.Need-point-requires
 point-requires c κs = search needs
