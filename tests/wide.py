@@ -11,7 +11,7 @@ lays it out.
 import re, sys, os
 from pathlib import Path
 
-CRATES = 'model ground domain outline simplex distance separation sweep_toi work lines batch entries replay'.split()
+CRATES = 'model ground domain outline simplex distance separation sweep_toi sweep_numbers work fields lines batch entries replay'.split()
 # crates of either width that are written by hand
 WRITTEN = ['root']
 # files of model that mention a record with floats, and are written again for f64; the others are shared
@@ -23,11 +23,11 @@ LITERALS = {'3.4028235e38': '1.7976931348623157e308', '1.1920929e-7': '2.2204460
 PATTERNS = {'0x8000_0000': '0x8000_0000_0000_0000', '0x7f80_0000': '0x7ff0_0000_0000_0000', '0x7fc0_0000': '0x7ff8_0000_0000_0000',
             '7FC00000': '7FF8000000000000', 'u32': 'u64'}
 BITS = {'ground/src/bits.rt', 'ground/src/scalar.rt'}
-# numbers of bytes, in the crate of the lines: a float has 16 digits
-ROOM = [('240', '280'), ('238', '278'), ('at + 9 ', 'at + 17 '), ('at + 45', 'at + 85'), ('size < 45', 'size < 85'), ('size - 45', 'size - 85'),
-        ('(hexOf x) ≤ 9', '(hexOf x) ≤ 17'),
-        ('(floats c) ≤ 45', '(floats c) ≤ 85'), ('five floats of eight', 'five floats of sixteen'),
-        ('roomy 9 ', 'roomy 17 '), ('put_hex', 'put_wide_hex'), ('put-hex', 'put-wide-hex')]
+# numbers of bytes, where they are named: a float has 16 digits
+ROOM = {'fields': [('floatRoom = 9', 'floatRoom = 17'), ('contactRoom = 45', 'contactRoom = 85'), ('CONTACT_ROOM: usize = 45', 'CONTACT_ROOM: usize = 85'),
+                   ('eight digits', 'sixteen digits'), ('put_hex', 'put_wide_hex'), ('put-hex', 'put-wide-hex')],
+        'lines': [('longestLine = 240', 'longestLine = 280'), ('LONGEST_LINE: usize = 240', 'LONGEST_LINE: usize = 280'), ('238', '278'),
+                  ('five floats of eight', 'five floats of sixteen')]}
 # crates of which only some files have a counterpart
 ONLY = {'replay': ['words', 'pool', 'operations', 'distances', 'sweeps', 'tally']}
 # files that speak of a block's own numbers, which are f32's
@@ -41,7 +41,7 @@ PATCHES = [
     # a block's numbers are taken over from f32
     ('work64/src/lib.rt', 'floats[i] = ground64::from_bits(wire::word(part, from + 4 * i));',
      'floats[i] = f32_to_f64_with_nan(ground::from_bits(wire::word(part, from + 4 * i)));'),
-    ('work64/src/lib.rt', 'use outline64::point;', 'use outline64::point;\nuse std::num::f32_to_f64_with_nan;'),
+    ('work64/src/lib.rt', 'use model64::Swept;', 'use model64::Swept;\nuse std::num::f32_to_f64_with_nan;'),
     # stored words have eight bytes
     ('replay64/src/words.rt', 'use model64::Vector;', 'use crate::long::long;\nuse model64::Vector;'),
     ('replay64/src/words.rt', '[u32; 40]', '[u64; 40]'),
@@ -71,10 +71,10 @@ PATCHES = [
      'use Rattle.model.specs.Sheet as Sheet\nuse Rattle.bridge.proofs.Sheet.{lines-same, totals-same}\nuse Rattle.model64.proofs.DistanceCall.{both}'),
     ('lines64/proofs/Parts.antt', "→ Put d₀ 0 (linesFrom binary64 (t₀ .blocks) (answers binary64 b)) d' at'",
      "→ Put d₀ 0 (Sheet.linesFrom binary64 (t₀ .blocks) (Sheet.answers binary64 b)) d' at'"),
-    ('lines64/proofs/Parts.antt', '      rw (lines-append binary64 (t₀ .blocks) xs (restAnswer (length b % 512)), ← number) (put-then (omega arith) p q)',
-     '      rw (← lines-same binary64 (t₀ .blocks) b, lines-append binary64 (t₀ .blocks) xs (restAnswer (length b % 512)), ← number) (put-then (omega arith) p q)'),
+    ('lines64/proofs/Parts.antt', '      rw (answers-cut binary64 b, lines-append',
+     '      rw (← lines-same binary64 (t₀ .blocks) b, answers-cut binary64 b, lines-append'),
     ('lines64/proofs/Parts.antt', "→ t' ≡ totalsFrom t₀ (answers binary64 b)", "→ t' ≡ Sheet.totalsFrom t₀ (Sheet.answers binary64 b)"),
-    ('lines64/proofs/Parts.antt', '  all-totals e = e ∙ rw (totals-append', '  all-totals e = e ∙ rw (← totals-same binary64 t₀ b, totals-append'),
+    ('lines64/proofs/Parts.antt', '  all-totals e = e ∙ rw (answers-cut', '  all-totals e = e ∙ rw (← totals-same binary64 t₀ b, answers-cut'),
     ('lines64/specs/Part.antt', 'use Rattle.model64.specs.Sheet.{answers, answerLine, totalsFrom, partText}',
      'use Rattle.model.specs.Sheet.{answers, totalsFrom, partText}\nuse Rattle.model64.specs.Sheet.{answerLine}'),
 ]
@@ -287,9 +287,8 @@ class Gen:
             self.write(f'{name}64/{rel}', text)
 
     def write(self, rel, text):
-        if rel.startswith('lines64/'):
-            for k, v in ROOM:
-                text = text.replace(k, v)
+        for k, v in ROOM.get(rel.split('64/')[0], []):
+            text = text.replace(k, v)
         if rel in OF_BLOCK:
             text = text.replace('binary64', 'binary32')
         if rel in OF_MODEL:

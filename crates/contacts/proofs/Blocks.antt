@@ -10,6 +10,7 @@ use lib.ListN.{length, take, drop}
 use lib.Seq.{drop-drop}
 use Rattle.model.specs.declared.BlockAnswer.{BlockAnswer}
 use Rattle.model.specs.Work.{blockAnswer}
+use Rattle.model.specs.Blocks.{wholeBlocks}
 use Rattle.model.specs.Sheet.{wholeAnswers}
 use Rattle.model.specs.Block.{blockSize}
 use Rattle.model.specs.Parts.{countLimit, isLast}
@@ -25,14 +26,14 @@ pub from-start : (b : List ℕ) (k n : ℕ) → leftFrom b k n 0 ≡ firstFrom n
 from-start b k n = let e : k - 0 ≡ k = omega arith in rw e
 
 pub none-left : (b : List ℕ) (k n i : ℕ) → k ≤ i → leftFrom b k n i ≡ 0
-unfolding firstFrom wholeAnswers
+unfolding firstFrom wholeBlocks
 none-left b k n i done = let e : k - i ≡ 0 = omega arith in rw e
 
 -- block i, of so many bytes, answered by x
 module _ (b : List ℕ) (k n i size : ℕ) (more : i < k) (whole : size ≡ 512) (x : BlockAnswer)
     (answer : x ≡ blockAnswer binary32 (take size (drop (512 * i) b))) where
   one-block : leftFrom b k n i ≡ cond (isContact x) (n + 1) (leftFrom b k (n + 1) (i + 1))
-  unfolding firstFrom wholeAnswers
+  unfolding firstFrom wholeBlocks
   one-block =
       let count : k - i ≡ suc (k - (i + 1)) = omega arith in
       let place : 512 * i + 512 ≡ 512 * (i + 1) = omega arith in

@@ -18,6 +18,7 @@ use Rattle.model.specs.Block.{blockSize}
 use Rattle.model.specs.Sheet.{letterOf, answerLine, answers, wholeAnswers, restAnswer, none, oneWorked, counted, totalsFrom}
 use Rattle.model.specs.Counted.{afterBlanks, linesOneByOne, sheetLines}
 use Rattle.model.proofs.Counted.{letterTold, letter-printed, counted-on}
+use Rattle.model.proofs.Sheet.{answers-cut}
 use Rattle.contacts.specs.First.{touches, isContact, firstFrom, firstContact, printsContact}
 
 -- ---- one answer
@@ -150,7 +151,6 @@ or-zero (suc k) = rw (ne-eqb (suc k) 0 (λ e. omega arith))
 
 -- so the whole blocks alone are looked at
 pub rest-passed-over : (f : Format) (n : ℕ) (b : List ℕ) → firstFrom n (answers f b) ≡ firstFrom n (wholeAnswers f (length b / blockSize) b)
-unfolding answers
 rest-passed-over f n b =
     let xs = wholeAnswers f (length b / 512) b in
-    rw (first-append n xs (restAnswer (length b % 512)), no-rest (n + length xs) (length b % 512)) (or-zero (firstFrom n xs))
+    rw (answers-cut f b, first-append n xs (restAnswer (length b % 512)), no-rest (n + length xs) (length b % 512)) (or-zero (firstFrom n xs))

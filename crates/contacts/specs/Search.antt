@@ -9,6 +9,7 @@ use Rattle.model.specs.Block.{blockSize}
 use Rattle.model.specs.Sheet.{answers}
 use Rattle.text.specs.Put.{whereRoom}
 use Rattle.model.specs.Parts.{countLimit, isLast}
+use Rattle.runs.specs.Run.{run}
 use Rattle.contacts.specs.declared.Searched.{Searched}
 use Rattle.contacts.specs.First.{firstFrom, said}
 
@@ -23,10 +24,9 @@ searchedTo before part found = state found (before + length part / blockSize) (c
 abbrev pub searched : ℕ → List ℕ → Searched
 searched before part = cond (ltb before countLimit) (searchedTo before part (firstFrom before (answers binary32 part))) (state 0 before true)
 
--- the search over parts: it ends with the part that it is over with
-unfoldable pub search : ℕ → List (List ℕ) → ℕ
-search before [] = 0
-search before (p ∷ ps) = cond (searched before p .over) (searched before p .found) (search (searched before p .blocks) ps)
+-- the search over parts: it ends with the part that it is over with, and comes to what it found there
+abbrev pub search : ℕ → List (List ℕ) → ℕ
+search = run (λ before p. searched before p .blocks) (λ before p. searched before p .over) (λ before p. searched before p .found) (λ before p later. later) 0
 
 -- a number has at most 20 digits; the newline makes 21
 abbrev pub longestText : ℕ

@@ -1,5 +1,7 @@
 // The first contact of a batch: found part by part, and told as a number or `none`.
 use model::BlockAnswer;
+use model::COUNT_LIMIT;
+use model::PART_SIZE;
 use model::Status;
 ghost use mathlib.Core.Path.{_≡_};
 ghost use Prim.Native.Nat.{_/_, _<_};
@@ -9,14 +11,8 @@ ghost use Rattle.model.specs.Block.{blockSize};
 ghost use Rattle.model.specs.Sheet.{wholeAnswers};
 ghost use Rattle.text.specs.Put.{Put};
 ghost use Rattle.model.specs.Parts.{countLimit};
-ghost use Rattle.contacts.specs.First.{touches, isContact, firstFrom, firstContact};
+ghost use Rattle.contacts.specs.First.{touches, isContact, firstFrom};
 ghost use Rattle.contacts.specs.Search.{searched, textIn};
-
-// Blocks below this can be counted on through any part without wrapping.
-const COUNT_LIMIT: u64 = 0x8000_0000_0000_0000;
-
-// A shorter part is the last one.
-const PART_SIZE: usize = 65536;
 
 // A number of 20 digits and a newline.
 const LONGEST_TEXT: usize = 21;
@@ -113,12 +109,4 @@ pub fn write_found(found: u64, out: &mut [u8]) -> usize
         return text::put_text(out, 0, b"none\n");
     }
     text::put_number(out, 0, found, b'\n')
-}
-
-// The same for a whole batch that stands in memory.
-pub fn write_first_contact(batch: &[u8], out: &mut [u8]) -> usize
-    ensures { λ r. ⌜ Put (now (out .entry)) 0 (textIn (firstContact binary32 (now (batch .entry))) (length (now (out .entry)))) (now (out .exit)) r ⌝ }
-{
-    let found = search_blocks(batch, 0);
-    write_found(found, out)
 }

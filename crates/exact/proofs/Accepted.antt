@@ -19,7 +19,7 @@ use Rattle.model.specs.Ground.{constant, one, abs}
 use Rattle.model.specs.Domain.{badOutline, limit, badPart, badParts, squared, badRotation}
 use Rattle.model.specs.Distance.{measure, inputsRefusal, distanceRefusal, distanceBy, proxyDistance}
 use Rattle.model.specs.Support.{point}
-use Rattle.exact.specs.Plane.{Point}
+use Rattle.plane.specs.Plane.{Point}
 use Rattle.exact.specs.SquaredPaper.{IsPoint, Near, SquaredPaper, Fits, Answered}
 use Rattle.exact.proofs.Paper.{Small, cosine-is, sine-is, turn-small, add-small}
 use Rattle.exact.proofs.Answered.{abs-whole, limit-whole}

@@ -12,7 +12,7 @@ use Rattle.integers.specs.Polynomial.{_:+_, _:-_, _:*_}
 use Rattle.integers.proofs.Signed.{⊠-comm, ⊠-neg, ⊠-nonneg, ⊠-pos, ⊠-pos-back, ⊠-square, le-or-lt}
 use Rattle.integers.proofs.Ring.{ring}
 use Rattle.model.specs.Simplex.{inside}
-use Rattle.exact.specs.Plane.{Point, difference, dot, perp}
+use Rattle.plane.specs.Plane.{Point, difference, dot, perp}
 use Rattle.exact.specs.Regions.{toward, across, Lies3}
 use Rattle.exact.proofs.Sketch.{differenceᴱ, dotᴱ, perpᴱ, towardᴱ, acrossᴱ, P, Q, R, parts}
 

@@ -19,7 +19,7 @@ use Rattle.model.specs.declared.Vector.{Vector}
 use Rattle.model.specs.Ground.{vector, minus}
 use Rattle.model.specs.Ground as Ground
 use Rattle.model.specs.Support.{point, supportFrom, support}
-use Rattle.exact.specs.Plane.{Point, difference, dot}
+use Rattle.plane.specs.Plane.{Point, difference, dot}
 use Rattle.exact.specs.SquaredPaper.{Room}
 use Rattle.exact.proofs.Vectors.{SizedPoint, dot-sized, zero-whole, whole-of-equal}
 

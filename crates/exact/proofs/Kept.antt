@@ -9,7 +9,7 @@ use Rattle.integers.specs.Signed.{Int, 0Int, ofNat, neg, _⊞_, _⊠_, _≼_, _
 use Rattle.integers.specs.Polynomial.{Expr, var, lit, _:+_, _:-_, _:*_, negated}
 use Rattle.integers.proofs.Signed.{⊠-cong, ⊠-cong-r}
 use Rattle.integers.proofs.Ring.{ring}
-use Rattle.exact.specs.Plane.{Point, sum, difference, opposite, dot, perp, total, weightedSum}
+use Rattle.plane.specs.Plane.{Point, sum, difference, opposite, dot, perp, total, weightedSum}
 use Rattle.exact.specs.Regions.{toward, across}
 use Rattle.exact.proofs.Below.{below1, below2}
 use Rattle.exact.proofs.Sketch.{dotᴱ, towardᴱ, acrossᴱ, offEdgeᴱ, P, Q, R, parts}

@@ -8,10 +8,10 @@ use Rattle.integers.specs.Signed.{Int, 0Int, ofNat, neg, _⊞_, _⊟_, _⊠_, _
 use Rattle.integers.specs.Polynomial.{var, _:+_, _:-_, _:*_, negated}
 use Rattle.integers.proofs.Signed.{⊠-neg, ⊠-zero, ⊠-nonneg, ⊠-cong, ⊠-cong-r, ⊠-square, ⊠-pos, ⊠-nonneg-back, ⊠-pos-back}
 use Rattle.integers.proofs.Ring.{ring}
-use Rattle.exact.specs.Plane.{Point, difference, opposite, scaled, dot, total, sumBelow, weightedSum}
-use Rattle.exact.specs.Outline.{Outline, PointOf, divisor, dividend, SharesPoint, gap, NoneNearer}
+use Rattle.plane.specs.Plane.{Point, difference, opposite, scaled, dot, total, sumBelow, weightedSum}
+use Rattle.plane.specs.Outline.{Outline, PointOf, divisor, dividend, SharesPoint, gap, NoneNearer}
 use Rattle.exact.proofs.Kept.{Kept, Covered, dot-cong}
-use Rattle.exact.proofs.Weights.{⊠-mono, dot-of-sum, sum-at-most, sum-at-least, sum-of-differences, onCorners, moved-to-corners}
+use Rattle.plane.proofs.Weights.{⊠-mono, dot-of-sum, sum-at-most, sum-at-least, sum-of-differences, onCorners, moved-to-corners}
 
 -- ---- two points of the plane: u is K times the kept place, v is W times a point of the difference
 -- along d, which is opposite to u, v lies no further than W times the level of u: then v lies beyond u

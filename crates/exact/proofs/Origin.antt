@@ -16,7 +16,7 @@ use Rattle.model.specs.declared.Vector.{Vector}
 use Rattle.model.specs.Simplex.{Region, at1, at2, at3, on12, on13, on23, inside, near, far, region2, region3}
 use Rattle.model.specs.Simplex as Simplex
 use Rattle.model.specs.Ground as Ground
-use Rattle.exact.specs.Plane.{Point, difference, perp}
+use Rattle.plane.specs.Plane.{Point, difference, perp}
 use Rattle.exact.specs.Regions.{toward, across, Lies2, Lies3}
 use Rattle.exact.specs.SquaredPaper.{Room}
 use Rattle.exact.proofs.Sketch.{differenceᴱ, dotᴱ, perpᴱ, towardᴱ, acrossᴱ, P, Q, R, parts}

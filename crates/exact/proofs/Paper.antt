@@ -20,7 +20,7 @@ use Rattle.model.specs.declared.Pose.{Pose}
 use Rattle.model.specs.Ground.{minus, negate, inverseRotate, onPoint}
 use Rattle.model.specs.Support.{point}
 use Rattle.model.specs.Distance.{supportA, supportB}
-use Rattle.exact.specs.Plane.{Point, sum, difference, opposite, turned, turnedBack, dot}
+use Rattle.plane.specs.Plane.{Point, sum, difference, opposite, turned, turnedBack, dot}
 use Rattle.exact.specs.SquaredPaper.{IsPoint, Near, SquaredPaper, Room, posedB}
 use Rattle.exact.proofs.Vectors.{SizedPoint, weaken-point, negate-sized}
 use Rattle.exact.proofs.Furthest.{support-furthest}

@@ -13,7 +13,7 @@ use Rattle.model.specs.declared.Solved.{Solved}
 use Rattle.model.specs.Simplex.{Region, at1, at2, at3, on12, on13, on23, inside, slot, weighted, kept, solve, solveSimplex2, solveSimplex3, region2, region3}
 use Rattle.model.specs.Simplex as Simplex
 use Rattle.model.specs.Ground.{negate}
-use Rattle.exact.specs.Plane.{Point, opposite, dot}
+use Rattle.plane.specs.Plane.{Point, opposite, dot}
 use Rattle.exact.specs.Regions.{Lies2, Lies3}
 use Rattle.exact.specs.SquaredPaper.{Room}
 use Rattle.exact.proofs.Below.{below1, below2, below3}

@@ -11,7 +11,7 @@ use Rattle.integers.proofs.Sized.{weaken, neg-sized, add-sized, sub-sized, mul-
 use Rattle.model.specs.declared.Vector.{Vector}
 use Rattle.model.specs.Ground.{plus, minus, negate}
 use Rattle.model.specs.Ground as Ground
-use Rattle.exact.specs.Plane.{Point, sum, difference, opposite, dot, perp}
+use Rattle.plane.specs.Plane.{Point, sum, difference, opposite, dot, perp}
 use Rattle.exact.specs.SquaredPaper.{Room}
 
 -- v is the point z, whose parts are at most c * bound ^ k in size

@@ -5,6 +5,7 @@ mod tell_route;
 
 use built::built_number;
 use entries::pose_of;
+use model::COUNT_LIMIT;
 use model::Vector;
 use tell_moment::tell_gap;
 use tell_moment::tell_pose;
@@ -36,7 +37,7 @@ pub extern "C" fn foldflake_line(number: u64, block: &[u8], out: &mut [u8]) -> u
     if block.len() != 512 {
         return 0;
     }
-    if (number == 0) | (number > 0x8000_0000_0000_0000) {
+    if (number == 0) | (number > COUNT_LIMIT) {
         return 0;
     }
     let answer = work::answer_block(block);
@@ -183,7 +184,7 @@ pub extern "C" fn foldflake_pose(planned: &[f32], fraction: f32, out: &mut [f32]
     ensures { λ r. ⌜ PoseTold (now (planned .entry)) fraction (now (out .entry)) (now (out .exit)) r ⌝ }
 {
     if (planned.len() == 10) & (out.len() == 4) {
-        let pose = moment::pose_at(work::move_of(planned), fraction);
+        let pose = moment::pose_at(sweep_numbers::move_of(planned), fraction);
         tell_pose(pose, out)
     } else {
         255
@@ -204,8 +205,8 @@ pub extern "C" fn foldflake_gap(
     ensures { λ r. ⌜ GapTold (now («points_a» .entry)) (now («move_a» .entry)) (now («points_b» .entry)) (now («move_b» .entry)) fraction (now (out .entry)) (now (out .exit)) r ⌝ }
 {
     if (move_a.len() == 10) & (move_b.len() == 10) & (out.len() == 1) {
-        let sweep_a = work::move_of(move_a);
-        let sweep_b = work::move_of(move_b);
+        let sweep_a = sweep_numbers::move_of(move_a);
+        let sweep_b = sweep_numbers::move_of(move_b);
         let apart = moment::gap_at(points_a, sweep_a, points_b, sweep_b, fraction);
         tell_gap(apart, out)
     } else {

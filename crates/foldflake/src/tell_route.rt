@@ -1,4 +1,5 @@
 // The answer of a route, told by a number and by what is written into lent lists.
+use entries::put_contact;
 use legs::RouteAnswer;
 use legs::Stop;
 use model::Contact;
@@ -19,17 +20,6 @@ fn end_number(status: Status) -> u32
         Status::Separated => 32,
         Status::Failed => 35,
     }
-}
-
-fn put_contact(out: &mut [f32], c: Contact)
-    requires { ⌜ length (now out) ≡ 5 ⌝ }
-    ensures { λ _. ⌜ now (out .exit) ≡ contactFloats c ⌝ }
-{
-    out[0] = c.fraction;
-    out[1] = c.point.x;
-    out[2] = c.point.y;
-    out[3] = c.normal.x;
-    out[4] = c.normal.y;
 }
 
 // Leg, outline and distance calls, under a number.

@@ -5,11 +5,10 @@ use mathlib.Core.List.{List}
 use lib.Dec.{eqb, ltb}
 use lib.ListN.{length, getD, take, drop}
 use lib.Ieee.{Float, Format}
-use Rattle.model.specs.declared.Vector.{Vector}
-use Rattle.model.specs.declared.Rotation.{Rotation}
 use Rattle.model.specs.declared.Sweep.{Sweep}
 use Rattle.model.specs.declared.Counts.{Counts}
-use Rattle.model.specs.declared.Contact.{Contact}
+use Rattle.model.specs.declared.Outcome.{Outcome}
+use Rattle.model.specs.declared.Outcome.the-variants as Told
 use Rattle.model.specs.declared.SweepAnswer.{SweepAnswer}
 use Rattle.model.specs.declared.SweepAnswer.the-variants as Swept
 use Rattle.model.specs.declared.Status.{Status}
@@ -17,16 +16,14 @@ use Rattle.model.specs.declared.Status.the-variants.{Overlapped, Hit, Separated
 use Rattle.model.specs.Ground.{rotation, origin, one}
 use Rattle.model.specs.Ground as Ground
 use Rattle.model.specs.Support.{point}
-use Rattle.model.specs.SweepToi.{nowhere, sweepTimeOfImpact}
-use Rattle.model.specs.Work as Work
+use Rattle.model.specs.SweepToi.{sweepTimeOfImpact}
+use Rattle.model.specs.Corners.{noSearch}
+use Rattle.model.specs.Work.{turn, toldBy}
 use Rattle.legs.specs.declared.Stop.{Stop}
 use Rattle.legs.specs.declared.RouteAnswer.{RouteAnswer}
 use Rattle.legs.specs.declared.RouteAnswer.the-variants.{Clear, Ended, Refused, Wrong}
 
 -- ---- what moves, and past what
-abbrev pub turn : Vector → Rotation
-turn v = Work.turn v
-
 -- leg i, from 0: from waypoint i to the next, each of two pairs, its centre and its rotation
 unfoldable pub legMove : Format → List Float → ℕ → Sweep
 legMove f waypoints i = record {
@@ -70,13 +67,13 @@ callsOf (Swept.Separated c n) = n .«distance_calls»
 callsOf (Swept.Failed c n) = n .«distance_calls»
 callsOf (Swept.Refused k) = 0
 
--- with its own status and floats, or its own number; an overlap has fraction 0 and zeros
+-- with its own status and floats, or its own number; no corners are told
+abbrev pub endedWith : Stop → Outcome → RouteAnswer
+endedWith s (Told.Found v) = Ended s (v .status) (v .contact)
+endedWith s (Told.Refused k) = Refused s k
+
 abbrev pub endedBy : Format → SweepAnswer → Stop → RouteAnswer
-endedBy f (Swept.Overlapped n) s = Ended s Overlapped (nowhere f (Ground.zero f))
-endedBy f (Swept.Hit c n) s = Ended s Hit c
-endedBy f (Swept.Separated c n) s = Ended s Separated c
-endedBy f (Swept.Failed c n) s = Ended s Failed c
-endedBy f (Swept.Refused k) s = Refused s k
+endedBy f x s = endedWith s (toldBy f noSearch x)
 
 abbrev pub stop : ℕ → ℕ → ℕ → Stop
 stop leg outline calls = record { leg = leg; outline = outline; calls = calls }

@@ -1,12 +1,17 @@
 // A route: a cart goes leg by leg past still outlines, and the first sweep that is not separated ends it.
 use model::Contact;
+use model::Corners;
 use model::Counts;
+use model::NO_CORNER;
+use model::Outcome;
 use model::Rotation;
 use model::Status;
+use model::SupportPair;
 use model::Sweep;
 use model::SweepAnswer;
 use model::Vector;
 use outline::point;
+use sweep_numbers::turn;
 ghost use mathlib.Core.Path.{_≡_};
 ghost use mathlib.Core.Bool.{true, false};
 ghost use Prim.Native.Nat.{_+_, _*_, _/_, _%_, _≤_, _<_};
@@ -38,12 +43,6 @@ pub enum RouteAnswer {
     Ended(Stop, Status, Contact),
     Refused(Stop, u32),
     Wrong(u32),
-}
-
-fn turn(v: Vector) -> Rotation
-    ensures { λ r. ⌜ r ≡ Route.turn v ⌝ }
-{
-    Rotation { c: v.x, s: v.y }
 }
 
 // Leg i of the waypoints, from 0: from one to the next.
@@ -169,23 +168,29 @@ fn calls_of(answer: SweepAnswer) -> u32
     }
 }
 
-// The route's answer where a sweep ends it. An overlap has fraction 0 and zeros.
+fn ended_with(stop: Stop, outcome: Outcome) -> RouteAnswer
+    ensures { λ r. ⌜ r ≡ Route.endedWith stop outcome ⌝ }
+{
+    match outcome {
+        Outcome::Found(v) => {
+            let status = v.status;
+            let contact = v.contact;
+            RouteAnswer::Ended(stop, status, contact)
+        }
+        Outcome::Refused(number) => RouteAnswer::Refused(stop, number),
+    }
+}
+
+// The route's answer where a sweep ends it; its corners are not told.
 fn ended_by(answer: SweepAnswer, stop: Stop) -> RouteAnswer
     ensures { λ r. ⌜ r ≡ Route.endedBy binary32 answer stop ⌝ }
 {
-    let zero = Vector { x: 0.0, y: 0.0 };
-    let none = Contact {
-        fraction: 0.0,
-        point: zero,
-        normal: zero,
+    let none = SupportPair {
+        first: NO_CORNER,
+        second: NO_CORNER,
     };
-    match answer {
-        SweepAnswer::Overlapped(_) => RouteAnswer::Ended(stop, Status::Overlapped, none),
-        SweepAnswer::Hit(contact, _) => RouteAnswer::Ended(stop, Status::Hit, contact),
-        SweepAnswer::Separated(contact, _) => RouteAnswer::Ended(stop, Status::Separated, contact),
-        SweepAnswer::Failed(contact, _) => RouteAnswer::Ended(stop, Status::Failed, contact),
-        SweepAnswer::Refused(number) => RouteAnswer::Refused(stop, number),
-    }
+    let corners = Corners { a: none, b: none };
+    ended_with(stop, sweep_numbers::told_by(corners, answer))
 }
 
 // Sweep k is that of leg k / outlines past outline k % outlines, both from 0.

@@ -17,7 +17,7 @@ use Rattle.model.specs.declared.Totals.{Totals}
 use Rattle.model.specs.Work.{blockAnswer}
 use Rattle.model.specs.Sheet.{wholeAnswers, restAnswer, answers, answerLine, linesFrom, oneWorked, counted, totalsFrom}
 use Rattle.model.proofs.DistanceCall.{both}
-use Rattle.model.proofs.Sheet.{lines-append, totals-append, blocks-counted, answers-more, answers-counted}
+use Rattle.model.proofs.Sheet.{lines-append, totals-append, blocks-counted, answers-more, answers-cut}
 use Rattle.text.specs.Put.{Put}
 use Rattle.model.specs.Parts.{countLimit}
 use Rattle.lines.specs.Part.{Below, countable, fits, longestLine}
@@ -28,10 +28,7 @@ use Rattle.lines.proofs.Pieces.{length-line}
 pub below-less : {m n : ℕ} {t : Totals} → m ≤ n → Below m t → Below n t
 below-less le h =
     record {
-      blocks = omega (
-        arith,
-        h .blocks,
-      );
+      blocks = omega (arith, h .blocks);
       clear = omega (arith, h .clear);
       contact = omega (arith, h .contact);
       undecided = omega (arith, h .undecided);
@@ -42,10 +39,7 @@ below-less le h =
 pub below-more : (n : ℕ) (t : Totals) (x : BlockAnswer) → Below n t → Below (n + 1) (counted t x)
 below-more n t (Refused job number) h =
     record {
-      blocks = omega (
-        arith,
-        h .blocks,
-      );
+      blocks = omega (arith, h .blocks);
       clear = omega (arith, h .clear);
       contact = omega (arith, h .contact);
       undecided = omega (arith, h .undecided);
@@ -152,12 +146,10 @@ length-rest n rest = go (eqb rest 0)
 module _ (t₀ t : Totals) (b : List ℕ) (so-far : t ≡ totalsFrom t₀ (wholeAnswers binary32 (length b / 512) b)) where
   pub all-lines : {d₀ d d' : List ℕ} {at at' : ℕ} → Put d₀ 0 (linesFrom binary32 (t₀ .blocks) (wholeAnswers binary32 (length b / 512) b)) d at
       → Put d at (linesFrom binary32 (t .blocks) (restAnswer (length b % 512))) d' at' → Put d₀ 0 (linesFrom binary32 (t₀ .blocks) (answers binary32 b)) d' at'
-  unfolding answers
   all-lines p q =
       let xs = wholeAnswers binary32 (length b / 512) b in
       let number : t .blocks ≡ t₀ .blocks + length xs = rw so-far (blocks-counted t₀ xs) in
-      rw (lines-append binary32 (t₀ .blocks) xs (restAnswer (length b % 512)), ← number) (put-then (omega arith) p q)
+      rw (answers-cut binary32 b, lines-append binary32 (t₀ .blocks) xs (restAnswer (length b % 512)), ← number) (put-then (omega arith) p q)
 
   pub all-totals : {t' : Totals} → t' ≡ totalsFrom t (restAnswer (length b % 512)) → t' ≡ totalsFrom t₀ (answers binary32 b)
-  unfolding answers
-  all-totals e = e ∙ rw (totals-append t₀ (wholeAnswers binary32 (length b / 512) b) (restAnswer (length b % 512)), ← so-far)
+  all-totals e = e ∙ rw (answers-cut binary32 b, totals-append t₀ (wholeAnswers binary32 (length b / 512) b) (restAnswer (length b % 512)), ← so-far)

@@ -1,26 +1,13 @@
-// What an answer prints of its status, and what it adds to the totals.
+// What an answer adds to the totals.
 use model::BlockAnswer;
+use model::COUNT_LIMIT;
 use model::Status;
 use model::Totals;
 ghost use mathlib.Core.Path.{_≡_};
-ghost use Rattle.model.specs.Sheet.{letterOf, oneClear, oneContact, oneUndecided, oneRefused, oneWorked};
+ghost use Rattle.model.specs.Sheet.{oneClear, oneContact, oneUndecided, oneRefused, oneWorked};
 ghost use Rattle.model.specs.Sheet as Sheet;
 ghost use Rattle.lines.specs.Part.{Below};
 ghost use Rattle.lines.specs.Part as Part;
-
-// Totals below this can be counted on through any part without wrapping.
-const COUNT_LIMIT: u64 = 0x8000_0000_0000_0000;
-
-pub fn letter_of(status: Status) -> u8
-    ensures { λ r. ⌜ r ≡ letterOf status ⌝ }
-{
-    match status {
-        Status::Overlapped => b'O',
-        Status::Hit => b'H',
-        Status::Separated => b'S',
-        Status::Failed => b'F',
-    }
-}
 
 // Whether every total is below the limit.
 pub fn countable(t: Totals) -> bool

@@ -4,6 +4,7 @@ use crate::answer::counted;
 use crate::write::put_answer;
 use crate::write::put_total;
 use model::BlockAnswer;
+use model::PART_SIZE;
 use model::Totals;
 ghost use mathlib.Core.Path.{_≡_};
 ghost use Prim.Native.Nat.{_+_, _*_, _/_, _≤_};
@@ -19,9 +20,6 @@ ghost use Rattle.lines.specs.Part as Part;
 
 // No line is longer.
 const LONGEST_LINE: usize = 240;
-
-// A shorter part is the last one.
-const PART_SIZE: usize = 65536;
 
 // The place after what was written, the totals after it, and whether the part was the last.
 pub struct Written {

@@ -1,10 +1,10 @@
 // Whole lines: an answer's, and the last.
-use crate::answer::letter_of;
 use crate::put::put;
 use crate::put::put_contact;
 use crate::put::put_corners;
 use crate::put::put_number;
 use crate::put::put_three;
+use fields::letter_of;
 use model::BlockAnswer;
 use model::Totals;
 use model::Verdict;

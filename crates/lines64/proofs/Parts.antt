@@ -20,7 +20,7 @@ use Rattle.model64.specs.Sheet.{wholeAnswers, restAnswer, answers, answerLine, 
 use Rattle.model.specs.Sheet as Sheet
 use Rattle.bridge.proofs.Sheet.{lines-same, totals-same}
 use Rattle.model64.proofs.DistanceCall.{both}
-use Rattle.model64.proofs.Sheet.{lines-append, totals-append, blocks-counted, answers-more, answers-counted}
+use Rattle.model64.proofs.Sheet.{lines-append, totals-append, blocks-counted, answers-more, answers-cut}
 use Rattle.text.specs.Put.{Put}
 use Rattle.model.specs.Parts.{countLimit}
 use Rattle.lines64.specs.Part.{Below, countable, fits, longestLine}
@@ -31,10 +31,7 @@ use Rattle.lines64.proofs.Pieces.{length-line}
 pub below-less : {m n : ℕ} {t : Totals} → m ≤ n → Below m t → Below n t
 below-less le h =
     record {
-      blocks = omega (
-        arith,
-        h .blocks,
-      );
+      blocks = omega (arith, h .blocks);
       clear = omega (arith, h .clear);
       contact = omega (arith, h .contact);
       undecided = omega (arith, h .undecided);
@@ -45,10 +42,7 @@ below-less le h =
 pub below-more : (n : ℕ) (t : Totals) (x : BlockAnswer) → Below n t → Below (n + 1) (counted t x)
 below-more n t (Refused job number) h =
     record {
-      blocks = omega (
-        arith,
-        h .blocks,
-      );
+      blocks = omega (arith, h .blocks);
       clear = omega (arith, h .clear);
       contact = omega (arith, h .contact);
       undecided = omega (arith, h .undecided);
@@ -155,12 +149,10 @@ length-rest n rest = go (eqb rest 0)
 module _ (t₀ t : Totals) (b : List ℕ) (so-far : t ≡ totalsFrom t₀ (wholeAnswers binary64 (length b / 512) b)) where
   pub all-lines : {d₀ d d' : List ℕ} {at at' : ℕ} → Put d₀ 0 (linesFrom binary64 (t₀ .blocks) (wholeAnswers binary64 (length b / 512) b)) d at
       → Put d at (linesFrom binary64 (t .blocks) (restAnswer (length b % 512))) d' at' → Put d₀ 0 (Sheet.linesFrom binary64 (t₀ .blocks) (Sheet.answers binary64 b)) d' at'
-  unfolding answers
   all-lines p q =
       let xs = wholeAnswers binary64 (length b / 512) b in
       let number : t .blocks ≡ t₀ .blocks + length xs = rw so-far (blocks-counted t₀ xs) in
-      rw (← lines-same binary64 (t₀ .blocks) b, lines-append binary64 (t₀ .blocks) xs (restAnswer (length b % 512)), ← number) (put-then (omega arith) p q)
+      rw (← lines-same binary64 (t₀ .blocks) b, answers-cut binary64 b, lines-append binary64 (t₀ .blocks) xs (restAnswer (length b % 512)), ← number) (put-then (omega arith) p q)
 
   pub all-totals : {t' : Totals} → t' ≡ totalsFrom t (restAnswer (length b % 512)) → t' ≡ Sheet.totalsFrom t₀ (Sheet.answers binary64 b)
-  unfolding answers
-  all-totals e = e ∙ rw (← totals-same binary64 t₀ b, totals-append t₀ (wholeAnswers binary64 (length b / 512) b) (restAnswer (length b % 512)), ← so-far)
+  all-totals e = e ∙ rw (← totals-same binary64 t₀ b, answers-cut binary64 b, totals-append t₀ (wholeAnswers binary64 (length b / 512) b) (restAnswer (length b % 512)), ← so-far)

@@ -6,9 +6,8 @@ use Prim.Native.Nat.{ℕ, zero, suc, _+_, _*_, _/_, _%_, _≤_}
 use native.Mathlib.Omega.{arith}
 use borrow.Author.Tests.{eq-eqb, ne-eqb}
 use lib.Dec.{eqb, ltb}
-use lib.Ieee.{Float, binary64, toBits}
+use lib.Ieee.{binary64}
 use lib.ListN.{length, length-append}
-use Rattle.model64.specs.declared.Contact.{Contact}
 use Rattle.model.specs.declared.SupportPair.{SupportPair}
 use Rattle.model.specs.declared.Corners.{Corners}
 use Rattle.model64.specs.declared.BlockAnswer.{BlockAnswer}
@@ -21,12 +20,10 @@ use Rattle.model.specs.Separation.{noIndex}
 use Rattle.model.specs.Text.{decimalBy, decimal, hexBy, line}
 use Rattle.text.specs.Put.{number}
 use Rattle.text.proofs.Lengths.{length-number}
-use Rattle.lines64.specs.Pieces.{hexOf, three, floats, corner, pairText, cornersText}
+use Rattle.fields64.specs.Floats.{floats}
+use Rattle.fields64.proofs.Lengths.{length-floats}
+use Rattle.lines64.specs.Pieces.{three, corner, pairText, cornersText}
 use Rattle.lines64.specs.Part.{longestLine}
-
-pub length-hex : (x : Float) → length (hexOf x) ≤ 17
-unfolding hexBy
-length-hex x = omega arith
 
 pub three-is : (a b c end : ℕ) → three a b c end ≡ number a 32 ++ number b 32 ++ number c end
 unfolding three
@@ -70,10 +67,6 @@ length-pair p end =
 length-corners : (k : Corners) → length (cornersText k) ≤ 84
 unfolding cornersText
 length-corners k = rw (length-append (pairText (k .a) 32) (pairText (k .b) 10)) (omega (arith, length-pair (k .a) 32, length-pair (k .b) 10))
-
-pub length-floats : (c : Contact) → length (floats c) ≤ 85
-unfolding floats hexBy
-length-floats c = omega arith
 
 -- ---- the lines
 pub worked-is : (n job : ℕ) (v : Verdict) → workedLine binary64 n job v

@@ -3,6 +3,7 @@ use crate::answer::countable;
 use crate::answer::counted;
 use crate::write::put_answer;
 use crate::write::put_total;
+use model::PART_SIZE;
 use model::Totals;
 use model64::BlockAnswer;
 ghost use mathlib.Core.Path.{_≡_};
@@ -19,9 +20,6 @@ ghost use Rattle.lines64.specs.Part as Part;
 
 // No line is longer.
 const LONGEST_LINE: usize = 280;
-
-// A shorter part is the last one.
-const PART_SIZE: usize = 65536;
 
 // The place after what was written, the totals after it, and whether the part was the last.
 pub struct Written {

@@ -175,6 +175,12 @@ pub struct Verdict {
     pub corners: Corners,
 }
 
+// What a sweep's answer comes to: a verdict, or the number of its refusal.
+pub enum Outcome {
+    Found(Verdict),
+    Refused(u32),
+}
+
 // What a block comes to: its job with the verdict; or the job and the number of a refusal, whichever of 3 to 11 or 13 it is.
 pub enum BlockAnswer {
     Worked(u32, Verdict),

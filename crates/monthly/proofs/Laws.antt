@@ -13,8 +13,9 @@ use lib.Seq.{take-all, take-length, drop-length, drop-drop, take-suc}
 use Rattle.model.specs.declared.BlockAnswer.{BlockAnswer}
 use Rattle.model.specs.declared.BlockAnswer.the-variants.{Refused}
 use Rattle.model.specs.Work.{blockAnswer}
+use Rattle.model.specs.Blocks.{wholeBlocks}
 use Rattle.model.specs.Sheet.{wholeAnswers, restAnswer, answers}
-use Rattle.model.proofs.Sheet.{answers-more}
+use Rattle.model.proofs.Sheet.{answers-more, answers-cut}
 use Rattle.summary.specs.declared.counting.Report.{Report}
 use Rattle.summary.specs.Report.{report, counted, countedAll, together}
 use Rattle.summary.proofs.Merged.{counted-all, counted-one-by-one, report-of-both}
@@ -22,7 +23,7 @@ use Rattle.monthly.specs.Batches.{lesser, batchesIn}
 
 -- ---- blocks
 pub no-block : (r : Report) (b : List ℕ) → r ≡ countedAll r (wholeAnswers binary32 0 b)
-unfolding wholeAnswers countedAll
+unfolding wholeBlocks countedAll
 no-block r b = refl
 
 last-counted : (r so : Report) (xs : List BlockAnswer) (x : BlockAnswer) → so ≡ countedAll r xs → counted so x ≡ countedAll r (xs ++ (x ∷ []))
@@ -47,8 +48,7 @@ a-rest r rest h = rw (ne-eqb rest 0 h)
 
 pub blocks-and-rest : (r so : Report) (b : List ℕ) → so ≡ countedAll r (wholeAnswers binary32 (length b / 512) b) →
     countedAll so (restAnswer (length b % 512)) ≡ countedAll r (answers binary32 b)
-unfolding answers
-blocks-and-rest r so b is = rw is (sym (counted-all r (wholeAnswers binary32 (length b / 512) b) (restAnswer (length b % 512))))
+blocks-and-rest r so b is = rw (answers-cut binary32 b, is) (sym (counted-all r (wholeAnswers binary32 (length b / 512) b) (restAnswer (length b % 512))))
 
 -- ---- batches
 -- a batch whole

@@ -34,8 +34,10 @@ use Rattle.model.specs.Corners.{sweep}
 use Rattle.model.specs.Support.{point}
 use Rattle.model.specs.Wire.{byte}
 use Rattle.model.specs.Block.{knownForm, checkHolds, badCount, zerosHold, badFields, jobOf, blockOf, checkedBlock}
-use Rattle.model.specs.Work.{floatsAt, numbersOf, pointsA, pointsB, moveAt, sweepFor, sweepOf, toldBy, answerBy, blockAnswer}
+use Rattle.model.specs.Work.{floatsAt, numbersOf, pointsA, pointsB, moveAt, sweepFor, sweepOf, toldBy, ofJob, answerBy, blockAnswer}
+use Rattle.model.specs.Blocks.{wholeBlocks}
 use Rattle.model.specs.Sheet.{wholeAnswers, answers}
+use Rattle.model.proofs.Sheet.{answers-cut}
 use Rattle.summary.specs.Report.{everyAnswer, report}
 use Rattle.summary.proofs.Tally.{by-test}
 use Rattle.monthly.specs.Batches.{answersOf}
@@ -185,7 +187,7 @@ fair-outline b k n e =
     fair-count false true g h e = absurd (let z : _≡_ {A = ℕ} 0 1 = cc in omega arith)
     fair-count false false g h e = let some = eqb-false n 0 g in (omega (arith, some), ltb-false 16 n h)
 
-told-fair : (f : Format) (job : ℕ) (k : Corners) (x : SweepAnswer) → Fair x → NumberGiven (toldBy f job k x)
+told-fair : (f : Format) (job : ℕ) (k : Corners) (x : SweepAnswer) → Fair x → NumberGiven (ofJob job (toldBy f k x))
 told-fair f job k (Answered.Overlapped n) h = tt
 told-fair f job k (Answered.Hit c n) h = tt
 told-fair f job k (Answered.Separated c n) h = tt
@@ -203,7 +205,7 @@ unfolding sweepFor sweep
 fair-for f a b ns fa fb = fair-sweep f a (point ns 0 .x) (moveAt ns 2) b (point ns 0 .y) (moveAt ns 7) (point ns 1 .x) (point ns 1 .y) fa fb
 
 good-given : (f : Format) (b : List ℕ) → badFields b ≡ false →
-    NumberGiven (toldBy f (jobOf b) (sweepOf f b (blockOf b) .corners) (sweepOf f b (blockOf b) .answer))
+    NumberGiven (ofJob (jobOf b) (toldBy f (sweepOf f b (blockOf b) .corners) (sweepOf f b (blockOf b) .answer)))
 good-given f b e =
     let (fa, fb) = both-counts (eqb (jobOf b) 0) (badCount (byte b 4)) (badCount (byte b 5)) (not (zerosHold b)) e in
     told-fair f (jobOf b) (sweepOf f b (blockOf b) .corners) (sweepOf f b (blockOf b) .answer)
@@ -228,7 +230,7 @@ given-append [] ys p q = q
 given-append (x ∷ xs) ys p q = (p .0, given-append xs ys (p .1) q)
 
 whole-given : (f : Format) (k : ℕ) (b : List ℕ) → NumbersGiven (wholeAnswers f k b)
-unfolding wholeAnswers NumbersGiven
+unfolding wholeBlocks NumbersGiven
 whole-given f zero b = tt
 whole-given f (suc k) b = (block-given f (take 512 b), whole-given f k (drop 512 b))
 
@@ -238,8 +240,9 @@ rest-given true = tt
 rest-given false = ((omega arith, omega arith, λ h. omega arith), tt)
 
 pub file-given : (f : Format) (b : List ℕ) → NumbersGiven (answers f b)
-unfolding answers
-file-given f b = given-append (wholeAnswers f (length b / 512) b) _ (whole-given f (length b / 512) b) (rest-given (eqb (length b % 512) 0))
+file-given f b =
+    rw (answers-cut f b)
+    (given-append (wholeAnswers f (length b / 512) b) _ (whole-given f (length b / 512) b) (rest-given (eqb (length b % 512) 0)))
 
 every-given : (files : List (List ℕ)) → NumbersGiven (everyAnswer (answersOf files))
 unfolding everyAnswer answersOf NumbersGiven

@@ -8,29 +8,34 @@ use lib.Ieee.{binary32}
 use lib.ListN.{length}
 use Rattle.model.specs.declared.BlockAnswer.{BlockAnswer}
 use Rattle.model.specs.Sheet.{answers}
-use Rattle.model.specs.Parts.{partSize, Cut}
+use Rattle.model.specs.Parts.{partSize}
+use Rattle.model.specs.Parts as Parts
 use Rattle.model.proofs.Sheet.{answers-in-two-parts}
-use Rattle.model.proofs.Sheet as Sheet
+use Rattle.runs.specs.Run.{Cut, Steps}
+use Rattle.runs.proofs.Whole.{run-makes-whole}
 use Rattle.summary.specs.declared.counting.Report.{Report}
 use Rattle.summary.specs.Report.{report, countedAll, together}
 use Rattle.summary.proofs.Merged.{counted-all, counted-one-by-one, report-of-both}
-use Rattle.monthly.specs.Batches.{addedParts, answersOf, mergedFiles}
+use Rattle.monthly.specs.Batches.{added, addedParts, answersOf, mergedFiles}
 
 -- ---- a file cut into whole parts and a shorter last one is worked as a whole
-parts-added : (r : Report) (ps : List (List ℕ)) → Cut ps → addedParts r ps ≡ countedAll r (answers binary32 (Sheet.together ps))
-unfolding Cut addedParts Sheet.together
-parts-added r [] cut = absurd cut
-parts-added r (p ∷ []) cut = rw (lt-ltb _ _ cut, append-nil p)
-parts-added r (p ∷ q ∷ rest) cut =
-    let whole : length p ≡ 65536 = cut .0 in
-    let least : partSize ≤ length p = omega arith in
-    let multiple : length p % 512 ≡ 0 = rw whole in
-    let behind = Sheet.together (q ∷ rest) in
-    rw (le-ltb _ _ least, parts-added (countedAll r (answers binary32 p)) (q ∷ rest) (cut .1), answers-in-two-parts binary32 p behind multiple)
-    (sym (counted-all r (answers binary32 p) (answers binary32 behind)))
+abbrev whole : Report → List ℕ → Report
+whole r b = countedAll r (answers binary32 b)
 
-pub a-batch-in-parts : (ps : List (List ℕ)) → Cut ps → addedParts (report ([] ∷ [])) ps ≡ report (answers binary32 (Sheet.together ps) ∷ [])
-a-batch-in-parts ps cut = parts-added (report ([] ∷ [])) ps cut ∙ counted-one-by-one [] (answers binary32 (Sheet.together ps))
+module _ (none : Report) where
+  steps : Steps (λ r p. added r p .report) (λ r p. added r p .last) (λ r p. added r p .report) (λ r p later. later) none (λ r. partSize) whole (λ r b. Unit {0})
+  steps = record {
+    last = λ r p can short. rw (lt-ltb _ _ short);
+    more = λ r p rest can full.
+        let least : partSize ≤ length p = omega arith in
+        let multiple : length p % 512 ≡ 0 = rw full in
+        rw (le-ltb _ _ least, answers-in-two-parts binary32 p rest multiple) (sym (counted-all r (answers binary32 p) (answers binary32 rest)));
+    on = λ r p rest can full. tt;
+  }
+
+  pub a-batch-in-parts : (ps : List (List ℕ)) → Cut (λ r. partSize) (λ r p. added r p .report) (report ([] ∷ [])) ps
+      → addedParts (report ([] ∷ [])) ps none ≡ report (answers binary32 (Parts.together ps) ∷ [])
+  a-batch-in-parts ps cut = run-makes-whole steps (report ([] ∷ [])) ps cut tt ∙ counted-one-by-one [] (answers binary32 (Parts.together ps))
 
 -- ---- files put together in order, from the empty report on
 files-after : (done : List (List BlockAnswer)) (files : List (List ℕ)) → mergedFiles (report done) files ≡ report (done ++ answersOf files)

@@ -8,6 +8,7 @@ use lib.ListN.{take, drop}
 use Rattle.model.specs.declared.BlockAnswer.{BlockAnswer}
 use Rattle.model.specs.Sheet.{answers}
 use Rattle.model.specs.Parts.{isLast}
+use Rattle.runs.specs.Run.{run}
 use Rattle.summary.specs.declared.counting.Report.{Report}
 use Rattle.summary.specs.Report.{report, countedAll, together}
 use Rattle.monthly.specs.declared.Added.{Added}
@@ -17,9 +18,8 @@ abbrev pub added : Report → List ℕ → Added
 added r part = record { report = countedAll r (answers binary32 part); last = isLast part }
 
 -- part by part, up to the last
-unfoldable pub addedParts : Report → List (List ℕ) → Report
-addedParts r [] = r
-addedParts r (p ∷ ps) = cond (added r p .last) (added r p .report) (addedParts (added r p .report) ps)
+abbrev pub addedParts : Report → List (List ℕ) → Report → Report
+addedParts r ps none = run (λ r p. added r p .report) (λ r p. added r p .last) (λ r p. added r p .report) (λ r p later. later) none r ps
 
 -- ---- batches one behind another
 abbrev pub lesser : ℕ → ℕ → ℕ

@@ -1,4 +1,6 @@
 // Batches worked into a report: a batch part by part, and whole batches that stand in memory.
+use model::BlockAnswer;
+use model::PART_SIZE;
 use summary::Report;
 ghost use mathlib.Core.Path.{_≡_};
 ghost use Prim.Native.Nat.{_+_, _/_, _%_};
@@ -6,14 +8,8 @@ ghost use lib.ListN.{length};
 ghost use lib.Ieee.{binary32};
 ghost use Rattle.model.specs.Block.{blockSize};
 ghost use Rattle.model.specs.Sheet.{answers, wholeAnswers, restAnswer};
-ghost use Rattle.text.specs.Put.{Put};
 ghost use Rattle.summary.specs.Report.{report, countedAll};
-ghost use Rattle.report_lines.specs.Text.{textIn};
 ghost use Rattle.monthly.specs.Batches.{added, lesser, batchesIn};
-use model::BlockAnswer;
-
-// A shorter part is the last one.
-const PART_SIZE: usize = 65536;
 
 // A batch's report so far, and whether the part was its last.
 pub struct Added {
@@ -75,7 +71,7 @@ fn least(a: usize, b: usize) -> usize
 }
 
 // The report of batches that stand one behind another, with so many bytes each; where the bytes end, the batches that are left are empty.
-fn report_batches(batches: &[u8], sizes: &[u32]) -> Report
+pub fn report_batches(batches: &[u8], sizes: &[u32]) -> Report
     ensures { λ r. ⌜ r ≡ report (batchesIn (now (sizes .entry)) (now (batches .entry))) ⌝ }
 {
     let mut so_far = summary::empty();
@@ -89,12 +85,4 @@ fn report_batches(batches: &[u8], sizes: &[u32]) -> Report
         i += 1;
     }
     so_far
-}
-
-// The same as text at the start of out, and its length; nothing where out has fewer bytes than the longest report.
-pub fn write_batches(batches: &[u8], sizes: &[u32], out: &mut [u8]) -> usize
-    ensures { λ r. ⌜ Put (now (out .entry)) 0 (textIn (report (batchesIn (now (sizes .entry)) (now (batches .entry)))) (length (now (out .entry)))) (now (out .exit)) r ⌝ }
-{
-    let whole = report_batches(batches, sizes);
-    report_lines::write_report(whole, out)
 }

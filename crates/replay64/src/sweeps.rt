@@ -9,10 +9,10 @@ use crate::words::put;
 use crate::words::put_float;
 use crate::words::put_vector;
 use model::Status;
-use model64::BlockAnswer;
+use model64::Outcome;
 use model64::Verdict;
 
-fn status_number(s: Status) -> u32 {
+pub fn status_number(s: Status) -> u32 {
     match s {
         Status::Overlapped => 16,
         Status::Hit => 17,
@@ -22,13 +22,13 @@ fn status_number(s: Status) -> u32 {
 }
 
 // The kind of a row that has this answer.
-pub fn kind(answer: BlockAnswer) -> u32 {
+fn kind(answer: Outcome) -> u32 {
     match answer {
-        BlockAnswer::Worked(_, v) => {
+        Outcome::Found(v) => {
             let status = v.status;
             status_number(status)
         }
-        BlockAnswer::Refused(_, number) => number,
+        Outcome::Refused(number) => number,
     }
 }
 
@@ -49,10 +49,10 @@ pub fn answer(row: &[u8], pool: &[u8], numbers: &[f64], words: &mut Words) {
     let a = outline(numbers, pool, index(row, 0));
     let b = outline(numbers, pool, index(row, 1));
     let request = request(row, numbers);
-    let answer = work64::told(0, work64::sweep_of(a, b, &request));
+    let answer = sweep_numbers64::told(sweep_numbers64::sweep_of(a, b, &request));
     put(words, 0, kind(answer));
     match answer {
-        BlockAnswer::Worked(_, v) => put_verdict(words, v),
-        BlockAnswer::Refused(_, _) => {}
+        Outcome::Found(v) => put_verdict(words, v),
+        Outcome::Refused(_) => {}
     }
 }

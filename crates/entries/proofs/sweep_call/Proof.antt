@@ -29,7 +29,7 @@ returns : tie.Need-returns
 returns c =
     let a = c .before .before .before .before .before .before .before .before .before .before .before .before .before .before .before .args in
     let is = c .before .before .before .before .before .before .before .told .ensures
-    ∙ ap (told binary32 0) (c .before .before .before .before .before .before .before .before .sweep-of .ensures) in
+    ∙ ap (told binary32) (c .before .before .before .before .before .before .before .before .sweep-of .ensures) in
     sweep-told (a .numbers .now) (a .out .now) (a .counts .now) (a .points-a .now) (a .points-b .now) _ _ _ _
     (c .before .before .before .before .before .before .before .before .before .if1 .taken) is (c .before .before .before .before .tell-sweep .ensures)
 

@@ -1,49 +1,16 @@
--- `legs::ended_by` meets its contract, case by case. Assumes nothing.
+-- `legs::ended_by` meets its contract, by what its callees ensure. Assumes nothing.
 use borrow.Author.Needs.{needs}
 use Rattle.legs.proofs.ended_by.Statement.{statement}
 use Rattle.legs.proofs.ended_by.Tie as tie
 
-enum-told : tie.Need-enum-told
-enum-told c = search needs
+told-by-requires : tie.Need-told-by-requires
+told-by-requires c κs = search needs
 
-enum-known-answer : tie.Need-enum-known-answer
-enum-known-answer c = search needs
-
-enum-known-answer-2 : tie.Need-enum-known-answer-2
-enum-known-answer-2 c = search needs
-
-enum-known-answer-3 : tie.Need-enum-known-answer-3
-enum-known-answer-3 c = search needs
-
-enum-known-answer-4 : tie.Need-enum-known-answer-4
-enum-known-answer-4 c = search needs
+ended-with-requires : tie.Need-ended-with-requires
+ended-with-requires c κs = search needs
 
 returns : tie.Need-returns
-returns c = simp (c .enum-told .given .1)
-
-returns-2 : tie.Need-returns-2
-returns-2 c = simp (c .before .answer .given .1)
-
-returns-3 : tie.Need-returns-3
-returns-3 c = simp (c .before .answer2 .given .1)
-
-returns-4 : tie.Need-returns-4
-returns-4 c = simp (c .before .answer3 .given .1)
-
-returns-5 : tie.Need-returns-5
-returns-5 c = simp (c .before .answer4 .given .1)
+returns c = rw (c .ended-with .ensures, c .before .told-by .ensures)
 
 pub ended-by-spec : {M : Type 1} → statement M
-ended-by-spec =
-    tie.close
-    (tie.spec
-    enum-told
-    enum-known-answer
-    enum-known-answer-2
-    enum-known-answer-3
-    enum-known-answer-4
-    returns
-    returns-2
-    returns-3
-    returns-4
-    returns-5)
+ended-by-spec = tie.close (tie.spec told-by-requires ended-with-requires returns)

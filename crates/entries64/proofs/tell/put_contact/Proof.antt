@@ -1,42 +1,20 @@
--- `entries::tell::put_contact` meets its contract: every place is stored to. Assumes nothing.
-use native.Mathlib.Omega.{arith}
-use lib.ListN.{length-set}
-use Rattle.entries64.specs.Entry.{contactFloats}
-use Rattle.entries64.proofs.Filled.{stored, filled}
+-- `entries::tell::put_contact` meets its contract: a list of five takes the floats, any other stays. Assumes nothing.
+use borrow.Author.Tests.{eq-eqb, ne-eqb}
 use borrow.Author.Needs.{needs}
 use Rattle.entries64.proofs.tell.put_contact.Statement.{statement}
 use Rattle.entries64.proofs.tell.put_contact.Tie as tie
 
-slice-write-out : tie.Need-slice-write-out
-slice-write-out c = search needs
-
-slice-write-out-2 : tie.Need-slice-write-out-2
-slice-write-out-2 c = search needs
-
-slice-write-out-3 : tie.Need-slice-write-out-3
-slice-write-out-3 c = search needs
-
-slice-write-out-4 : tie.Need-slice-write-out-4
-slice-write-out-4 c = search needs
-
-slice-write-out-5 : tie.Need-slice-write-out-5
-slice-write-out-5 c = simp length-set (omega arith)
+store-contact-requires : tie.Need-store-contact-requires
+store-contact-requires c κs = search needs
 
 same-length : tie.Need-same-length
 same-length c = search needs
 
 returns : tie.Need-returns
-unfolding stored
-returns c = filled (c .args .out .now) (contactFloats (c .args .c)) (c .pre)
+returns c = rw (eq-eqb _ _ (c .before .before .before .before .if1 .taken)) (c .before .before .store-contact .ensures)
+
+returns-2 : tie.Need-returns-2
+returns-2 c = rw (ne-eqb _ _ (c .if1 .left))
 
 pub put-contact-spec : {M : Type 1} → statement M
-put-contact-spec =
-    tie.close
-    (tie.spec
-    slice-write-out
-    slice-write-out-2
-    slice-write-out-3
-    slice-write-out-4
-    slice-write-out-5
-    same-length
-    returns)
+put-contact-spec = tie.close (tie.spec store-contact-requires same-length returns returns-2)

@@ -5,7 +5,8 @@ use Prim.Native.Nat.{_≤_}
 use lib.ListN.{length}
 use Rattle.text.proofs.Pasted.{put-then}
 use Rattle.text.proofs.Lengths.{length-number, ends}
-use Rattle.lines64.proofs.Pieces.{length-three, length-floats, worked-is}
+use Rattle.fields64.proofs.Lengths.{length-floats}
+use Rattle.lines64.proofs.Pieces.{length-three, worked-is}
 use borrow.Author.Needs.{needs}
 use Rattle.lines64.proofs.write.put_worked.Statement.{statement}
 use Rattle.lines64.proofs.write.put_worked.Tie as tie
