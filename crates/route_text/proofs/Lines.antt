@@ -15,7 +15,7 @@ use Rattle.model.specs.Sheet.{letterOf}
 use Rattle.model.specs.Text.{line}
 use Rattle.text.specs.Put.{Put, number}
 use Rattle.text.proofs.Lengths.{length-number}
-use Rattle.lines.specs.Pieces.{floats}
+use Rattle.fields.specs.Floats.{floats}
 use Rattle.legs.specs.declared.Stop.{Stop}
 use Rattle.legs.specs.declared.RouteAnswer.{RouteAnswer}
 use Rattle.legs.specs.Route.{route}

@@ -73,12 +73,12 @@ fn put_ended(out: &mut [u8], stop: Stop, status: Status, contact: Contact) -> us
     requires { ⌜ Answer.longestLine ≤ length (now out) ⌝ }
     ensures { λ r. ⌜ Put (now (out .entry)) 0 (Answer.endedLine stop status contact) (now (out .exit)) r ⌝ }
 {
-    let letter = lines::letter_of(status);
+    let letter = fields::letter_of(status);
     let e1 = text::put_text(out, 0, b"0 ");
     let e2 = put_pair(out, e1, stop.leg as u64, stop.outline as u64, b' ');
     let ending = [letter, b' '];
     let e3 = text::put_text(out, e2, &ending);
-    let e4 = lines::write_contact(out, e3, contact);
+    let e4 = fields::write_contact(out, e3, contact);
     text::put_number(out, e4, stop.calls as u64, b'\n')
 }
 
