@@ -11,6 +11,7 @@ use Rattle.model.specs.Block.{jobOf, mostPoints, sumOfWords, checkedBlock}
 use Rattle.model.specs.Blocks.{isGood}
 use Rattle.model.specs.Text.{decimal, hexBy, line}
 use Rattle.wire.specs.Bytes.{wordBytes}
+use Rattle.text.specs.Put.{whereRoom}
 use Rattle.text.specs.Read.{stored}
 
 -- ---- a block of form 1
@@ -40,6 +41,14 @@ hexes (w ∷ ws) = hexBy 8 w ∷ hexes ws
 
 unfoldable pub jobLine : List ℕ → List ℕ
 jobLine b = line (decimal (jobOf b) ∷ decimal (byte b 4) ∷ decimal (byte b 5) ∷ hexes (wordsOf b (wordCount b)))
+
+-- no job's line is longer, its newline included: three numbers of 21 bytes at most, and 88 words of nine
+abbrev pub longestLine : ℕ
+longestLine = 855
+
+-- where the counts are those of outlines and there is room for the longest line
+abbrev pub lineFor : List ℕ → ℕ → ℕ → List ℕ
+lineFor b at room = cond (ltb mostPoints (byte b 4)) [] (cond (ltb mostPoints (byte b 5)) [] (whereRoom (at + longestLine) room (jobLine b)))
 
 -- ---- from the numbers of a line to a block; one that is missing counts as 0
 abbrev pub field : List ℕ → ℕ → ℕ
