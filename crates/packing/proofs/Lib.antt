@@ -1,4 +1,4 @@
-mod Held
+mod Holding
 mod Runs
 pub mod Alone
 pub mod PackRun

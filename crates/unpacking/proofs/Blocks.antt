@@ -4,16 +4,17 @@ use mathlib.Core.List.{List, [], _∷_, _++_, append-assoc, append-nil}
 use Prim.Native.Nat.{ℕ, suc, _+_, _*_, _≤_}
 use native.Mathlib.Omega.{arith}
 use native.Mathlib.Numerals.{add-one}
-use borrow.Author.Tests.{eq-eqb}
+use borrow.Author.Tests.{eq-eqb, le-ltb}
 use lib.ListN.{length, take, drop, length-drop}
 use lib.Seq.{length-take-le}
 use Rattle.model.specs.declared.CheckedBlock.{CheckedBlock}
 use Rattle.model.specs.declared.CheckedBlock.the-variants.{Good, Refused}
 use Rattle.text.specs.Put.{Put}
 use Rattle.text.proofs.Pasted.{put-then}
+use Rattle.model.specs.Wire.{byte}
 use Rattle.model.specs.Blocks.{wholeBlocks, isGood}
 use Rattle.model.proofs.Blocks.{blocks-more, blocks-counted}
-use Rattle.job_text.specs.Job.{longestLine, plainBlock}
+use Rattle.job_text.specs.Job.{longestLine, lineFor, jobLine, plainBlock}
 use Rattle.job_text.specs.Room.{refusalRoom}
 use Rattle.unpacking.specs.Unpack.{lineOr, refusalOr, unpacked, refused, lineBy, refusalBy, linesOf, refusalsOf}
 use Rattle.job_text.proofs.Lines.{length-job}
@@ -60,6 +61,10 @@ module _ (b : List ℕ) (i n : ℕ) (whole : n ≡ 512) (inside : 512 * i + 512 
   pub refusals-more : (before : ℕ) {d d₁ d₂ : List ℕ} {at e : ℕ} → Put d 0 (refusalsOf before (wholeBlocks i b)) d₁ at
       → Put d₁ at (refused (before + i + 1) x) d₂ e → Put d 0 (refusalsOf before (wholeBlocks (i + 1) b)) d₂ e
   refusals-more before p q = rw (one-refusal before) (put-then (omega arith) p q)
+
+-- where the counts are those of outlines and there is room, the line is there
+pub line-there : (b : List ℕ) (at room : ℕ) → byte b 4 ≤ 16 → byte b 5 ≤ 16 → at + longestLine ≤ room → lineFor b at room ≡ jobLine b
+line-there b at room a-most b-most fits = rw (le-ltb 16 (byte b 4) a-most, le-ltb 16 (byte b 5) b-most, le-ltb room (at + longestLine) fits)
 
 pub length-unpacked : (b : List ℕ) → length (unpacked b) ≤ longestLine
 unfolding unpacked

@@ -1,5 +1,5 @@
 -- `packing::hold` meets its contract: a store behind the line is one byte more. Assumes nothing.
-use Rattle.packing.proofs.Held.{hold-more, hold-full}
+use Rattle.packing.proofs.Holding.{hold-more, hold-full}
 use borrow.Author.Needs.{needs}
 use Rattle.packing.proofs.hold.Statement.{statement}
 use Rattle.packing.proofs.hold.Tie as tie

@@ -1,7 +1,7 @@
 -- `packing::kept` meets its contract: a text put into zeros. Assumes nothing.
 use lib.ListN.{length}
 use Rattle.text.proofs.Lengths.{roomy}
-use Rattle.packing.proofs.Held.{kept-is}
+use Rattle.packing.proofs.Holding.{kept-is}
 use borrow.Author.Needs.{needs}
 use Rattle.packing.proofs.kept.Statement.{statement}
 use Rattle.packing.proofs.kept.Tie as tie

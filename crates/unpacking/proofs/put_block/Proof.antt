@@ -1,9 +1,11 @@
 -- `unpacking::put_block` meets its contract, case by case. Assumes nothing.
 use mathlib.Core.Path.{_≡_, sym, ap, _∙_}
 use Rattle.text.proofs.Pasted.{put-nothing}
+use Rattle.text.proofs.Lengths.{roomy}
 use Rattle.model.specs.Blocks.{isGood}
 use Rattle.unpacking.specs.Unpack.{unpacked, refused}
 use Rattle.job_text.proofs.Passed.{what-passed}
+use Rattle.unpacking.proofs.Blocks.{line-there}
 use borrow.Author.Needs.{needs}
 use Rattle.unpacking.proofs.put_block.Statement.{statement}
 use Rattle.unpacking.proofs.put_block.Tie as tie
@@ -15,9 +17,7 @@ enum-told : tie.Need-enum-told
 enum-told c = search needs
 
 put-job-requires : tie.Need-put-job-requires
-put-job-requires c κs =
-    let p = what-passed _ (ap isGood (sym (c .before .before .before .check-plain .ensures) ∙ c .before .enum-told .given .1)) in
-    (search needs, p .count-a, p .count-b)
+put-job-requires c κs = search needs
 
 enum-known-number : tie.Need-enum-known-number
 enum-known-number c = search needs
@@ -34,10 +34,13 @@ same-length c = search needs
 returns : tie.Need-returns
 unfolding unpacked refused
 returns c =
-    simp (
-      ← c .before .before .before .before .before .before .check-plain .ensures,
-      c .before .before .before .before .enum-told .given .1,
-    ) (c .before .before .put-job .ensures, put-nothing _ _)
+    let told = c .before .before .before .before in
+    let checked = told .before .before in
+    let a = checked .before .before .before .before in
+    let good = sym (checked .check-plain .ensures) ∙ told .enum-told .given .1 in
+    let p = what-passed (a .args .block .now) (ap isGood good) in
+    let line = line-there (a .args .block .now) _ _ (p .count-a) (p .count-b) (a .pre .0) in
+    simp (← checked .check-plain .ensures, told .enum-told .given .1) (rw line at (c .before .before .put-job .ensures), put-nothing _ _)
 
 same-length-2 : tie.Need-same-length-2
 same-length-2 c = search needs
@@ -45,10 +48,10 @@ same-length-2 c = search needs
 returns-2 : tie.Need-returns-2
 unfolding unpacked refused
 returns-2 c =
-    simp (
-      ← c .before .before .before .before .before .before .before .check-plain .ensures,
-      c .before .before .before .before .before .number .given .1,
-    ) (put-nothing _ _, c .before .before .put-refusal .ensures)
+    let known = c .before .before .before .before .before in
+    let checked = known .before .before in
+    let told = roomy 42 (c .before .before .put-refusal .ensures) (checked .before .before .before .before .pre .1) in
+    simp (← checked .check-plain .ensures, known .number .given .1) (put-nothing _ _, told)
 
 pub put-block-spec : {M : Type 1} → statement M
 put-block-spec =
