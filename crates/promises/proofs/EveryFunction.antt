@@ -25,7 +25,9 @@ use Rattle.shapes.proofs as shapes
 use Rattle.text.proofs as text
 use Rattle.wire.proofs as wire
 use Rattle.block.proofs as block
+use Rattle.sweep_numbers.proofs as sweep_numbers
 use Rattle.work.proofs as work
+use Rattle.fields.proofs as fields
 use Rattle.lines.proofs as lines
 use Rattle.root64.proofs as root64
 use Rattle.ground64.proofs as ground64
@@ -35,16 +37,22 @@ use Rattle.simplex64.proofs as simplex64
 use Rattle.distance64.proofs as distance64
 use Rattle.separation64.proofs as separation64
 use Rattle.sweep_toi64.proofs as sweep_toi64
+use Rattle.sweep_numbers64.proofs as sweep_numbers64
 use Rattle.work64.proofs as work64
+use Rattle.fields64.proofs as fields64
 use Rattle.lines64.proofs as lines64
 use Rattle.contacts.proofs as contacts
 use Rattle.forms.proofs as forms
 use Rattle.salvaging.proofs as salvaging
 use Rattle.job_text.proofs as job_text
+use Rattle.packing.proofs as packing
+use Rattle.unpacking.proofs as unpacking
 use Rattle.summary.proofs as summary
 use Rattle.report_lines.proofs as report_lines
 use Rattle.monthly.proofs as monthly
 use Rattle.legs.proofs as legs
+use Rattle.route_line.proofs as route_line
+use Rattle.route_read.proofs as route_read
 use Rattle.route_text.proofs as route_text
 use Rattle.entries.proofs as entries
 use Rattle.entries64.proofs as entries64
@@ -54,8 +62,9 @@ use Rattle.lines.specs.declared.part.Written.{Written}
 use Rattle.lines64.specs.declared.part.Written.{Written as Written64}
 use Rattle.forms.specs.declared.Converted.{Converted}
 use Rattle.salvaging.specs.declared.Salvaged.{Salvaged}
-use Rattle.job_text.specs.declared.pack.Packed.{Packed}
-use Rattle.job_text.specs.declared.unpack.Unpacked.{Unpacked}
+use Rattle.job_text.specs.declared.job.Built.{Built}
+use Rattle.packing.specs.declared.Packed.{Packed}
+use Rattle.unpacking.specs.declared.Unpacked.{Unpacked}
 
 -- `ToiProxy`, where a contract tells its parts
 toi-proxy-by-parts : {x y : ToiProxy} → x .points ≡ y .points → x .radius ≡ y .radius → x ≡ y
@@ -76,6 +85,10 @@ converted-by-parts p0 p1 p2 p3 = λ i. record { file = p0 i; text = p1 i; blocks
 -- `Salvaged`, where a contract tells its parts
 salvaged-by-parts : {x y : Salvaged} → x .file ≡ y .file → x .text ≡ y .text → x .left ≡ y .left → x .walk ≡ y .walk → x .done ≡ y .done → x ≡ y
 salvaged-by-parts p0 p1 p2 p3 p4 = λ i. record { file = p0 i; text = p1 i; left = p2 i; walk = p3 i; done = p4 i }
+
+-- `Built`, where a contract tells its parts
+built-by-parts : {x y : Built} → x .job ≡ y .job → x .block ≡ y .block → x ≡ y
+built-by-parts p0 p1 = λ i. record { job = p0 i; block = p1 i }
 
 -- `Packed`, where a contract tells its parts
 packed-by-parts : {x y : Packed} → x .held ≡ y .held → x .at ≡ y .at → x .told ≡ y .told → x ≡ y
@@ -548,6 +561,13 @@ module _ {M : Type 1} (𝓤 : URA M) (H : Heap 𝓤) (A : Atoms 𝓤) (mem : Mem
   }
 
   -- ---- text
+  pub text-hex-digit : OneResult 𝓤 H A text.hex_digit.ended (text.hex_digit.spec 𝓤 H A mem run)
+  text-hex-digit = record {
+    clauses = text.hex_digit.clauses 𝓤 H A mem run;
+    of-contract = refl;
+    once = λ κs a g r r' v v'. told 𝓤 (λ p q. (search same-value, refl));
+  }
+
   pub text-put-hex : OneResult 𝓤 H A text.put_hex.ended (text.put_hex.spec 𝓤 H A mem run)
   text-put-hex = record {
     clauses = text.put_hex.clauses 𝓤 H A mem run;
@@ -598,10 +618,31 @@ module _ {M : Type 1} (𝓤 : URA M) (H : Heap 𝓤) (A : Atoms 𝓤) (mem : Mem
     once = λ κs a g r r' v v'. told 𝓤 (λ p q. (search same-value, refl));
   }
 
+  pub wire-word-bytes : OneResult 𝓤 H A wire.word_bytes.ended (wire.word_bytes.spec 𝓤 H A mem run)
+  wire-word-bytes = record {
+    clauses = wire.word_bytes.clauses 𝓤 H A mem run;
+    of-contract = refl;
+    once = λ κs a g r r' v v'. told 𝓤 (λ p q. (search same-value, refl));
+  }
+
   -- ---- block
+  pub block-bad-count : OneResult 𝓤 H A block.bad_count.ended (block.bad_count.spec 𝓤 H A mem run)
+  block-bad-count = record {
+    clauses = block.bad_count.clauses 𝓤 H A mem run;
+    of-contract = refl;
+    once = λ κs a g r r' v v'. told 𝓤 (λ p q. (search same-value, refl));
+  }
+
   pub block-check-block : OneResult 𝓤 H A block.check_block.ended (block.check_block.spec 𝓤 H A mem run)
   block-check-block = record {
     clauses = block.check_block.clauses 𝓤 H A mem run;
+    of-contract = refl;
+    once = λ κs a g r r' v v'. told 𝓤 (λ p q. (search same-value, refl));
+  }
+
+  pub block-good : OneResult 𝓤 H A block.good.ended (block.good.spec 𝓤 H A mem run)
+  block-good = record {
+    clauses = block.good.clauses 𝓤 H A mem run;
     of-contract = refl;
     once = λ κs a g r r' v v'. told 𝓤 (λ p q. (search same-value, refl));
   }
@@ -620,6 +661,42 @@ module _ {M : Type 1} (𝓤 : URA M) (H : Heap 𝓤) (A : Atoms 𝓤) (mem : Mem
     once = λ κs a g r r' v v'. told 𝓤 (λ p q. (search same-value, refl));
   }
 
+  -- ---- sweep_numbers
+  pub sweep-numbers-move-of : OneResult 𝓤 H A sweep_numbers.move_of.ended (sweep_numbers.move_of.spec 𝓤 H A mem run)
+  sweep-numbers-move-of = record {
+    clauses = sweep_numbers.move_of.clauses 𝓤 H A mem run;
+    of-contract = refl;
+    once = λ κs a g r r' v v'. told 𝓤 (λ p q. (search same-value, refl));
+  }
+
+  pub sweep-numbers-sweep-of : OneResult 𝓤 H A sweep_numbers.sweep_of.ended (sweep_numbers.sweep_of.spec 𝓤 H A mem run)
+  sweep-numbers-sweep-of = record {
+    clauses = sweep_numbers.sweep_of.clauses 𝓤 H A mem run;
+    of-contract = refl;
+    once = λ κs a g r r' v v'. told 𝓤 (λ p q. (search same-value, refl));
+  }
+
+  pub sweep-numbers-told : OneResult 𝓤 H A sweep_numbers.told.ended (sweep_numbers.told.spec 𝓤 H A mem run)
+  sweep-numbers-told = record {
+    clauses = sweep_numbers.told.clauses 𝓤 H A mem run;
+    of-contract = refl;
+    once = λ κs a g r r' v v'. told 𝓤 (λ p q. (search same-value, refl));
+  }
+
+  pub sweep-numbers-told-by : OneResult 𝓤 H A sweep_numbers.told_by.ended (sweep_numbers.told_by.spec 𝓤 H A mem run)
+  sweep-numbers-told-by = record {
+    clauses = sweep_numbers.told_by.clauses 𝓤 H A mem run;
+    of-contract = refl;
+    once = λ κs a g r r' v v'. told 𝓤 (λ p q. (search same-value, refl));
+  }
+
+  pub sweep-numbers-turn : OneResult 𝓤 H A sweep_numbers.turn.ended (sweep_numbers.turn.spec 𝓤 H A mem run)
+  sweep-numbers-turn = record {
+    clauses = sweep_numbers.turn.clauses 𝓤 H A mem run;
+    of-contract = refl;
+    once = λ κs a g r r' v v'. told 𝓤 (λ p q. (search same-value, refl));
+  }
+
   -- ---- work
   pub work-answer-block : OneResult 𝓤 H A work.answer_block.ended (work.answer_block.spec 𝓤 H A mem run)
   work-answer-block = record {
@@ -628,42 +705,22 @@ module _ {M : Type 1} (𝓤 : URA M) (H : Heap 𝓤) (A : Atoms 𝓤) (mem : Mem
     once = λ κs a g r r' v v'. told 𝓤 (λ p q. (search same-value, refl));
   }
 
-  pub work-move-of : OneResult 𝓤 H A work.move_of.ended (work.move_of.spec 𝓤 H A mem run)
-  work-move-of = record {
-    clauses = work.move_of.clauses 𝓤 H A mem run;
+  -- ---- fields
+  pub fields-letter-of : OneResult 𝓤 H A fields.letter_of.ended (fields.letter_of.spec 𝓤 H A mem run)
+  fields-letter-of = record {
+    clauses = fields.letter_of.clauses 𝓤 H A mem run;
     of-contract = refl;
     once = λ κs a g r r' v v'. told 𝓤 (λ p q. (search same-value, refl));
   }
 
-  pub work-sweep-of : OneResult 𝓤 H A work.sweep_of.ended (work.sweep_of.spec 𝓤 H A mem run)
-  work-sweep-of = record {
-    clauses = work.sweep_of.clauses 𝓤 H A mem run;
+  pub fields-write-contact : OneResult 𝓤 H A fields.write_contact.ended (fields.write_contact.spec 𝓤 H A mem run)
+  fields-write-contact = record {
+    clauses = fields.write_contact.clauses 𝓤 H A mem run;
     of-contract = refl;
-    once = λ κs a g r r' v v'. told 𝓤 (λ p q. (search same-value, refl));
-  }
-
-  pub work-told : OneResult 𝓤 H A work.told.ended (work.told.spec 𝓤 H A mem run)
-  work-told = record {
-    clauses = work.told.clauses 𝓤 H A mem run;
-    of-contract = refl;
-    once = λ κs a g r r' v v'. told 𝓤 (λ p q. (search same-value, refl));
+    once = λ κs a g r r' v v'. told 𝓤 (λ p q. (search same-value, each-list fields.write_contact.ended κs a v v' (search same-value depth 12)));
   }
 
   -- ---- lines
-  pub lines-letter-of : OneResult 𝓤 H A lines.letter_of.ended (lines.letter_of.spec 𝓤 H A mem run)
-  lines-letter-of = record {
-    clauses = lines.letter_of.clauses 𝓤 H A mem run;
-    of-contract = refl;
-    once = λ κs a g r r' v v'. told 𝓤 (λ p q. (search same-value, refl));
-  }
-
-  pub lines-write-contact : OneResult 𝓤 H A lines.write_contact.ended (lines.write_contact.spec 𝓤 H A mem run)
-  lines-write-contact = record {
-    clauses = lines.write_contact.clauses 𝓤 H A mem run;
-    of-contract = refl;
-    once = λ κs a g r r' v v'. told 𝓤 (λ p q. (search same-value, each-list lines.write_contact.ended κs a v v' (search same-value depth 12)));
-  }
-
   pub lines-write-line : OneResult 𝓤 H A lines.write_line.ended (lines.write_line.spec 𝓤 H A mem run)
   lines-write-line = record {
     clauses = lines.write_line.clauses 𝓤 H A mem run;
@@ -1029,6 +1086,42 @@ module _ {M : Type 1} (𝓤 : URA M) (H : Heap 𝓤) (A : Atoms 𝓤) (mem : Mem
     once = λ κs a g r r' v v'. told 𝓤 (λ p q. (search same-value, refl));
   }
 
+  -- ---- sweep_numbers64
+  pub sweep-numbers64-move-of : OneResult 𝓤 H A sweep_numbers64.move_of.ended (sweep_numbers64.move_of.spec 𝓤 H A mem run)
+  sweep-numbers64-move-of = record {
+    clauses = sweep_numbers64.move_of.clauses 𝓤 H A mem run;
+    of-contract = refl;
+    once = λ κs a g r r' v v'. told 𝓤 (λ p q. (search same-value, refl));
+  }
+
+  pub sweep-numbers64-sweep-of : OneResult 𝓤 H A sweep_numbers64.sweep_of.ended (sweep_numbers64.sweep_of.spec 𝓤 H A mem run)
+  sweep-numbers64-sweep-of = record {
+    clauses = sweep_numbers64.sweep_of.clauses 𝓤 H A mem run;
+    of-contract = refl;
+    once = λ κs a g r r' v v'. told 𝓤 (λ p q. (search same-value, refl));
+  }
+
+  pub sweep-numbers64-told : OneResult 𝓤 H A sweep_numbers64.told.ended (sweep_numbers64.told.spec 𝓤 H A mem run)
+  sweep-numbers64-told = record {
+    clauses = sweep_numbers64.told.clauses 𝓤 H A mem run;
+    of-contract = refl;
+    once = λ κs a g r r' v v'. told 𝓤 (λ p q. (search same-value, refl));
+  }
+
+  pub sweep-numbers64-told-by : OneResult 𝓤 H A sweep_numbers64.told_by.ended (sweep_numbers64.told_by.spec 𝓤 H A mem run)
+  sweep-numbers64-told-by = record {
+    clauses = sweep_numbers64.told_by.clauses 𝓤 H A mem run;
+    of-contract = refl;
+    once = λ κs a g r r' v v'. told 𝓤 (λ p q. (search same-value, refl));
+  }
+
+  pub sweep-numbers64-turn : OneResult 𝓤 H A sweep_numbers64.turn.ended (sweep_numbers64.turn.spec 𝓤 H A mem run)
+  sweep-numbers64-turn = record {
+    clauses = sweep_numbers64.turn.clauses 𝓤 H A mem run;
+    of-contract = refl;
+    once = λ κs a g r r' v v'. told 𝓤 (λ p q. (search same-value, refl));
+  }
+
   -- ---- work64
   pub work64-answer-block : OneResult 𝓤 H A work64.answer_block.ended (work64.answer_block.spec 𝓤 H A mem run)
   work64-answer-block = record {
@@ -1037,42 +1130,22 @@ module _ {M : Type 1} (𝓤 : URA M) (H : Heap 𝓤) (A : Atoms 𝓤) (mem : Mem
     once = λ κs a g r r' v v'. told 𝓤 (λ p q. (search same-value, refl));
   }
 
-  pub work64-move-of : OneResult 𝓤 H A work64.move_of.ended (work64.move_of.spec 𝓤 H A mem run)
-  work64-move-of = record {
-    clauses = work64.move_of.clauses 𝓤 H A mem run;
+  -- ---- fields64
+  pub fields64-letter-of : OneResult 𝓤 H A fields64.letter_of.ended (fields64.letter_of.spec 𝓤 H A mem run)
+  fields64-letter-of = record {
+    clauses = fields64.letter_of.clauses 𝓤 H A mem run;
     of-contract = refl;
     once = λ κs a g r r' v v'. told 𝓤 (λ p q. (search same-value, refl));
   }
 
-  pub work64-sweep-of : OneResult 𝓤 H A work64.sweep_of.ended (work64.sweep_of.spec 𝓤 H A mem run)
-  work64-sweep-of = record {
-    clauses = work64.sweep_of.clauses 𝓤 H A mem run;
+  pub fields64-write-contact : OneResult 𝓤 H A fields64.write_contact.ended (fields64.write_contact.spec 𝓤 H A mem run)
+  fields64-write-contact = record {
+    clauses = fields64.write_contact.clauses 𝓤 H A mem run;
     of-contract = refl;
-    once = λ κs a g r r' v v'. told 𝓤 (λ p q. (search same-value, refl));
-  }
-
-  pub work64-told : OneResult 𝓤 H A work64.told.ended (work64.told.spec 𝓤 H A mem run)
-  work64-told = record {
-    clauses = work64.told.clauses 𝓤 H A mem run;
-    of-contract = refl;
-    once = λ κs a g r r' v v'. told 𝓤 (λ p q. (search same-value, refl));
+    once = λ κs a g r r' v v'. told 𝓤 (λ p q. (search same-value, each-list fields64.write_contact.ended κs a v v' (search same-value depth 12)));
   }
 
   -- ---- lines64
-  pub lines64-letter-of : OneResult 𝓤 H A lines64.letter_of.ended (lines64.letter_of.spec 𝓤 H A mem run)
-  lines64-letter-of = record {
-    clauses = lines64.letter_of.clauses 𝓤 H A mem run;
-    of-contract = refl;
-    once = λ κs a g r r' v v'. told 𝓤 (λ p q. (search same-value, refl));
-  }
-
-  pub lines64-write-contact : OneResult 𝓤 H A lines64.write_contact.ended (lines64.write_contact.spec 𝓤 H A mem run)
-  lines64-write-contact = record {
-    clauses = lines64.write_contact.clauses 𝓤 H A mem run;
-    of-contract = refl;
-    once = λ κs a g r r' v v'. told 𝓤 (λ p q. (search same-value, each-list lines64.write_contact.ended κs a v v' (search same-value depth 12)));
-  }
-
   pub lines64-write-line : OneResult 𝓤 H A lines64.write_line.ended (lines64.write_line.spec 𝓤 H A mem run)
   lines64-write-line = record {
     clauses = lines64.write_line.clauses 𝓤 H A mem run;
@@ -1093,13 +1166,6 @@ module _ {M : Type 1} (𝓤 : URA M) (H : Heap 𝓤) (A : Atoms 𝓤) (mem : Mem
     clauses = contacts.search_part.clauses 𝓤 H A mem run;
     of-contract = refl;
     once = λ κs a g r r' v v'. told 𝓤 (λ p q. (search same-value, refl));
-  }
-
-  pub contacts-write-first-contact : OneResult 𝓤 H A contacts.write_first_contact.ended (contacts.write_first_contact.spec 𝓤 H A mem run)
-  contacts-write-first-contact = record {
-    clauses = contacts.write_first_contact.clauses 𝓤 H A mem run;
-    of-contract = refl;
-    once = λ κs a g r r' v v'. told 𝓤 (λ p q. (search same-value, each-list contacts.write_first_contact.ended κs a v v' (search same-value depth 12)));
   }
 
   pub contacts-write-found : OneResult 𝓤 H A contacts.write_found.ended (contacts.write_found.spec 𝓤 H A mem run)
@@ -1147,39 +1213,83 @@ module _ {M : Type 1} (𝓤 : URA M) (H : Heap 𝓤) (A : Atoms 𝓤) (mem : Mem
     once = λ κs a g r r' v v'. told 𝓤 (λ p q. (search same-value, refl));
   }
 
-  pub job-text-no-line : OneResult 𝓤 H A job_text.no_line.ended (job_text.no_line.spec 𝓤 H A mem run)
-  job-text-no-line = record {
-    clauses = job_text.no_line.clauses 𝓤 H A mem run;
+  pub job-text-job-block : OneResult 𝓤 H A job_text.job_block.ended (job_text.job_block.spec 𝓤 H A mem run)
+  job-text-job-block = record {
+    clauses = job_text.job_block.clauses 𝓤 H A mem run;
+    of-contract = refl;
+    once = λ κs a g r r' v v'. told 𝓤 (λ p q. (search (same-value, built-by-parts), refl));
+  }
+
+  pub job-text-least : OneResult 𝓤 H A job_text.least.ended (job_text.least.spec 𝓤 H A mem run)
+  job-text-least = record {
+    clauses = job_text.least.clauses 𝓤 H A mem run;
     of-contract = refl;
     once = λ κs a g r r' v v'. told 𝓤 (λ p q. (search same-value, refl));
   }
 
-  pub job-text-pack-part : OneResult 𝓤 H A job_text.pack_part.ended (job_text.pack_part.spec 𝓤 H A mem run)
-  job-text-pack-part = record {
-    clauses = job_text.pack_part.clauses 𝓤 H A mem run;
+  pub job-text-put-job : OneResult 𝓤 H A job_text.put_job.ended (job_text.put_job.spec 𝓤 H A mem run)
+  job-text-put-job = record {
+    clauses = job_text.put_job.clauses 𝓤 H A mem run;
     of-contract = refl;
-    once = λ κs a g r r' v v'. told-in-two 𝓤 (λ p q. (search (same-value, packed-by-parts), each-list job_text.pack_part.ended κs a v v' (search same-value depth 12)));
+    once = λ κs a g r r' v v'. told 𝓤 (λ p q. (search same-value, each-list job_text.put_job.ended κs a v v' (search same-value depth 12)));
   }
 
-  pub job-text-tell-last : OneResult 𝓤 H A job_text.tell_last.ended (job_text.tell_last.spec 𝓤 H A mem run)
-  job-text-tell-last = record {
-    clauses = job_text.tell_last.clauses 𝓤 H A mem run;
+  pub job-text-put-refusal : OneResult 𝓤 H A job_text.put_refusal.ended (job_text.put_refusal.spec 𝓤 H A mem run)
+  job-text-put-refusal = record {
+    clauses = job_text.put_refusal.clauses 𝓤 H A mem run;
     of-contract = refl;
-    once = λ κs a g r r' v v'. told 𝓤 (λ p q. (search same-value, each-list job_text.tell_last.ended κs a v v' (search same-value depth 12)));
+    once = λ κs a g r r' v v'. told 𝓤 (λ p q. (search same-value, each-list job_text.put_refusal.ended κs a v v' (search same-value depth 12)));
   }
 
-  pub job-text-tell-rest : OneResult 𝓤 H A job_text.tell_rest.ended (job_text.tell_rest.spec 𝓤 H A mem run)
-  job-text-tell-rest = record {
-    clauses = job_text.tell_rest.clauses 𝓤 H A mem run;
+  pub job-text-tell-refusal : OneResult 𝓤 H A job_text.tell_refusal.ended (job_text.tell_refusal.spec 𝓤 H A mem run)
+  job-text-tell-refusal = record {
+    clauses = job_text.tell_refusal.clauses 𝓤 H A mem run;
     of-contract = refl;
-    once = λ κs a g r r' v v'. told 𝓤 (λ p q. (search same-value, each-list job_text.tell_rest.ended κs a v v' (search same-value depth 12)));
+    once = λ κs a g r r' v v'. told 𝓤 (λ p q. (search same-value, each-list job_text.tell_refusal.ended κs a v v' (search same-value depth 12)));
   }
 
-  pub job-text-unpack-part : OneResult 𝓤 H A job_text.unpack_part.ended (job_text.unpack_part.spec 𝓤 H A mem run)
-  job-text-unpack-part = record {
-    clauses = job_text.unpack_part.clauses 𝓤 H A mem run;
+  pub job-text-used-of : OneResult 𝓤 H A job_text.used_of.ended (job_text.used_of.spec 𝓤 H A mem run)
+  job-text-used-of = record {
+    clauses = job_text.used_of.clauses 𝓤 H A mem run;
     of-contract = refl;
-    once = λ κs a g r r' v v'. told-in-two 𝓤 (λ p q. (search (same-value, unpacked-by-parts), each-list job_text.unpack_part.ended κs a v v' (search same-value depth 12)));
+    once = λ κs a g r r' v v'. told 𝓤 (λ p q. (search same-value, refl));
+  }
+
+  -- ---- packing
+  pub packing-no-line : OneResult 𝓤 H A packing.no_line.ended (packing.no_line.spec 𝓤 H A mem run)
+  packing-no-line = record {
+    clauses = packing.no_line.clauses 𝓤 H A mem run;
+    of-contract = refl;
+    once = λ κs a g r r' v v'. told 𝓤 (λ p q. (search same-value, refl));
+  }
+
+  pub packing-pack-part : OneResult 𝓤 H A packing.pack_part.ended (packing.pack_part.spec 𝓤 H A mem run)
+  packing-pack-part = record {
+    clauses = packing.pack_part.clauses 𝓤 H A mem run;
+    of-contract = refl;
+    once = λ κs a g r r' v v'. told-in-two 𝓤 (λ p q. (search (same-value, packed-by-parts), each-list packing.pack_part.ended κs a v v' (search same-value depth 12)));
+  }
+
+  pub packing-tell-last : OneResult 𝓤 H A packing.tell_last.ended (packing.tell_last.spec 𝓤 H A mem run)
+  packing-tell-last = record {
+    clauses = packing.tell_last.clauses 𝓤 H A mem run;
+    of-contract = refl;
+    once = λ κs a g r r' v v'. told 𝓤 (λ p q. (search same-value, each-list packing.tell_last.ended κs a v v' (search same-value depth 12)));
+  }
+
+  -- ---- unpacking
+  pub unpacking-tell-rest : OneResult 𝓤 H A unpacking.tell_rest.ended (unpacking.tell_rest.spec 𝓤 H A mem run)
+  unpacking-tell-rest = record {
+    clauses = unpacking.tell_rest.clauses 𝓤 H A mem run;
+    of-contract = refl;
+    once = λ κs a g r r' v v'. told 𝓤 (λ p q. (search same-value, each-list unpacking.tell_rest.ended κs a v v' (search same-value depth 12)));
+  }
+
+  pub unpacking-unpack-part : OneResult 𝓤 H A unpacking.unpack_part.ended (unpacking.unpack_part.spec 𝓤 H A mem run)
+  unpacking-unpack-part = record {
+    clauses = unpacking.unpack_part.clauses 𝓤 H A mem run;
+    of-contract = refl;
+    once = λ κs a g r r' v v'. told-in-two 𝓤 (λ p q. (search (same-value, unpacked-by-parts), each-list unpacking.unpack_part.ended κs a v v' (search same-value depth 12)));
   }
 
   -- ---- summary
@@ -1227,11 +1337,11 @@ module _ {M : Type 1} (𝓤 : URA M) (H : Heap 𝓤) (A : Atoms 𝓤) (mem : Mem
     once = λ κs a g r r' v v'. told 𝓤 (λ p q. (search same-value, refl));
   }
 
-  pub monthly-write-batches : OneResult 𝓤 H A monthly.write_batches.ended (monthly.write_batches.spec 𝓤 H A mem run)
-  monthly-write-batches = record {
-    clauses = monthly.write_batches.clauses 𝓤 H A mem run;
+  pub monthly-report-batches : OneResult 𝓤 H A monthly.report_batches.ended (monthly.report_batches.spec 𝓤 H A mem run)
+  monthly-report-batches = record {
+    clauses = monthly.report_batches.clauses 𝓤 H A mem run;
     of-contract = refl;
-    once = λ κs a g r r' v v'. told 𝓤 (λ p q. (search same-value, each-list monthly.write_batches.ended κs a v v' (search same-value depth 12)));
+    once = λ κs a g r r' v v'. told 𝓤 (λ p q. (search same-value, refl));
   }
 
   -- ---- legs
@@ -1242,21 +1352,44 @@ module _ {M : Type 1} (𝓤 : URA M) (H : Heap 𝓤) (A : Atoms 𝓤) (mem : Mem
     once = λ κs a g r r' v v'. told 𝓤 (λ p q. (search same-value, refl));
   }
 
-  -- ---- route_text
-  pub route-text-no-text : OneResult 𝓤 H A route_text.no_text.ended (route_text.no_text.spec 𝓤 H A mem run)
-  route-text-no-text = record {
-    clauses = route_text.no_text.clauses 𝓤 H A mem run;
+  -- ---- route_line
+  pub route-line-is-route : OneResult 𝓤 H A route_line.is_route.ended (route_line.is_route.spec 𝓤 H A mem run)
+  route-line-is-route = record {
+    clauses = route_line.is_route.clauses 𝓤 H A mem run;
     of-contract = refl;
     once = λ κs a g r r' v v'. told 𝓤 (λ p q. (search same-value, refl));
   }
 
-  pub route-text-read-part : OneResult 𝓤 H A route_text.read_part.ended (route_text.read_part.spec 𝓤 H A mem run)
-  route-text-read-part = record {
-    clauses = route_text.read_part.clauses 𝓤 H A mem run;
+  pub route-line-line-after : OneResult 𝓤 H A route_line.line_after.ended (route_line.line_after.spec 𝓤 H A mem run)
+  route-line-line-after = record {
+    clauses = route_line.line_after.clauses 𝓤 H A mem run;
     of-contract = refl;
-    once = λ κs a g r r' v v'. told 𝓤 (λ p q. (search same-value, each-list route_text.read_part.ended κs a v v' (search same-value depth 12)));
+    once = λ κs a g r r' v v'. told 𝓤 (λ p q. (search same-value, refl));
   }
 
+  -- ---- route_read
+  pub route-read-next-line : OneResult 𝓤 H A route_read.next_line.ended (route_read.next_line.spec 𝓤 H A mem run)
+  route-read-next-line = record {
+    clauses = route_read.next_line.clauses 𝓤 H A mem run;
+    of-contract = refl;
+    once = λ κs a g r r' v v'. told 𝓤 (λ p q. (search same-value, refl));
+  }
+
+  pub route-read-no-text : OneResult 𝓤 H A route_read.no_text.ended (route_read.no_text.spec 𝓤 H A mem run)
+  route-read-no-text = record {
+    clauses = route_read.no_text.clauses 𝓤 H A mem run;
+    of-contract = refl;
+    once = λ κs a g r r' v v'. told 𝓤 (λ p q. (search same-value, refl));
+  }
+
+  pub route-read-read-part : OneResult 𝓤 H A route_read.read_part.ended (route_read.read_part.spec 𝓤 H A mem run)
+  route-read-read-part = record {
+    clauses = route_read.read_part.clauses 𝓤 H A mem run;
+    of-contract = refl;
+    once = λ κs a g r r' v v'. told 𝓤 (λ p q. (search same-value, each-list route_read.read_part.ended κs a v v' (search same-value depth 12)));
+  }
+
+  -- ---- route_text
   pub route-text-write-answer : OneResult 𝓤 H A route_text.write_answer.ended (route_text.write_answer.spec 𝓤 H A mem run)
   route-text-write-answer = record {
     clauses = route_text.write_answer.clauses 𝓤 H A mem run;
@@ -1279,6 +1412,13 @@ module _ {M : Type 1} (𝓤 : URA M) (H : Heap 𝓤) (A : Atoms 𝓤) (mem : Mem
     once = λ κs a g r r' v v'. told 𝓤 (λ p q. (search same-value, refl));
   }
 
+  pub entries-put-contact : OneResult 𝓤 H A entries.put_contact.ended (entries.put_contact.spec 𝓤 H A mem run)
+  entries-put-contact = record {
+    clauses = entries.put_contact.clauses 𝓤 H A mem run;
+    of-contract = refl;
+    once = λ κs a g r r' v v'. told 𝓤 (λ p q. (search same-value, each-list entries.put_contact.ended κs a v v' (search same-value depth 12)));
+  }
+
   pub entries-sweep-call : OneResult 𝓤 H A entries.sweep_call.ended (entries.sweep_call.spec 𝓤 H A mem run)
   entries-sweep-call = record {
     clauses = entries.sweep_call.clauses 𝓤 H A mem run;
@@ -1299,6 +1439,13 @@ module _ {M : Type 1} (𝓤 : URA M) (H : Heap 𝓤) (A : Atoms 𝓤) (mem : Mem
     clauses = entries64.pose_of.clauses 𝓤 H A mem run;
     of-contract = refl;
     once = λ κs a g r r' v v'. told 𝓤 (λ p q. (search same-value, refl));
+  }
+
+  pub entries64-put-contact : OneResult 𝓤 H A entries64.put_contact.ended (entries64.put_contact.spec 𝓤 H A mem run)
+  entries64-put-contact = record {
+    clauses = entries64.put_contact.clauses 𝓤 H A mem run;
+    of-contract = refl;
+    once = λ κs a g r r' v v'. told 𝓤 (λ p q. (search same-value, each-list entries64.put_contact.ended κs a v v' (search same-value depth 12)));
   }
 
   pub entries64-sweep-call : OneResult 𝓤 H A entries64.sweep_call.ended (entries64.sweep_call.spec 𝓤 H A mem run)
