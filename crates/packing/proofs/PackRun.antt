@@ -15,7 +15,30 @@ use Rattle.text.specs.Put.{pasted}
 use Rattle.packing.specs.declared.Held.{Held}
 use Rattle.job_text.specs.Room.{refusalRoom}
 use Rattle.job_text.specs.Job.{longestLine}
-use Rattle.packing.specs.Pack.{packed, complaint, Run, longer, lineEnded, lineOn, byteMore, runOver, heldOf, heldAfter, fresh, usedBytes, runIn, unfinished, packOut, packTold, nextHeld, isLast, writeBy, tellBy, outBy, toldBy}
+use Rattle.packing.specs.Pack.{
+  packed,
+  complaint,
+  Run,
+  longer,
+  lineEnded,
+  lineOn,
+  byteMore,
+  runOver,
+  heldOf,
+  heldAfter,
+  fresh,
+  usedBytes,
+  runIn,
+  unfinished,
+  packOut,
+  packTold,
+  nextHeld,
+  isLast,
+  writeBy,
+  tellBy,
+  outBy,
+  toldBy,
+}
 use Rattle.packing.proofs.Runs.{starting, run-append}
 
 -- a run behind what another has written
@@ -152,3 +175,8 @@ module _ (size room errRoom : ℕ) (blocks : size ≤ room / 512) (refusals : si
   pub run-packs-whole : (ps : List (List ℕ)) → Cut partRoom (nextHeld size room errRoom) start ps → length (together ps) < countLimit
       → (outBy size room errRoom start ps ≡ packOut (together ps)) × (toldBy size room errRoom start ps ≡ packTold (together ps))
   run-packs-whole ps cut small = (run-makes-whole out-steps start ps cut (omega (arith, small)), run-makes-whole told-steps start ps cut (omega (arith, small)))
+
+-- as `pack` has it: parts of 128 bytes, and a large buffer for either text
+pub pack-run : (ps : List (List ℕ)) → Cut (λ (h : Held). 128) (nextHeld 128 65536 65536) (heldOf [] 0) ps → length (together ps) < countLimit
+    → (outBy 128 65536 65536 (heldOf [] 0) ps ≡ packOut (together ps)) × (toldBy 128 65536 65536 (heldOf [] 0) ps ≡ packTold (together ps))
+pack-run = run-packs-whole 128 65536 65536 (omega arith) (omega arith) (omega arith)

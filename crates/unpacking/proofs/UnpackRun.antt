@@ -124,3 +124,8 @@ module _ (size room errRoom : ℕ) (whole : size % 512 ≡ 0) (lines : size / 51
   pub run-unpacks-whole : (ps : List (List ℕ)) → Cut partRoom (nextCount size room errRoom) 0 ps → length (together ps) < countLimit
       → (outBy size room errRoom 0 ps ≡ unpackOut (together ps)) × (toldBy size room errRoom 0 ps ≡ unpackTold (together ps))
   run-unpacks-whole ps cut small = (run-makes-whole out-steps 0 ps cut (omega (arith, small)), run-makes-whole told-steps 0 ps cut (omega (arith, small)))
+
+-- as `unpack` has it: parts of 76 blocks, and a large buffer for either text
+pub unpack-run : (ps : List (List ℕ)) → Cut (λ (n : ℕ). 38912) (nextCount 38912 65536 65536) 0 ps → length (together ps) < countLimit
+    → (outBy 38912 65536 65536 0 ps ≡ unpackOut (together ps)) × (toldBy 38912 65536 65536 0 ps ≡ unpackTold (together ps))
+unpack-run = run-unpacks-whole 38912 65536 65536 refl (omega arith) (omega arith) (omega arith)
