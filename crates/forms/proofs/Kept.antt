@@ -1,17 +1,17 @@
 -- A converted file has the other forms of the blocks that are not refused, in order and no others; converted again, it has those blocks. Assumes
 -- nothing.
 use mathlib.Core.Path.{_≡_, refl, sym, ap, _∙_}
-use mathlib.Core.Bool.{Bool, true, false, cond, _&&_, true≢false}
+use mathlib.Core.Bool.{Bool, true, false, cond}
 use mathlib.Core.List.{List, [], _∷_, _++_, map}
-use Prim.Native.Nat.{ℕ, zero, suc, _+_, _*_, _/_, _%_, _≤_}
+use Prim.Native.Nat.{ℕ, _+_, _*_}
 use native.Mathlib.Omega.{arith}
-use borrow.Author.Tests.{eqb-true, eq-eqb}
-use lib.Dec.{eqb}
-use lib.ListN.{length, take, drop, length-append}
-use lib.Seq.{take-at, drop-at, drop-drop}
-use Rattle.model.specs.Block.{checkedBlock}
+use borrow.Author.Tests.{eq-eqb}
+use lib.ListN.{length, length-append}
+use Rattle.model.specs.Blocks.{wholeBlocks, blocks, isGood, passes}
+use Rattle.model.specs.Parts.{together}
+use Rattle.model.proofs.Blocks.{block-first, whole-if-passes, good-if-passes}
 use Rattle.forms.specs.Forms.{otherForm}
-use Rattle.forms.specs.Convert.{wholeBlocks, blocks, isGood, passes, converted, toldFrom}
+use Rattle.forms.specs.Convert.{converted, toldFrom}
 use Rattle.forms.proofs.Twice.{Bytes, other-size}
 use Rattle.forms.proofs.SameLine.{other-checked, twice}
 
@@ -19,33 +19,6 @@ use Rattle.forms.proofs.SameLine.{other-checked, twice}
 unfoldable pub kept : List (List ℕ) → List (List ℕ)
 kept [] = []
 kept (x ∷ xs) = cond (passes x) (x ∷ kept xs) (kept xs)
-
--- ---- a whole block in front
-abbrev cutBy : ℕ → ℕ → List ℕ → List (List ℕ)
-cutBy k rest b = wholeBlocks k b ++ cond (eqb rest 0) [] (drop (512 * k) b ∷ [])
-
-pub block-first : (y r : List ℕ) → length y ≡ 512 → blocks (y ++ r) ≡ y ∷ blocks r
-unfolding blocks wholeBlocks
-block-first y r h =
-    let k = length r / 512 in
-    let count : length (y ++ r) / 512 ≡ suc k = rw length-append (omega (arith, h)) in
-    let rest : length (y ++ r) % 512 ≡ length r % 512 = rw length-append (omega (arith, h)) in
-    let place : 512 * suc k ≡ 512 + 512 * k = omega arith in
-    let behind : drop (512 * suc k) (y ++ r) ≡ drop (512 * k) r =
-    ap (λ (n : ℕ). drop n (y ++ r)) place ∙ sym (drop-drop (512 * k) 512 (y ++ r)) ∙ ap (drop (512 * k)) (drop-at y r 512 h) in
-    ap (λ (n : ℕ). cutBy n (length (y ++ r) % 512) (y ++ r)) count ∙ ap (λ (n : ℕ). cutBy (suc k) n (y ++ r)) rest
-    ∙ rw (behind, take-at y r 512 h, drop-at y r 512 h)
-
-both : (s g : Bool) → (s && g) ≡ true → (s ≡ true) × (g ≡ true)
-both true true e = (refl, refl)
-both true false e = absurd (true≢false (sym e))
-both false g e = absurd (true≢false (sym e))
-
-pub whole-if-passes : (x : List ℕ) → passes x ≡ true → length x ≡ 512
-whole-if-passes x e = eqb-true (length x) 512 (both (eqb (length x) 512) (isGood (checkedBlock x)) e .0)
-
-pub good-if-passes : (x : List ℕ) → passes x ≡ true → isGood (checkedBlock x) ≡ true
-good-if-passes x e = both (eqb (length x) 512) (isGood (checkedBlock x)) e .1
 
 -- cut into blocks, what was written is the other forms of those kept
 pub converted-in-order : (xs : List (List ℕ)) → blocks (converted xs) ≡ map otherForm (kept xs)
@@ -76,31 +49,28 @@ other-passes x e =
     let good = good-if-passes x e in
     rw (eq-eqb (length (otherForm x)) 512 (other-size x size)) (ap isGood (other-checked x size good) ∙ good)
 
-unfoldable pub joined : List (List ℕ) → List ℕ
-joined [] = []
-joined (x ∷ xs) = x ++ joined xs
-
 -- every byte of every block is one
 unfoldable pub AllBytes : List (List ℕ) → Type 0
 AllBytes [] = Unit {0}
 AllBytes (x ∷ xs) = Bytes x × AllBytes xs
 
 module _ (x : List ℕ) (rest : List (List ℕ)) where
-  turned-back : Bytes x → converted (map otherForm rest) ≡ joined rest → passes x ≡ true → converted (otherForm x ∷ map otherForm rest) ≡ joined (x ∷ rest)
-  unfolding converted joined
+  turned-back : Bytes x → converted (map otherForm rest) ≡ together rest → passes x ≡ true
+      → converted (otherForm x ∷ map otherForm rest) ≡ together (x ∷ rest)
+  unfolding converted together
   turned-back bytes so-far e = rw (other-passes x e, so-far, twice x (whole-if-passes x e) (good-if-passes x e) bytes)
 
   nothing-told : (n : ℕ) → toldFrom (n + 1) (map otherForm rest) ≡ [] → passes x ≡ true → toldFrom n (otherForm x ∷ map otherForm rest) ≡ []
   unfolding toldFrom
   nothing-told n so-far e = rw (other-passes x e, so-far)
 
-back : (xs : List (List ℕ)) → AllBytes xs → converted (map otherForm (kept xs)) ≡ joined (kept xs)
-unfolding converted joined kept AllBytes
+back : (xs : List (List ℕ)) → AllBytes xs → converted (map otherForm (kept xs)) ≡ together (kept xs)
+unfolding converted together kept AllBytes
 back [] bytes = refl
 back (x ∷ xs) bytes = one (back xs (bytes .1)) (passes x) refl
   where
-    one : converted (map otherForm (kept xs)) ≡ joined (kept xs) → (t : Bool) → passes x ≡ t
-        → converted (map otherForm (cond t (x ∷ kept xs) (kept xs))) ≡ joined (cond t (x ∷ kept xs) (kept xs))
+    one : converted (map otherForm (kept xs)) ≡ together (kept xs) → (t : Bool) → passes x ≡ t
+        → converted (map otherForm (cond t (x ∷ kept xs) (kept xs))) ≡ together (cond t (x ∷ kept xs) (kept xs))
     one so-far true e = turned-back x (kept xs) (bytes .0) so-far e
     one so-far false e = so-far
 
@@ -115,7 +85,7 @@ silent n (x ∷ xs) = one (silent (n + 1) xs) (silent n xs) (passes x) refl
     one later so-far false e = so-far
 
 -- a converted file converted again has the blocks that were not refused, as they were, and nothing is told
-pub two-runs : (xs : List (List ℕ)) → AllBytes xs → converted (blocks (converted xs)) ≡ joined (kept xs)
+pub two-runs : (xs : List (List ℕ)) → AllBytes xs → converted (blocks (converted xs)) ≡ together (kept xs)
 two-runs xs bytes = ap converted (converted-in-order xs) ∙ back xs bytes
 
 pub second-run-silent : (n : ℕ) (xs : List (List ℕ)) → toldFrom n (blocks (converted xs)) ≡ []

@@ -5,18 +5,21 @@ use mathlib.Core.List.{List, [], _∷_, _++_, append-assoc, append-nil}
 use Prim.Native.Nat.{ℕ, zero, suc, _+_, _-_, _*_, _/_, _%_, _^_, _≤_, _<_}
 use native.Mathlib.Omega.{arith}
 use native.Mathlib.Numerals.{add-one}
-use borrow.Author.Tests.{leb-true, ltb-true, eq-eqb, ne-eqb}
-use lib.Dec.{eqb, leb, ltb}
-use lib.ListN.{length, take, drop, set, getD, length-set, length-append, length-drop}
-use lib.Seq.{drop-drop, drop-length, take-length, length-take-le, getD-set-same}
+use borrow.Author.Tests.{leb-true, ltb-true, eq-eqb}
+use lib.Dec.{leb, ltb}
+use lib.ListN.{length, take, drop, set, length-set, length-drop}
+use lib.Seq.{drop-length, take-length, length-take-le, getD-set-same}
 use Rattle.model.specs.Wire.{byte}
 use Rattle.model.specs.Block.{sumBefore, checkedBlock}
+use Rattle.model.specs.Blocks.{wholeBlocks, blocks, isGood, passes}
 use Rattle.model.specs.Parts.{countLimit}
+use Rattle.model.proofs.Blocks.{blocks-more, blocks-counted, restOf, all-whole, rest-last, rest-refused}
+use Rattle.block.proofs.Passed.{both-true}
 use Rattle.text.specs.Put.{Put, whereRoom, number}
 use Rattle.text.proofs.Pasted.{put-then}
 use Rattle.text.proofs.Lengths.{length-number, ends, roomy}
 use Rattle.forms.specs.Forms.{withCheck, otherNumber, fittingCheck, sealed, otherForm}
-use Rattle.forms.specs.Convert.{wholeBlocks, blocks, isGood, passes, converted, toldFrom, fits}
+use Rattle.forms.specs.Convert.{converted, toldFrom, fileBy, textBy, fits}
 
 -- ---- the other form, as it is made
 pub copied : (b z : List ℕ) → length b ≡ 512 → length z ≡ 512 → take (length b) b ++ drop (length b) z ≡ b
@@ -49,18 +52,6 @@ put-turned {d} {d'} {k} {e} b t room h same p =
     rw (← same) (roomy (length t) p (omega (arith, room, size)))
 
 -- ---- one block more, at the end
-pub blocks-more : (k : ℕ) (b : List ℕ) → wholeBlocks (suc k) b ≡ wholeBlocks k b ++ (take 512 (drop (512 * k) b) ∷ [])
-unfolding wholeBlocks
-blocks-more zero b = refl
-blocks-more (suc k) b =
-    let e : 512 + 512 * k ≡ 512 * suc k = omega arith in
-    ap (λ (l : List (List ℕ)). take 512 b ∷ l) (blocks-more k (drop 512 b) ∙ rw (drop-drop (512 * k) 512 b, e))
-
-pub blocks-counted : (k : ℕ) (b : List ℕ) → length (wholeBlocks k b) ≡ k
-unfolding wholeBlocks
-blocks-counted zero b = refl
-blocks-counted (suc k) b = ap suc (blocks-counted k (drop 512 b))
-
 pub converted-append : (xs ys : List (List ℕ)) → converted (xs ++ ys) ≡ converted xs ++ converted ys
 unfolding converted
 converted-append [] ys = refl
@@ -87,82 +78,61 @@ module _ (b : List ℕ) (before i size : ℕ) (whole : size ≡ 512) (inside : 5
   more : wholeBlocks (i + 1) b ≡ wholeBlocks i b ++ (x ∷ [])
   more = rw (add-one i, whole) (blocks-more i b)
 
-  one-converted : converted (wholeBlocks (i + 1) b) ≡ converted (wholeBlocks i b) ++ cond (isGood (checkedBlock x)) (otherForm x) []
+  one-converted : converted (wholeBlocks (i + 1) b) ≡ converted (wholeBlocks i b) ++ fileBy x
   unfolding converted
   one-converted = ap converted more ∙ converted-append (wholeBlocks i b) (x ∷ []) ∙ rw (passes-if-good, append-nil)
 
-  one-told : toldFrom before (wholeBlocks (i + 1) b) ≡ toldFrom before (wholeBlocks i b) ++ cond (isGood (checkedBlock x)) [] (number (before + i + 1) 10)
+  one-told : toldFrom before (wholeBlocks (i + 1) b) ≡ toldFrom before (wholeBlocks i b) ++ textBy (before + i) x
   unfolding toldFrom
   one-told = ap (toldFrom before) more ∙ told-append before (wholeBlocks i b) (x ∷ []) ∙ rw (passes-if-good, append-nil, blocks-counted i b)
 
   pub file-step : {d d₁ d₂ : List ℕ} {e₁ e₂ : ℕ} → Put d 0 (converted (wholeBlocks i b)) d₁ e₁
-      → Put d₁ e₁ (cond (isGood (checkedBlock x)) (otherForm x) []) d₂ e₂ → Put d 0 (converted (wholeBlocks (i + 1) b)) d₂ e₂
+      → Put d₁ e₁ (fileBy x) d₂ e₂ → Put d 0 (converted (wholeBlocks (i + 1) b)) d₂ e₂
   file-step p q = rw one-converted (put-then (omega arith) p q)
 
   pub text-step : {d d₁ d₂ : List ℕ} {e₁ e₂ : ℕ} → Put d 0 (toldFrom before (wholeBlocks i b)) d₁ e₁
-      → Put d₁ e₁ (cond (isGood (checkedBlock x)) [] (number (before + i + 1) 10)) d₂ e₂ → Put d 0 (toldFrom before (wholeBlocks (i + 1) b)) d₂ e₂
+      → Put d₁ e₁ (textBy (before + i) x) d₂ e₂ → Put d 0 (toldFrom before (wholeBlocks (i + 1) b)) d₂ e₂
   text-step p q = rw one-told (put-then (omega arith) p q)
 
-  pub file-grows : {d d' : List ℕ} {k e : ℕ} → Put d k (cond (isGood (checkedBlock x)) (otherForm x) []) d' e → e ≤ k + 512
+  pub file-grows : {d d' : List ℕ} {k e : ℕ} → Put d k (fileBy x) d' e → e ≤ k + 512
   file-grows p = ends p (go (isGood (checkedBlock x)))
     where
       go : (g : Bool) → length (cond g (otherForm x) []) ≤ 512
       go true = omega (arith, length-other x, block-length)
       go false = omega arith
 
-  pub text-grows : {d d' : List ℕ} {k e : ℕ} (n : ℕ) → Put d k (cond (isGood (checkedBlock x)) [] (number n 10)) d' e → e ≤ k + 21
+  pub text-grows : {d d' : List ℕ} {k e : ℕ} (n : ℕ) → Put d k (textBy n x) d' e → e ≤ k + 21
   text-grows n p = ends p (go (isGood (checkedBlock x)))
     where
-      go : (g : Bool) → length (cond g [] (number n 10)) ≤ 21
+      go : (g : Bool) → length (cond g [] (number (n + 1) 10)) ≤ 21
       go true = omega arith
-      go false = length-number n 10
+      go false = length-number (n + 1) 10
 
 -- ---- a rest behind the whole blocks
 module _ (b : List ℕ) where
   abbrev k : ℕ
   k = length b / 512
 
-  abbrev rest : List ℕ
-  rest = drop (512 * k) b
-
-  rest-refused : passes rest ≡ false
-  rest-refused =
-      let size : length rest ≡ length b - 512 * k = length-drop (512 * k) b in
-      rw (ne-eqb (length rest) 512 (λ e. absurd (omega (arith, size, e))))
-
   -- where nothing is left
   module _ (none : length b % 512 ≡ 0) where
-    all-whole : blocks b ≡ wholeBlocks k b
-    unfolding blocks
-    all-whole = rw (eq-eqb (length b % 512) 0 none) (append-nil (wholeBlocks k b))
-
     pub whole-converted : converted (blocks b) ≡ converted (wholeBlocks k b)
-    whole-converted = ap converted all-whole
+    whole-converted = ap converted (all-whole b none)
 
     pub whole-told : (n : ℕ) → toldFrom n (blocks b) ≡ toldFrom n (wholeBlocks k b)
-    whole-told n = ap (toldFrom n) all-whole
-
-    pub whole-counted : length (blocks b) ≡ k
-    whole-counted = ap length all-whole ∙ blocks-counted k b
+    whole-told n = ap (toldFrom n) (all-whole b none)
 
   -- where something is
   module _ (some : length b % 512 ≡ 0 → ⊥) where
-    rest-last : blocks b ≡ wholeBlocks k b ++ (rest ∷ [])
-    unfolding blocks
-    rest-last = rw (ne-eqb (length b % 512) 0 some)
-
     pub rest-converted : converted (blocks b) ≡ converted (wholeBlocks k b)
     unfolding converted
-    rest-converted = ap converted rest-last ∙ converted-append (wholeBlocks k b) (rest ∷ []) ∙ rw rest-refused (append-nil (converted (wholeBlocks k b)))
+    rest-converted =
+        ap converted (rest-last b some) ∙ converted-append (wholeBlocks k b) (restOf b ∷ []) ∙ rw (rest-refused b) (append-nil (converted (wholeBlocks k b)))
 
     pub rest-told : (n : ℕ) → toldFrom n (blocks b) ≡ toldFrom n (wholeBlocks k b) ++ number (n + k + 1) 10
     unfolding toldFrom
     rest-told n =
-        ap (toldFrom n) rest-last ∙ told-append n (wholeBlocks k b) (rest ∷ [])
-        ∙ rw (rest-refused, blocks-counted k b, append-nil (number (n + k + 1) 10))
-
-    pub rest-counted : length (blocks b) ≡ k + 1
-    rest-counted = ap length rest-last ∙ length-append (wholeBlocks k b) (rest ∷ []) ∙ rw (blocks-counted k b)
+        ap (toldFrom n) (rest-last b some) ∙ told-append n (wholeBlocks k b) (restOf b ∷ [])
+        ∙ rw (rest-refused b, blocks-counted k b, append-nil (number (n + k + 1) 10))
 
 -- ---- what room for a part says
 pub record Room (size room textRoom before : ℕ) : Type 0 where
@@ -170,14 +140,10 @@ pub record Room (size room textRoom before : ℕ) : Type 0 where
   pub numbers : 21 * (size / 512) + 21 ≤ textRoom
   pub small : before < countLimit
 
-both : (x y : Bool) → (x && y) ≡ true → (x ≡ true) × (y ≡ true)
-both true true e = (refl, refl)
-both true false e = (refl, e)
-both false y e = (e, cc)
-
-pub fits-room : (size room textRoom before : ℕ) → fits size room textRoom before ≡ true → Room size room textRoom before
-fits-room size room textRoom before e =
-    let outer = both (leb size room && leb (size / 512 + 1) (textRoom / 21)) (ltb before countLimit) e in
-    let inner = both (leb size room) (leb (size / 512 + 1) (textRoom / 21)) (outer .0) in
-    let lines : size / 512 + 1 ≤ textRoom / 21 = leb-true _ _ (inner .1) in
+pub room-of : (part file text : List ℕ) (before : ℕ) → fits (length part) (length file) (length text) before ≡ true
+    → Room (length part) (length file) (length text) before
+room-of part file text before e =
+    let outer = both-true (leb (length part) (length file) && leb (length part / 512 + 1) (length text / 21)) (ltb before countLimit) e in
+    let inner = both-true (leb (length part) (length file)) (leb (length part / 512 + 1) (length text / 21)) (outer .0) in
+    let lines : length part / 512 + 1 ≤ length text / 21 = leb-true _ _ (inner .1) in
     record { blocks = leb-true _ _ (inner .0); numbers = omega (arith, lines); small = ltb-true _ _ (outer .1) }

@@ -5,3 +5,4 @@ pub mod SameLine
 pub mod Exchange
 pub mod Kept
 pub mod Run
+mod Slips

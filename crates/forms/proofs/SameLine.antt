@@ -1,7 +1,7 @@
 -- A block that passes does so in the other form, with the same answer: its printed line is the same for every number. Assumes nothing.
 use mathlib.Core.Path.{_≡_, refl, sym, ap, _∙_}
 use mathlib.Core.Logic.{_≢_}
-use mathlib.Core.Bool.{Bool, true, false, cond, true≢false}
+use mathlib.Core.Bool.{true, false}
 use mathlib.Core.List.{List}
 use Prim.Native.Nat.{ℕ, _+_, _-_, _*_, _≤_, _<_}
 use native.Mathlib.Omega.{arith}
@@ -9,38 +9,17 @@ use lib.Dec.{eqb}
 use lib.Ieee.{Format}
 use lib.ListN.{length}
 use Rattle.model.specs.declared.Block.{Block}
-use Rattle.model.specs.declared.CheckedBlock.{CheckedBlock}
-use Rattle.model.specs.declared.CheckedBlock.the-variants.{Good, Refused}
+use Rattle.model.specs.declared.CheckedBlock.the-variants.{Good}
 use Rattle.model.specs.Wire.{byte, word}
 use Rattle.model.specs.Block.{knownForm, checkHolds, allZero, badCount, zerosHold, badFields, jobOf, blockOf, mostPoints, checkedBlock}
+use Rattle.model.specs.Blocks.{isGood}
 use Rattle.model.specs.Work.{floatsAt, numbersOf, pointsA, pointsB, sweepFor, sweepOf, told, blockAnswer}
 use Rattle.model.specs.Sheet.{answerLine}
-use Rattle.block.proofs.Laws.{all-right, good-counts}
+use Rattle.block.proofs.Laws.{good-counts}
+use Rattle.block.proofs.Passed.{Passed, is-passed, passed-good}
 use Rattle.forms.specs.Forms.{otherNumber, otherForm}
-use Rattle.forms.specs.Convert.{isGood, passes}
 use Rattle.forms.proofs.Bytes.{Agree, same-word, same-zero, same-floats}
 use Rattle.forms.proofs.Twice.{Bytes, other-size, other-same, other-form, other-holds, known-other, twice-unchanged}
-
--- ---- what a block that passed tells
-module _ (b : List ℕ) where
-  pub record Passed : Type 0 where
-    pub known : knownForm (byte b 6) ≡ true
-    pub holds : checkHolds b ≡ true
-    pub fields : badFields b ≡ false
-
-  pub is-passed : isGood (checkedBlock b) ≡ true → Passed
-  unfolding checkedBlock
-  is-passed e = go (knownForm (byte b 6)) (checkHolds b) (badFields b) refl refl refl e
-    where
-      go : (k h f : Bool) → knownForm (byte b 6) ≡ k → checkHolds b ≡ h → badFields b ≡ f
-          → isGood (cond k (cond h (cond f (Refused (jobOf b) 11) (Good (blockOf b))) (Refused 0 10)) (Refused 0 13)) ≡ true → Passed
-      go true true false k h f e = record { known = k; holds = h; fields = f }
-      go true true true k h f e = absurd (true≢false (sym e))
-      go true false fs k h f e = absurd (true≢false (sym e))
-      go false hs fs k h f e = absurd (true≢false (sym e))
-
-  pub passed-good : Passed → checkedBlock b ≡ Good (blockOf b)
-  passed-good p = sym (all-right b (p .known) (p .holds) (p .fields))
 
 -- ---- lists that agree before the check but in byte 6
 module _ (b c : List ℕ) (same : (j : ℕ) → j < 508 → j ≢ 6 → byte c j ≡ byte b j) where

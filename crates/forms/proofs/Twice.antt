@@ -5,6 +5,7 @@ use mathlib.Core.Bool.{Bool, true, false, true≢false}
 use mathlib.Core.List.{List}
 use Prim.Native.Nat.{ℕ, zero, suc, _+_, _-_, _*_, _/_, _%_, _^_, _≤_, _<_}
 use native.Mathlib.Omega.{arith}
+use native.Mathlib.Nat.{mod-eq-of-lt}
 use borrow.Author.Tests.{eqb-true, eqb-false, eq-eqb, ne-eqb, ltb-true, ltb-false}
 use lib.Dec.{eqb, ltb}
 use lib.ListN.{length, set, length-set}
@@ -20,11 +21,11 @@ Bytes b = (k : ℕ) → byte b k < 256
 
 -- ---- the check
 module _ (b : List ℕ) (c : ℕ) where
-  check-bytes : c % 256 + c / 256 % 256 * 256 + c / 65536 % 256 * 65536 + c / 16777216 * 16777216 ≡ c
-  check-bytes = omega arith
+  check-bytes : c < 4294967296 → c % 256 + c / 256 % 256 * 256 + c / 65536 % 256 * 65536 + c / 16777216 % 256 * 16777216 ≡ c
+  check-bytes small = let top : c / 16777216 % 256 ≡ c / 16777216 = mod-eq-of-lt (omega (arith, small)) in rw top (omega arith)
 
-  pub check-here : 512 ≤ length b → word (withCheck b c) 508 ≡ c
-  check-here h = word-here b 508 _ _ _ _ h ∙ check-bytes
+  pub check-here : 512 ≤ length b → c < 4294967296 → word (withCheck b c) 508 ≡ c
+  check-here h small = word-here b 508 _ _ _ _ h ∙ check-bytes small
 
   pub before-check : Agree b (withCheck b c) 0 508
   before-check j l m = byte-below b 508 _ _ _ _ j m
@@ -39,28 +40,18 @@ sealed-holds b h =
     let t = withCheck b c in
     let form : byte t 6 ≡ byte b 6 = before-check b c 6 (omega arith) (omega arith) in
     let sum : sumBefore (byte t 6) t ≡ sumBefore (byte b 6) b = rw form (same-before b t (byte b 6) (before-check b c)) in
-    rw (sum, check-here b c h) (eq-eqb _ 4294967295 (makes-ones (sumBefore (byte b 6) b)))
+    rw (sum, check-here b c h (omega arith)) (eq-eqb _ 4294967295 (makes-ones (sumBefore (byte b 6) b)))
 
 -- a check that holds is the one that fits
 only-one : (s w : ℕ) → w < 4294967296 → (s + w) % 4294967296 ≡ 4294967295 → 4294967295 - s % 4294967296 ≡ w
 only-one s w h e = omega (arith, h, e)
 
 -- the bytes of a word
-module _ (w x y z : ℕ) (hw : w < 256) (hx : x < 256) (hy : y < 256) (hz : z < 256) where
-  abbrev n : ℕ
-  n = w + x * 256 + y * 65536 + z * 16777216
+abbrev Digits : ℕ → ℕ → ℕ → ℕ → ℕ → Type 0
+Digits n w x y z = (n % 256 ≡ w) × (n / 256 % 256 ≡ x) × (n / 65536 % 256 ≡ y) × (n / 16777216 % 256 ≡ z)
 
-  digit-0 : n % 256 ≡ w
-  digit-0 = omega (arith, hw, hx, hy, hz)
-
-  digit-1 : n / 256 % 256 ≡ x
-  digit-1 = omega (arith, hw, hx, hy, hz)
-
-  digit-2 : n / 65536 % 256 ≡ y
-  digit-2 = omega (arith, hw, hx, hy, hz)
-
-  digit-3 : n / 16777216 ≡ z
-  digit-3 = omega (arith, hw, hx, hy, hz)
+word-digits : (w x y z : ℕ) → w < 256 → x < 256 → y < 256 → z < 256 → Digits (w + x * 256 + y * 65536 + z * 16777216) w x y z
+word-digits w x y z hw hx hy hz = (omega (arith, hw, hx, hy, hz), omega (arith, hw, hx, hy, hz), omega (arith, hw, hx, hy, hz), omega (arith, hw, hx, hy, hz))
 
 -- ---- sealing what agrees with a block before the check gives the block
 module _ (b d : List ℕ) (size : length b ≡ 512) (size' : length d ≡ 512) (bytes : Bytes b) (same : Agree b d 0 508) (holds : checkHolds b ≡ true) where
@@ -76,12 +67,15 @@ module _ (b d : List ℕ) (size : length b ≡ 512) (size' : length d ≡ 512) (
   inside : 508 + 4 ≤ length d
   inside = omega (arith, size')
 
-  last-four : (i : ℕ) → i < 4 → byte (withCheck d (word b 508)) (508 + i) ≡ byte b (508 + i)
+  digits : Digits (word b 508) (byte b 508) (byte b 509) (byte b 510) (byte b 511)
   unfolding word
-  last-four zero h = byte-0 d 508 _ _ _ _ inside ∙ digit-0 (byte b 508) (byte b 509) (byte b 510) (byte b 511) (bytes 508) (bytes 509) (bytes 510) (bytes 511)
-  last-four (suc zero) h = byte-1 d 508 _ _ _ _ inside ∙ digit-1 (byte b 508) (byte b 509) (byte b 510) (byte b 511) (bytes 508) (bytes 509) (bytes 510) (bytes 511)
-  last-four (suc (suc zero)) h = byte-2 d 508 _ _ _ _ inside ∙ digit-2 (byte b 508) (byte b 509) (byte b 510) (byte b 511) (bytes 508) (bytes 509) (bytes 510) (bytes 511)
-  last-four (suc (suc (suc zero))) h = byte-3 d 508 _ _ _ _ inside ∙ digit-3 (byte b 508) (byte b 509) (byte b 510) (byte b 511) (bytes 508) (bytes 509) (bytes 510) (bytes 511)
+  digits = word-digits (byte b 508) (byte b 509) (byte b 510) (byte b 511) (bytes 508) (bytes 509) (bytes 510) (bytes 511)
+
+  last-four : (i : ℕ) → i < 4 → byte (withCheck d (word b 508)) (508 + i) ≡ byte b (508 + i)
+  last-four zero h = byte-0 d 508 _ _ _ _ inside ∙ digits .0
+  last-four (suc zero) h = byte-1 d 508 _ _ _ _ inside ∙ digits .1
+  last-four (suc (suc zero)) h = byte-2 d 508 _ _ _ _ inside ∙ digits .2
+  last-four (suc (suc (suc zero))) h = byte-3 d 508 _ _ _ _ inside ∙ digits .3
   last-four (suc (suc (suc (suc i)))) h = absurd (omega (arith, h))
 
   every-byte : (j : ℕ) → j < 512 → byte (withCheck d (word b 508)) j ≡ byte b j
@@ -97,8 +91,9 @@ module _ (b d : List ℕ) (size : length b ≡ 512) (size' : length d ≡ 512) (
   pub resealed : sealed d ≡ b
   unfolding sealed
   resealed =
+      let w = word b 508 in
       ap (withCheck d) fits
-      ∙ ext-getD 0 (withCheck d (word b 508)) b (length-four d 508 _ _ _ _ ∙ size' ∙ sym size) (λ j h. every-byte j (omega (arith, h, length-four d 508 (word b 508 % 256) (word b 508 / 256 % 256) (word b 508 / 65536 % 256) (word b 508 / 16777216), size')))
+      ∙ ext-getD 0 (withCheck d (word b 508)) b (length-four d 508 _ _ _ _ ∙ size' ∙ sym size) (λ j h. every-byte j (omega (arith, h, length-four d 508 (w % 256) (w / 256 % 256) (w / 65536 % 256) (w / 16777216 % 256), size')))
 
 -- ---- the other form of a block
 module _ (b : List ℕ) (size : length b ≡ 512) where

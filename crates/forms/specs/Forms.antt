@@ -1,11 +1,13 @@
 -- A block in the other form, and one with two neighbouring words exchanged.
-use Prim.Native.Nat.{ℕ, _+_, _-_, _*_, _/_, _%_, _^_}
+use Prim.Native.Nat.{ℕ, _+_, _-_, _*_, _%_, _^_}
 use mathlib.Core.Bool.{cond}
 use mathlib.Core.List.{List}
 use lib.Dec.{eqb}
 use lib.ListN.{set}
+use lib.Seq.{sets}
 use Rattle.model.specs.Wire.{byte}
 use Rattle.model.specs.Block.{sumBefore}
+use Rattle.wire.specs.Bytes.{wordBytes}
 
 -- b with four bytes from place k on
 abbrev pub withFour : List ℕ → ℕ → ℕ → ℕ → ℕ → ℕ → List ℕ
@@ -21,7 +23,7 @@ abbrev pub fittingCheck : List ℕ → ℕ
 fittingCheck b = 4294967295 - sumBefore (byte b 6) b % 2 ^ 32
 
 abbrev pub withCheck : List ℕ → ℕ → List ℕ
-withCheck b c = withFour b 508 (c % 256) (c / 256 % 256) (c / 65536 % 256) (c / 16777216)
+withCheck b c = sets b 508 (wordBytes c)
 
 unfoldable pub sealed : List ℕ → List ℕ
 sealed b = withCheck b (fittingCheck b)

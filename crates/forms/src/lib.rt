@@ -1,22 +1,15 @@
 // A batch converted part by part: each block that is not refused in the other form, and the numbers of those that are.
-use model::CheckedBlock;
+use model::COUNT_LIMIT;
+use model::PART_SIZE;
 ghost use mathlib.Core.Path.{_≡_};
 ghost use Prim.Native.Nat.{_+_, _*_, _/_, _≤_, _<_};
-ghost use mathlib.Core.Bool.{cond};
-ghost use mathlib.Core.List.{[]};
 ghost use lib.ListN.{length};
-ghost use Rattle.model.specs.Block.{blockSize, checkedBlock};
+ghost use Rattle.model.specs.Block.{blockSize};
 ghost use Rattle.model.specs.Parts.{countLimit};
-ghost use Rattle.text.specs.Put.{Put, number};
+ghost use Rattle.text.specs.Put.{Put};
 ghost use Rattle.forms.specs.Forms.{otherNumber, otherForm};
-ghost use Rattle.forms.specs.Convert.{isGood, wholeBlocks, shortRest, converted, toldFrom, fileFor, textFor, countFor, lastFor};
+ghost use Rattle.forms.specs.Convert.{wholeOf, fileBy, textBy, converted, toldFrom, fileFor, textFor, countFor, lastFor};
 ghost use Rattle.forms.specs.Convert as Convert;
-
-// Blocks below this can be counted on through any part without wrapping.
-const COUNT_LIMIT: u64 = 0x8000_0000_0000_0000;
-
-// A shorter part is the last one.
-const PART_SIZE: usize = 65536;
 
 // How many bytes go to the file, how many are told; how many blocks came up to the part's end; whether the part was the last.
 pub struct Converted {
@@ -47,30 +40,22 @@ fn other_form(part: &[u8]) -> [u8; 512]
     let form = other_number(turned[6]);
     turned[6] = form;
     let check = 0xffff_ffff - block::sum_before(&turned, form);
-    turned[508] = (check % 256) as u8;
-    turned[509] = (check / 256 % 256) as u8;
-    turned[510] = (check / 65536 % 256) as u8;
-    turned[511] = (check / 16777216) as u8;
+    let last = wire::word_bytes(check);
+    turned[508] = last[0];
+    turned[509] = last[1];
+    turned[510] = last[2];
+    turned[511] = last[3];
     turned
-}
-
-fn good(checked: CheckedBlock) -> bool
-    ensures { λ r. ⌜ r ≡ isGood checked ⌝ }
-{
-    match checked {
-        CheckedBlock::Good(_) => true,
-        CheckedBlock::Refused(_, _) => false,
-    }
 }
 
 // One block with n before it: in the other form behind what the file has, or its number behind what is told.
 fn convert_block(part: &[u8], n: u64, file: &mut [u8], text: &mut [u8], at: Places) -> Places
     requires { ⌜ (length (now part) ≡ blockSize) × (n < 0xffff_ffff_ffff_ffff) ⌝ }
     requires { ⌜ (at .file + blockSize ≤ length (now file)) × (at .text + 21 ≤ length (now text)) ⌝ }
-    ensures { λ r. ⌜ Put (now (file .entry)) (at .file) (cond (isGood (checkedBlock (now (part .entry)))) (otherForm (now (part .entry))) []) (now (file .exit)) (r .file) ⌝ }
-    ensures { λ r. ⌜ Put (now (text .entry)) (at .text) (cond (isGood (checkedBlock (now (part .entry)))) [] (number (n + 1) 10)) (now (text .exit)) (r .text) ⌝ }
+    ensures { λ r. ⌜ Put (now (file .entry)) (at .file) (fileBy (now (part .entry))) (now (file .exit)) (r .file) ⌝ }
+    ensures { λ r. ⌜ Put (now (text .entry)) (at .text) (textBy n (now (part .entry))) (now (text .exit)) (r .text) ⌝ }
 {
-    if good(block::check_block(part)) {
+    if block::good(block::check_block(part)) {
         let turned = other_form(part);
         let end = text::put_text(file, at.file, &turned);
         return Places {
@@ -88,8 +73,8 @@ fn convert_block(part: &[u8], n: u64, file: &mut [u8], text: &mut [u8], at: Plac
 // The whole blocks of a part.
 fn convert_blocks(part: &[u8], before: u64, file: &mut [u8], text: &mut [u8]) -> Places
     requires { ⌜ (length (now part) ≤ length (now file)) × (21 * (length (now part) / blockSize) ≤ length (now text)) × (before < countLimit) ⌝ }
-    ensures { λ r. ⌜ Put (now (file .entry)) 0 (converted (wholeBlocks (length (now (part .entry)) / blockSize) (now (part .entry)))) (now (file .exit)) (r .file) ⌝ }
-    ensures { λ r. ⌜ Put (now (text .entry)) 0 (toldFrom before (wholeBlocks (length (now (part .entry)) / blockSize) (now (part .entry)))) (now (text .exit)) (r .text) ⌝ }
+    ensures { λ r. ⌜ Put (now (file .entry)) 0 (converted (wholeOf (now (part .entry)))) (now (file .exit)) (r .file) ⌝ }
+    ensures { λ r. ⌜ Put (now (text .entry)) 0 (toldFrom before (wholeOf (now (part .entry)))) (now (text .exit)) (r .text) ⌝ }
     ensures { λ r. ⌜ r .text ≤ 21 * (length (now (part .entry)) / blockSize) ⌝ }
 {
     let k = part.len() / 512;
@@ -116,8 +101,10 @@ fn fits(size: usize, room: usize, text_room: usize, before: u64) -> bool
 // Converts a part of the input, with so many blocks before it: the blocks from the start of file on, the numbers of refused ones, a line each, from
 // the start of text on. Where there is no room nothing is written, and the run is over.
 pub fn convert_part(part: &[u8], before: u64, file: &mut [u8], text: &mut [u8]) -> Converted
-    ensures { λ r. ⌜ Put (now (file .entry)) 0 (fileFor before (now (part .entry)) (length (now (file .entry))) (length (now (text .entry)))) (now (file .exit)) (r .file)
-        × Put (now (text .entry)) 0 (textFor before (now (part .entry)) (length (now (file .entry))) (length (now (text .entry)))) (now (text .exit)) (r .text) ⌝ }
+    ensures { λ r. ⌜ Put (now (file .entry)) 0 (fileFor before (now (part .entry)) (length (now (file .entry))) (length (now (text .entry))))
+        (now (file .exit)) (r .file)
+        × Put (now (text .entry)) 0 (textFor before (now (part .entry)) (length (now (file .entry))) (length (now (text .entry))))
+        (now (text .exit)) (r .text) ⌝ }
     ensures { λ r. ⌜ (r .blocks ≡ countFor before (now (part .entry)) (length (now (file .entry))) (length (now (text .entry))))
         × (r .last ≡ lastFor before (now (part .entry)) (length (now (file .entry))) (length (now (text .entry)))) ⌝ }
 {

@@ -1,4 +1,4 @@
--- Each line's outcome is its own, and parts of any length make the whole. Assumes nothing.
+-- Each line's outcome is its own. Assumes nothing.
 use mathlib.Core.Path.{_≡_, refl, sym, ap, _∙_}
 use mathlib.Core.Bool.{Bool, true, false, cond}
 use mathlib.Core.List.{List, [], _∷_, _++_, append-nil, append-assoc}
@@ -9,37 +9,17 @@ use lib.Dec.{eqb, ltb}
 use lib.ListN.{length, take, drop, getD, replicate, length-append}
 use lib.Seq.{getD-at, take-at}
 use Rattle.model.specs.Wire.{byte, word}
-use Rattle.model.proofs.Sheet.{together}
 use Rattle.model.specs.Text.{hexBy}
-use Rattle.text.specs.Put.{pasted}
+use Rattle.model.specs.Blocks.{isGood}
 use Rattle.job_text.specs.Job as Job
-use Rattle.job_text.specs.Job.{placeOf, wordsOf, jobLine, plainBlock, passes, blockFor, isJob}
+use Rattle.job_text.specs.Job.{placeOf, wordsOf, jobLine, plainBlock, blockFor, isJob}
 use Rattle.job_text.specs.Pieces.{headOf, spaced}
-use Rattle.job_text.specs.Room.{refusal}
-use Rattle.job_text.specs.Pack.{
-  longestLine,
-  packed,
-  complaint,
-  Run,
-  longer,
-  lineEnded,
-  lineOn,
-  byteMore,
-  runOver,
-  heldOf,
-  heldAfter,
-  fresh,
-  atStart,
-  unfinished,
-  packOut,
-  packTold,
-  outOver,
-  toldOver,
-}
+use Rattle.job_text.specs.Pack.{longestLine, Run, longer, lineEnded, lineOn, runOver}
 use Rattle.job_text.proofs.Lines.{job-line-is, length-job}
-use Rattle.job_text.proofs.Passed.{both-true, what-passed}
+use Rattle.block.proofs.Passed.{both-true}
+use Rattle.job_text.proofs.Passed.{what-passed}
 use Rattle.job_text.proofs.RoundTrip.{line-block-line}
-use Rattle.job_text.proofs.Runs.{starting, run-append}
+use Rattle.job_text.proofs.Runs.{run-append}
 
 -- ---- what is kept of a line
 -- no byte of a list is a newline
@@ -113,9 +93,9 @@ job-ends b l e h =
     let ends : l ≡ (start ++ hexBy 8 w) ++ (10 ∷ []) = sym e ∙ job-line-is b last (omega arith) ∙ sym (append-assoc start (hexBy 8 w) (10 ∷ [])) in
     last-of (start ++ hexBy 8 w) 10 (rw ends at h) refl
 
-job-passes : (l : List ℕ) → isJob l ≡ true → passes (plainBlock (blockFor l)) ≡ true
+job-passes : (l : List ℕ) → isJob l ≡ true → isGood (plainBlock (blockFor l)) ≡ true
 unfolding isJob
-job-passes l e = both-true (passes (plainBlock (blockFor l))) (Job.same (jobLine (blockFor l)) l) e .0
+job-passes l e = both-true (isGood (plainBlock (blockFor l))) (Job.same (jobLine (blockFor l)) l) e .0
 
 no-job-full : (l : List ℕ) → OneLine l → isJob l ≡ false
 no-job-full l one = go (isJob l) refl
@@ -169,71 +149,3 @@ line-alone r l rest one between =
     ap (λ (k : List ℕ). runOver (lineOn r k) l) between ∙ run-grown r [] l one in
     run-append r l (10 ∷ rest) ∙ ap (λ (s : Run). runOver s (10 ∷ rest)) kept ∙ newline r (grown [] l) rest
     ∙ ap (λ (s : Run). runOver s rest) (one-outcome r l one)
-
--- ---- parts
--- a run behind what another has written
-abbrev behind : Run → Run → Run
-behind r s = record { out = r .out ++ s .out; told = r .told ++ s .told; line = s .line; lines = s .lines }
-
-behind-byte : (r s : Run) (x : ℕ) → byteMore (behind r s) x ≡ behind r (byteMore s x)
-behind-byte r s x = go (eqb x 10)
-  where
-    l : List ℕ
-    l = longer (s .line) x
-
-    go : (t : Bool) → cond t (lineEnded (behind r s) (longer (s .line) x)) (lineOn (behind r s) (longer (s .line) x))
-        ≡ behind r (cond t (lineEnded s (longer (s .line) x)) (lineOn s (longer (s .line) x)))
-    go true =
-        rw (
-          append-assoc (r .out) (s .out) (packed (longer (s .line) x)),
-          append-assoc (r .told) (s .told) (complaint (s .lines + 1) (longer (s .line) x)),
-        )
-    go false = refl
-
-behind-run : (r s : Run) (xs : List ℕ) → runOver (behind r s) xs ≡ behind r (runOver s xs)
-unfolding runOver
-behind-run r s [] = refl
-behind-run r s (x ∷ xs) = ap (λ (q : Run). runOver q xs) (behind-byte r s x) ∙ behind-run r (byteMore s x) xs
-
-part-behind : (r : Run) (xs : List ℕ) → runOver r xs ≡ behind r (runOver (starting (r .line) (r .lines)) xs)
-part-behind r xs =
-    let same : r ≡ behind r (starting (r .line) (r .lines)) = rw (append-nil (r .out), append-nil (r .told)) in
-    ap (λ (q : Run). runOver q xs) same ∙ behind-run r (starting (r .line) (r .lines)) xs
-
-handed-on : (l : List ℕ) → take (length l) (pasted (replicate longestLine 0) 0 l) ≡ l
-unfolding pasted
-handed-on l = take-at l (drop (0 + length l) (replicate longestLine 0)) (length l) refl
-
-fresh-is : (r : Run) → fresh (heldAfter r) ≡ starting (r .line) (r .lines)
-fresh-is r = rw (handed-on (r .line))
-
-out-parts : (r : Run) (ps : List (List ℕ)) → r .out ++ outOver (heldAfter r) ps ≡ runOver r (together ps) .out
-unfolding outOver together runOver
-out-parts r [] = append-nil (r .out)
-out-parts r (p ∷ ps) =
-    let s = starting (r .line) (r .lines) in
-    let same = part-behind r p in
-    ap (λ (q : Run). r .out ++ (runOver q p .out ++ outOver (heldAfter (runOver q p)) ps)) (fresh-is r)
-    ∙ sym (append-assoc (r .out) (runOver s p .out) (outOver (heldAfter (runOver s p)) ps))
-    ∙ ap (λ (q : Run). q .out ++ outOver (heldAfter q) ps) (sym same)
-    ∙ out-parts (runOver r p) ps
-    ∙ ap (λ (q : Run). q .out) (sym (run-append r p (together ps)))
-
-told-parts : (r : Run) (ps : List (List ℕ)) → r .told ++ toldOver (heldAfter r) ps ≡ runOver r (together ps) .told ++ unfinished (runOver r (together ps))
-unfolding toldOver together runOver
-told-parts r [] = refl
-told-parts r (p ∷ ps) =
-    let s = starting (r .line) (r .lines) in
-    let same = part-behind r p in
-    ap (λ (q : Run). r .told ++ (runOver q p .told ++ toldOver (heldAfter (runOver q p)) ps)) (fresh-is r)
-    ∙ sym (append-assoc (r .told) (runOver s p .told) (toldOver (heldAfter (runOver s p)) ps))
-    ∙ ap (λ (q : Run). q .told ++ toldOver (heldAfter q) ps) (sym same)
-    ∙ told-parts (runOver r p) ps
-    ∙ ap (λ (q : Run). q .told ++ unfinished q) (sym (run-append r p (together ps)))
-
--- however the text is cut, the parts make what the whole does
-pub out-by-parts : (ps : List (List ℕ)) → outOver (heldOf [] 0) ps ≡ packOut (together ps)
-out-by-parts ps = out-parts atStart ps
-
-pub told-by-parts : (ps : List (List ℕ)) → toldOver (heldOf [] 0) ps ≡ packTold (together ps)
-told-by-parts ps = told-parts atStart ps

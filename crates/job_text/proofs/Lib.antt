@@ -7,5 +7,8 @@ pub mod Read
 pub mod RoundTrip
 pub mod Runs
 mod Blocks
+pub mod PackRun
+pub mod UnpackRun
 pub mod Alone
 mod Shown
+mod Slips

@@ -9,12 +9,13 @@ use borrow.Author.Tests.{lt-ltb, le-ltb, ltb-true, ltb-false}
 use lib.Dec.{eqb, ltb}
 use lib.ListN.{length, take, getD, length-append}
 use lib.Seq.{length-take-le, take-suc, take-all}
+use Rattle.model.specs.Parts.{countLimit}
 use Rattle.text.specs.Put.{Put, number}
 use Rattle.text.proofs.Pasted.{put-then, put-nothing}
 use Rattle.text.proofs.Lengths.{length-number}
 use Rattle.job_text.specs.declared.pack.Held.{Held}
 use Rattle.job_text.specs.Job.{blockFor, isJob}
-use Rattle.job_text.specs.Room.{refusal, refusalRoom, countLimit, least, usedOf}
+use Rattle.job_text.specs.Room.{refusal, refusalRoom, least, usedOf}
 use Rattle.job_text.specs.Pack.{longestLine, packed, complaint, Run, longer, lineEnded, lineOn, byteMore, runOver, usedBytes, runIn, Ends}
 use Rattle.job_text.proofs.Built.{length-block-for}
 
@@ -176,6 +177,6 @@ take-least n l m size = go (ltb m n) refl
         take-all m l all ∙ sym (take-all n l more)
     go false e = refl
 
-pub run-in-is : (h : Held) (part out err l : List ℕ) {n i : ℕ} → i ≡ n → n ≡ usedBytes h part out err → l ≡ take (h .size) (h .line) →
-    runOver (starting l (h .lines)) (take i part) ≡ runIn h part out err
-run-in-is h part out err l done used same = rw (done, used, same)
+pub run-in-is : (h : Held) (part : List ℕ) (room errRoom : ℕ) (l : List ℕ) {n i : ℕ} → i ≡ n → n ≡ usedBytes h part room errRoom
+    → l ≡ take (h .size) (h .line) → runOver (starting l (h .lines)) (take i part) ≡ runIn h part room errRoom
+run-in-is h part room errRoom l done used same = rw (done, used, same)

@@ -6,6 +6,7 @@ use lib.Dec.{eqb, ltb}
 use lib.ListN.{length, take, replicate}
 use mathlib.Core.Path.{_≡_}
 use Rattle.model.specs.Block.{blockSize}
+use Rattle.runs.specs.Run.{textRun}
 use Rattle.text.specs.Put.{pasted, Put}
 use Rattle.job_text.specs.declared.pack.Held.{Held}
 use Rattle.job_text.specs.Job.{blockFor, isJob}
@@ -61,11 +62,11 @@ abbrev pub fresh : Held → Run
 fresh h = record { out = []; told = []; line = take (h .size) (h .line); lines = h .lines }
 
 -- how many bytes of a part are packed into such rooms, and the run over them
-abbrev pub usedBytes : Held → List ℕ → List ℕ → List ℕ → ℕ
-usedBytes h part out err = usedOf (length part) (length out / blockSize) (length err) (h .lines)
+abbrev pub usedBytes : Held → List ℕ → ℕ → ℕ → ℕ
+usedBytes h part room errRoom = usedOf (length part) (room / blockSize) errRoom (h .lines)
 
-abbrev pub runIn : Held → List ℕ → List ℕ → List ℕ → Run
-runIn h part out err = runOver (fresh h) (take (usedBytes h part out err) part)
+abbrev pub runIn : Held → List ℕ → ℕ → ℕ → Run
+runIn h part room errRoom = runOver (fresh h) (take (usedBytes h part room errRoom) part)
 
 -- after the last part: a line without its newline is no job
 abbrev pub lastFor : Held → ℕ → List ℕ
@@ -85,17 +86,29 @@ packOut b = runOver atStart b .out
 abbrev pub packTold : List ℕ → List ℕ
 packTold b = runOver atStart b .told ++ unfinished (runOver atStart b)
 
--- the same by parts, each from what the one before it handed on
-unfoldable pub outOver : Held → List (List ℕ) → List ℕ
-outOver h [] = []
-outOver h (p ∷ ps) = runOver (fresh h) p .out ++ outOver (heldAfter (runOver (fresh h) p)) ps
+-- ---- a run over parts of such a length, with such rooms for what each comes to: a shorter part is the last one
+module _ (size room errRoom : ℕ) where
+  abbrev pub nextHeld : Held → List ℕ → Held
+  nextHeld h part = heldAfter (runIn h part room errRoom)
 
-unfoldable pub toldOver : Held → List (List ℕ) → List ℕ
-toldOver h [] = cond (eqb (h .size) 0) [] (refusal (h .lines + 1) 14)
-toldOver h (p ∷ ps) = runOver (fresh h) p .told ++ toldOver (heldAfter (runOver (fresh h) p)) ps
+  abbrev pub isLast : Held → List ℕ → Bool
+  isLast h part = ltb (length part) size
+
+  abbrev pub writeBy : Held → List ℕ → List ℕ
+  writeBy h part = runIn h part room errRoom .out
+
+  abbrev pub tellBy : Held → List ℕ → List ℕ
+  tellBy h part = runIn h part room errRoom .told ++ cond (isLast h part) (lastFor (nextHeld h part) errRoom) []
+
+  abbrev pub outBy : Held → List (List ℕ) → List ℕ
+  outBy = textRun nextHeld isLast writeBy
+
+  abbrev pub toldBy : Held → List (List ℕ) → List ℕ
+  toldBy = textRun nextHeld isLast tellBy
 
 -- ---- what one byte does to the places after both texts, the size of the line and the count of lines
-module _ (x : ℕ) (l : List ℕ) (lines : ℕ) (out : List ℕ) (at : ℕ) (out' : List ℕ) (at' : ℕ) (err : List ℕ) (told : ℕ) (err' : List ℕ) (told' : ℕ) (size lines' : ℕ) where
+module _ (x : ℕ) (l : List ℕ) (lines : ℕ) (out : List ℕ) (at : ℕ) (out' : List ℕ) (at' : ℕ) (err : List ℕ) (told : ℕ) (err' : List ℕ)
+    (told' size lines' : ℕ) where
   pub record Ends : Type 0 where
     pub written : Put out at (cond (eqb x 10) (packed l) []) out' at'
     pub complaints : Put err told (cond (eqb x 10) (complaint (lines + 1) l) []) err' told'

@@ -68,7 +68,8 @@ fn end_line(
     told: usize,
 ) -> Ended
     requires { ⌜ (at + 512 ≤ length (now out)) × (told + refusalRoom ≤ length (now err)) × (lines < 0xffff_ffff_ffff_ffff) ⌝ }
-    ensures { λ r. ⌜ Ends x (now (line .entry)) lines (now (out .entry)) at (now (out .exit)) (r .at) (now (err .entry)) told (now (err .exit)) (r .told) (r .size) (r .lines) ⌝ }
+    ensures { λ r. ⌜ Ends x (now (line .entry)) lines (now (out .entry)) at (now (out .exit)) (r .at)
+        (now (err .entry)) told (now (err .exit)) (r .told) (r .size) (r .lines) ⌝ }
 {
     if x != b'\n' {
         return Ended {
@@ -122,8 +123,9 @@ fn kept(line: &[u8], lines: u64) -> Held
 
 // Packs as many bytes of a part as there is room for if each of them ended a line: blocks to the start of out, refusals to the start of err.
 pub fn pack_part(part: &[u8], held: Held, out: &mut [u8], err: &mut [u8]) -> Packed
-    ensures { λ r. ⌜ Put (now (out .entry)) 0 (runIn held (now (part .entry)) (now (out .entry)) (now (err .entry)) .out) (now (out .exit)) (r .at) ⌝ }
-    ensures { λ r. ⌜ Put (now (err .entry)) 0 (runIn held (now (part .entry)) (now (out .entry)) (now (err .entry)) .told) (now (err .exit)) (r .told) × (r .held ≡ heldAfter (runIn held (now (part .entry)) (now (out .entry)) (now (err .entry)))) ⌝ }
+    ensures { λ r. ⌜ Put (now (out .entry)) 0 (runIn held (now (part .entry)) (length (now (out .entry))) (length (now (err .entry))) .out) (now (out .exit)) (r .at) ⌝ }
+    ensures { λ r. ⌜ Put (now (err .entry)) 0 (runIn held (now (part .entry)) (length (now (out .entry))) (length (now (err .entry))) .told) (now (err .exit)) (r .told)
+        × (r .held ≡ heldAfter (runIn held (now (part .entry)) (length (now (out .entry))) (length (now (err .entry))))) ⌝ }
 {
     let n = used_of(part.len(), out.len() / 512, err.len(), held.lines);
     let old = held.line;

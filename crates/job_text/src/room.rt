@@ -1,13 +1,11 @@
 // Refusals as text, and how much of the input there is room for.
+use model::COUNT_LIMIT;
 ghost use mathlib.Core.Path.{_≡_};
 ghost use Prim.Native.Nat.{_+_, _≤_};
 ghost use lib.ListN.{length};
 ghost use Rattle.text.specs.Put.{Put};
 ghost use Rattle.job_text.specs.Room.{refusal, refusalRoom, toldFor, usedOf};
 ghost use Rattle.job_text.specs.Room as Room;
-
-// Counts below this can be counted on through any part without wrapping.
-const COUNT_LIMIT: u64 = 0x8000_0000_0000_0000;
 
 // What the longest refusal takes.
 const REFUSAL_ROOM: usize = 42;

@@ -11,7 +11,7 @@ ghost use lib.ListN.{length};
 ghost use Rattle.text.specs.Put.{Put};
 ghost use Rattle.job_text.specs.Room.{refusalRoom};
 ghost use Rattle.job_text.specs.Pack.{longestLine};
-ghost use Rattle.job_text.specs.Unpack.{unpacked, refused, linesOf, refusalsOf, restFor, usedBlocks};
+ghost use Rattle.job_text.specs.Unpack.{unpacked, refused, linesOf, refusalsOf, restFor, usedBlocks, blocksIn};
 
 // How many blocks have passed, and the places after both texts.
 pub struct Unpacked {
@@ -28,7 +28,8 @@ struct Places {
 // A block's line, or as block n its refusal.
 fn put_block(block: &[u8], n: u64, out: &mut [u8], at: usize, err: &mut [u8], told: usize) -> Places
     requires { ⌜ (at + longestLine ≤ length (now out)) × (told + refusalRoom ≤ length (now err)) ⌝ }
-    ensures { λ r. ⌜ Put (now (out .entry)) at (unpacked (now (block .entry))) (now (out .exit)) (r .at) × Put (now (err .entry)) told (refused n (now (block .entry))) (now (err .exit)) (r .told) ⌝ }
+    ensures { λ r. ⌜ Put (now (out .entry)) at (unpacked (now (block .entry))) (now (out .exit)) (r .at)
+        × Put (now (err .entry)) told (refused n (now (block .entry))) (now (err .exit)) (r .told) ⌝ }
 {
     match check_plain(block) {
         CheckedBlock::Good(_) => Places {
@@ -45,8 +46,10 @@ fn put_block(block: &[u8], n: u64, out: &mut [u8], at: usize, err: &mut [u8], to
 // Unpacks as many whole blocks of a part as there is room for if each were written and each refused: lines to the start of out, refusals to the
 // start of err, with so many blocks before them.
 pub fn unpack_part(part: &[u8], before: u64, out: &mut [u8], err: &mut [u8]) -> Unpacked
-    ensures { λ r. ⌜ Put (now (out .entry)) 0 (linesOf (now (part .entry)) (usedBlocks before (now (part .entry)) (now (out .entry)) (now (err .entry)))) (now (out .exit)) (r .at) ⌝ }
-    ensures { λ r. ⌜ Put (now (err .entry)) 0 (refusalsOf before (now (part .entry)) (usedBlocks before (now (part .entry)) (now (out .entry)) (now (err .entry)))) (now (err .exit)) (r .told) × (r .blocks ≡ before + usedBlocks before (now (part .entry)) (now (out .entry)) (now (err .entry))) ⌝ }
+    ensures { λ r. ⌜ Put (now (out .entry)) 0 (linesOf (blocksIn before (now (part .entry)) (length (now (out .entry))) (length (now (err .entry))))) (now (out .exit)) (r .at) ⌝ }
+    ensures { λ r. ⌜ Put (now (err .entry)) 0 (refusalsOf before (blocksIn before (now (part .entry)) (length (now (out .entry))) (length (now (err .entry)))))
+        (now (err .exit)) (r .told)
+        × (r .blocks ≡ before + usedBlocks before (now (part .entry)) (length (now (out .entry))) (length (now (err .entry)))) ⌝ }
 {
     let n = used_of(part.len() / 512, out.len() / 855, err.len(), before);
     let mut at: usize = 0;

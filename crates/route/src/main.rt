@@ -1,8 +1,6 @@
 // Reads a route as text from standard input and prints its answer, one line. A read that fails is told on standard error, and then nothing is printed.
-use route_text::Reader;
-
-// A shorter part is the last one.
-const PART_SIZE: usize = 65536;
+use model::PART_SIZE;
+use route_read::Reader;
 
 // Numbers and lengths that can matter: a slop, 129 of the cart, four for each of 33 waypoints, 129 for each of 32 outlines; one outline more.
 const NUMBERS: usize = 4390;
@@ -31,7 +29,7 @@ fn next_part(reader: Reader, floats: &mut [f32], lengths: &mut [u32]) -> Step {
         };
     }
     let n = filled.count;
-    let after = route_text::read_part(&buffer[..n], reader, floats, lengths);
+    let after = route_read::read_part(&buffer[..n], reader, floats, lengths);
     if n < PART_SIZE {
         tell(after, floats, lengths);
     }
@@ -48,7 +46,7 @@ fn main() {
     }
     let mut floats = [0.0f32; NUMBERS];
     let mut lengths = [0u32; LENGTHS];
-    let mut reader = route_text::no_text();
+    let mut reader = route_read::no_text();
     for turn in 0..u64::MAX {
         let step = next_part(reader, &mut floats, &mut lengths);
         let after = step.reader;

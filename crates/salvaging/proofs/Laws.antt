@@ -11,8 +11,8 @@ use lib.Seq.{drop-drop, length-take-le, take-all, take-length, take-at}
 use Rattle.text.specs.Put.{Put, whereRoom, number}
 use Rattle.text.proofs.Pasted.{length-pasted, put-then, put-nothing}
 use Rattle.text.proofs.Lengths.{length-number, ends, roomy}
-use Rattle.forms.specs.Convert.{passes}
-use Rattle.forms.proofs.Kept.{whole-if-passes}
+use Rattle.model.specs.Blocks.{passes}
+use Rattle.model.proofs.Blocks.{whole-if-passes}
 use Rattle.salvaging.specs.declared.Walk.{Walk}
 use Rattle.salvaging.specs.Walk.{Step, bytesOf, stepAt, keptBy, keptBytes, next, after, runLine, toldBy, runLines, totalText, totalLine}
 use Rattle.salvaging.specs.Walk.Step.{kept, skipped}

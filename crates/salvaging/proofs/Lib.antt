@@ -3,3 +3,4 @@ pub mod Steps
 mod Laws
 pub mod Run
 pub mod Told
+mod Slips

@@ -4,14 +4,33 @@ use mathlib.Core.Bool.{Bool, true, false, cond}
 use mathlib.Core.List.{List, [], _∷_, _++_, append-assoc, append-nil}
 use Prim.Native.Nat.{ℕ, zero, suc, _+_, _-_, _*_, _/_, _≤_, _<_}
 use native.Mathlib.Omega.{arith}
-use borrow.Author.Tests.{leb-true, le-leb, lt-ltb, ltb-false}
-use lib.Dec.{leb, ltb}
+use borrow.Author.Tests.{le-leb, lt-ltb, le-ltb, ltb-false}
+use lib.Dec.{ltb}
 use lib.ListN.{length, drop, length-append}
-use Rattle.model.proofs.Sheet.{together}
+use Rattle.model.specs.Parts.{together}
+use Rattle.runs.specs.Run.{Cut, TextSteps}
+use Rattle.runs.proofs.Whole.{run-makes-whole, text-steps}
 use Rattle.salvaging.specs.declared.Walk.{Walk}
 use Rattle.salvaging.specs.Walk.{Step, bytesOf, stepAt, stepsBy, steps, keptBytes, next, after, runLines, lastLines, atStart, fileOf, textOf}
 use Rattle.salvaging.specs.Walk.Step.{kept, skipped}
-use Rattle.salvaging.specs.Part.{stepsIn, allBytes, restOf, placeLimit, countable, fits, skippedOn, fileBy, textBy, Placed}
+use Rattle.salvaging.specs.Part.{
+  stepsIn,
+  allBytes,
+  restOf,
+  placeLimit,
+  countable,
+  fits,
+  skippedOn,
+  Stand,
+  stand,
+  partRoom,
+  nextStand,
+  isOver,
+  writeBy,
+  tellBy,
+  fileBy,
+  textBy,
+}
 use Rattle.salvaging.proofs.Steps.{Kind, keeps, skips, kind, behind, whole-inside, first-step, over, walked-by-parts, kept-append, after-append, lines-append}
 use Rattle.salvaging.proofs.Laws.{counted}
 
@@ -65,70 +84,138 @@ all-skipped (x ∷ r) w h =
       walk = ap (after w) (short-first x r h) ∙ later .walk ∙ ap (λ (n : ℕ). record { kept = w .kept; skipped = w .skipped; run = n }) more;
     }
 
+-- ---- one part in front of the others
+module _ (s : Stand) (p : List ℕ) where
+  abbrev b : List ℕ
+  b = s .held ++ p
+
+  abbrev w : Walk
+  w = s .walk
+
+  abbrev left : List ℕ
+  left = restOf b
+
+  abbrev w' : Walk
+  w' = after w (stepsIn b)
+
+  onward : (r : List ℕ) → steps (s .held ++ (p ++ r)) ≡ stepsIn b ++ steps (left ++ r)
+  onward r = ap steps (sym (append-assoc (s .held) p r)) ∙ walked-by-parts b r
+
+  few : length left < 512
+  few = over 512 (omega arith) b .few
+
+  walked : length (allBytes (stepsIn b)) + length left ≡ length b
+  walked = sym (length-append (allBytes (stepsIn b)) left) ∙ ap length (over 512 (omega arith) b .in-order)
+
+  far : placeOf w' ≡ placeOf w + length (allBytes (stepsIn b))
+  far = place-after 512 (omega arith) (length b) b w
+
+  -- nothing behind it: what is left is skipped
+  at-end : steps b ≡ stepsIn b ++ steps left
+  at-end = rw (append-nil b, append-nil left) at (walked-by-parts b [])
+
+  no-more-kept : keptBytes (steps b) ≡ keptBytes (stepsIn b)
+  no-more-kept =
+      ap keptBytes at-end ∙ kept-append (stepsIn b) (steps left) ∙ rw (all-skipped left w' few .file) (append-nil (keptBytes (stepsIn b)))
+
+  no-more-told : runLines w (steps b) ≡ runLines w (stepsIn b)
+  no-more-told =
+      ap (runLines w) at-end ∙ lines-append w (stepsIn b) (steps left) ∙ rw (all-skipped left w' few .text) (append-nil (runLines w (stepsIn b)))
+
+  walk-ends : after w (steps b) ≡ skippedOn (length left) w'
+  walk-ends = ap (after w) at-end ∙ after-append w (stepsIn b) (steps left) ∙ all-skipped left w' few .walk
+
+can-count : (size : ℕ) (w : Walk) → placeOf w + size < placeLimit → countable size w ≡ true
+can-count size w h =
+    rw (
+      lt-ltb size placeLimit (omega (arith, h)),
+      lt-ltb (w .kept) (placeLimit / 512) (omega (arith, h)),
+      lt-ltb (w .skipped) placeLimit (omega (arith, h)),
+      lt-ltb (w .run) placeLimit (omega (arith, h)),
+    )
+
+-- few bytes are held, and what is still to come can be counted
+abbrev Can : Stand → List ℕ → Type 0
+Can s rest = (length (s .held) < 512) × (placeOf (s .walk) + length (s .held) + length rest < placeLimit)
+
+-- what a file comes to from where the run stands
+abbrev fileFrom : Stand → List ℕ → List ℕ
+fileFrom s r = keptBytes (steps (s .held ++ r))
+
+abbrev textFrom : Stand → List ℕ → List ℕ
+textFrom s r = runLines (s .walk) (steps (s .held ++ r)) ++ lastLines (after (s .walk) (steps (s .held ++ r)))
+
 -- ---- the run, with room for a run's line before each block that a part can have
-module _ (room textRoom : ℕ) (lines : 42 * (room / 512) ≤ textRoom) (long : 48 ≤ textRoom) where
-  can-count : (size : ℕ) (w : Walk) → placeOf w + size < placeLimit → countable size w ≡ true
-  can-count size w h =
-      rw (
-        lt-ltb size placeLimit (omega (arith, h)),
-        lt-ltb (w .kept) (placeLimit / 512) (omega (arith, h)),
-        lt-ltb (w .skipped) placeLimit (omega (arith, h)),
-        lt-ltb (w .run) placeLimit (omega (arith, h)),
-      )
+module _ (room textRoom : ℕ) (block : 512 ≤ room) (lines : 42 * (room / 512) ≤ textRoom) (long : 48 ≤ textRoom) where
+  has-room : (size : ℕ) (w : Walk) → size ≤ room → placeOf w + size < placeLimit → fits size room textRoom w ≡ true
+  has-room size w inside h =
+      rw (le-leb size room inside, le-leb (size / 512) (textRoom / 42) (omega (arith, inside, lines)), can-count size w h)
 
-  has-room : (size : ℕ) (w : Walk) → leb size room ≡ true → size ≤ room → placeOf w + size < placeLimit → fits size room textRoom w ≡ true
-  has-room size w e inside h = rw (e, le-leb (size / 512) (textRoom / 42) (omega (arith, inside, lines)), can-count size w h)
+  module _ (s : Stand) (p : List ℕ) where
+    size : length (b s p) ≡ length (s .held) + length p
+    size = length-append (s .held) p
 
-  abbrev Whole : List ℕ → Walk → List (List ℕ) → Type 0
-  Whole held w ps =
-      (fileBy room textRoom held w ps ≡ keptBytes (steps (held ++ together ps)))
-      × (textBy room textRoom held w ps ≡ runLines w (steps (held ++ together ps)) ++ lastLines (after w (steps (held ++ together ps))))
+    module _ (can : Can s p) (short : length p < partRoom room textRoom s) where
+      roomy-last : fits (length (b s p)) room textRoom (s .walk) ≡ true
+      roomy-last = has-room (length (b s p)) (s .walk) (omega (arith, size, short)) (omega (arith, size, can .1))
 
-  at-end : (held : List ℕ) (w : Walk) → length held < 512 → placeOf w + length held < placeLimit → Whole held w []
-  unfolding fileBy textBy together
-  at-end held w few h =
-      let s = all-skipped held w few in
-      let whole : held ++ [] ≡ held = append-nil held in
-      rw (whole, s .file, s .text, s .walk, can-count (length held) w h, le-leb 42 textRoom (omega (arith, long)), le-leb 48 textRoom long) (refl, refl)
+      not-full : ltb (length (b s p)) room ≡ true
+      not-full = lt-ltb (length (b s p)) room (omega (arith, size, short))
 
-  module _ (held : List ℕ) (w : Walk) (p : List ℕ) (ps : List (List ℕ)) where
-    abbrev b : List ℕ
-    b = held ++ p
+      counted-last : countable (length (left s p)) (w' s p) ≡ true
+      counted-last = can-count (length (left s p)) (w' s p) (omega (arith, can .1, size, walked s p, far s p))
 
-    joined : steps (held ++ (p ++ together ps)) ≡ stepsIn b ++ steps (restOf b ++ together ps)
-    joined = ap steps (sym (append-assoc held p (together ps))) ∙ walked-by-parts b (together ps)
+      last-file : (isOver room textRoom s p ≡ true) × (writeBy room textRoom s p ≡ fileFrom s p)
+      last-file = rw (roomy-last, not-full) (refl, sym (no-more-kept s p))
 
-    one-part : fits (length b) room textRoom w ≡ true → Whole (restOf b) (after w (stepsIn b)) ps → Whole held w (p ∷ ps)
-    unfolding fileBy textBy together
-    one-part e later =
-        (rw (e, later .0, joined) (sym (kept-append (stepsIn b) (steps (restOf b ++ together ps)))), rw (e, later .1, joined) text)
-      where
-        s : List Step
-        s = steps (restOf b ++ together ps)
+      last-text : (isOver room textRoom s p ≡ true) × (tellBy room textRoom s p ≡ textFrom s p)
+      last-text =
+          rw (roomy-last, not-full, counted-last, le-leb 42 textRoom (omega (arith, long)), le-leb 48 textRoom long, no-more-told s p, walk-ends s p) (refl, refl)
 
-        text : runLines w (stepsIn b) ++ (runLines (after w (stepsIn b)) s ++ lastLines (after (after w (stepsIn b)) s))
-            ≡ runLines w (stepsIn b ++ s) ++ lastLines (after w (stepsIn b ++ s))
-        text =
-            sym (append-assoc (runLines w (stepsIn b)) (runLines (after w (stepsIn b)) s) (lastLines (after (after w (stepsIn b)) s)))
-            ∙ ap (λ (l : List ℕ). l ++ lastLines (after (after w (stepsIn b)) s)) (sym (lines-append w (stepsIn b) s))
-            ∙ ap (λ (v : Walk). runLines w (stepsIn b ++ s) ++ lastLines v) (sym (after-append w (stepsIn b) s))
+    module _ (r : List ℕ) (can : Can s (p ++ r)) (full : length p ≡ partRoom room textRoom s) where
+      roomy-full : fits (length (b s p)) room textRoom (s .walk) ≡ true
+      roomy-full =
+          has-room (length (b s p)) (s .walk) (omega (arith, size, full, can .0, block)) (omega (arith, size, can .1, length-append p r))
 
-  from-here : (held : List ℕ) (w : Walk) (ps : List (List ℕ)) → length held < 512 → placeOf w + length (held ++ together ps) < placeLimit
-      → Placed room held ps → Whole held w ps
-  unfolding together Placed
-  from-here held w [] few h placed = at-end held w few (rw (append-nil held) at h)
-  from-here held w (p ∷ ps) few h placed =
-      let b = held ++ p in
-      let rest = together ps in
-      let sizes : length (held ++ (p ++ rest)) ≡ length b + length rest = ap length (sym (append-assoc held p rest)) ∙ length-append b rest in
-      let walked : length (allBytes (stepsIn b)) + length (restOf b) ≡ length b =
-      sym (length-append (allBytes (stepsIn b)) (restOf b)) ∙ ap length (over 512 (omega arith) b .in-order) in
-      let far = place-after 512 (omega arith) (length b) b w in
-      one-part held w p ps (has-room (length b) w (placed .0) (leb-true (length b) room (placed .0)) (omega (arith, h, sizes)))
-      (from-here (restOf b) (after w (stepsIn b)) ps (over 512 (omega arith) b .few)
-      (omega (arith, h, sizes, walked, far, length-append (restOf b) rest)) (placed .1))
+      filled : ltb (length (b s p)) room ≡ false
+      filled = le-ltb (length (b s p)) room (omega (arith, size, full, can .0, block))
+
+      goes-on : isOver room textRoom s p ≡ false
+      goes-on = rw (roomy-full, filled)
+
+      can-on : Can (nextStand room textRoom s p) r
+      can-on = rw roomy-full (few s p, omega (arith, can .1, size, walked s p, far s p, length-append p r))
+
+      next-file : writeBy room textRoom s p ++ fileFrom (nextStand room textRoom s p) r ≡ fileFrom s (p ++ r)
+      next-file = rw (roomy-full, onward s p r) (sym (kept-append (stepsIn (b s p)) (steps (left s p ++ r))))
+
+      next-text : tellBy room textRoom s p ++ textFrom (nextStand room textRoom s p) r ≡ textFrom s (p ++ r)
+      next-text = rw (roomy-full, filled, onward s p r, append-nil (runLines (s .walk) (stepsIn (b s p)))) text
+        where
+          here : List Step
+          here = stepsIn (b s p)
+
+          t : List Step
+          t = steps (left s p ++ r)
+
+          text : runLines (s .walk) (stepsIn (b s p)) ++ (runLines (w' s p) (steps (left s p ++ r)) ++ lastLines (after (w' s p) (steps (left s p ++ r))))
+              ≡ runLines (s .walk) (stepsIn (b s p) ++ steps (left s p ++ r)) ++ lastLines (after (s .walk) (stepsIn (b s p) ++ steps (left s p ++ r)))
+          text =
+              sym (append-assoc (runLines (s .walk) here) (runLines (w' s p) t) (lastLines (after (w' s p) t)))
+              ∙ ap (λ (l : List ℕ). l ++ lastLines (after (w' s p) t)) (sym (lines-append (s .walk) here t))
+              ∙ ap (λ (v : Walk). runLines (s .walk) (here ++ t) ++ lastLines v) (sym (after-append (s .walk) here t))
+
+  file-steps : TextSteps (nextStand room textRoom) (isOver room textRoom) (writeBy room textRoom) (partRoom room textRoom) fileFrom Can
+  file-steps = text-steps last-file (λ s p r can full. (goes-on s p r can full, next-file s p r can full, can-on s p r can full))
+
+  told-steps : TextSteps (nextStand room textRoom) (isOver room textRoom) (tellBy room textRoom) (partRoom room textRoom) textFrom Can
+  told-steps = text-steps last-text (λ s p r can full. (goes-on s p r can full, next-text s p r can full, can-on s p r can full))
+
+  abbrev start : Stand
+  start = stand [] atStart
 
   -- for every file that a machine can hold
-  pub run-salvages-whole : (ps : List (List ℕ)) → length (together ps) < placeLimit → Placed room [] ps
-      → (fileBy room textRoom [] atStart ps ≡ fileOf (together ps)) × (textBy room textRoom [] atStart ps ≡ textOf (together ps))
-  run-salvages-whole ps h placed = from-here [] atStart ps (omega arith) (omega (arith, h)) placed
+  pub run-salvages-whole : (ps : List (List ℕ)) → Cut (partRoom room textRoom) (nextStand room textRoom) start ps → length (together ps) < placeLimit
+      → (fileBy room textRoom start ps ≡ fileOf (together ps)) × (textBy room textRoom start ps ≡ textOf (together ps))
+  run-salvages-whole ps cut small =
+      (run-makes-whole file-steps start ps cut (omega arith, omega (arith, small)), run-makes-whole told-steps start ps cut (omega arith, omega (arith, small)))

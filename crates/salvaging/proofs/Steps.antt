@@ -8,8 +8,8 @@ use borrow.Author.Tests.{ltb-true, ltb-false, lt-ltb, le-ltb}
 use lib.Dec.{ltb}
 use lib.ListN.{length, take, drop, length-append, length-drop, take-append-drop}
 use lib.Seq.{take-all, drop-drop, length-take-le, take-append-le, drop-append-le}
-use Rattle.forms.specs.Convert.{passes}
-use Rattle.forms.proofs.Kept.{whole-if-passes}
+use Rattle.model.specs.Blocks.{passes}
+use Rattle.model.proofs.Blocks.{whole-if-passes}
 use Rattle.salvaging.specs.declared.Walk.{Walk}
 use Rattle.salvaging.specs.Walk.{Step, bytesOf, stepAt, stepsBy, steps, keptBy, keptBytes, next, after, toldBy, runLines}
 use Rattle.salvaging.specs.Walk.Step.{kept, skipped}

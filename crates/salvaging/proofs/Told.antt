@@ -9,12 +9,13 @@ use lib.Dec.{eqb, ltb}
 use lib.ListN.{length, take, drop, length-drop}
 use lib.Seq.{drop-drop, length-take-le}
 use Rattle.text.specs.Put.{number}
-use Rattle.forms.specs.Convert.{passes}
-use Rattle.forms.proofs.Kept.{whole-if-passes}
+use Rattle.model.specs.Blocks.{passes}
+use Rattle.model.specs.Parts.{together}
+use Rattle.model.proofs.Blocks.{whole-if-passes}
 use Rattle.salvaging.specs.declared.Walk.{Walk}
 use Rattle.salvaging.specs.Walk.{Step, bytesOf, stepAt, steps, keptBytes, next, after, runLine, runLines, totalText, totalLine, atStart}
 use Rattle.salvaging.specs.Walk.Step.{kept, skipped}
-use Rattle.salvaging.specs.Told.{Run, there, Told, sizes, printed, joined, Salvage}
+use Rattle.salvaging.specs.Told.{Run, there, Told, sizes, printed, Salvage}
 use Rattle.salvaging.specs.Told.Told.{end, block, run}
 use Rattle.salvaging.proofs.Steps.{Kind, keeps, skips, kind, behind, whole-inside, none-left, first-step}
 use Rattle.salvaging.proofs.Laws.{no-run, a-run}
@@ -101,12 +102,12 @@ module _ (b : List ℕ) where
     pub blocks : List (List ℕ)
     pub told : Told b true q runs blocks
     pub text : runLines w s ++ runLine (after w s) ≡ printed runs
-    pub file : keptBytes s ≡ joined blocks
+    pub file : keptBytes s ≡ together blocks
     pub kept : after w s .kept ≡ w .kept + length blocks
     pub skipped : after w s .skipped + after w s .run ≡ w .skipped + sizes runs
 
   at-end : (p q : ℕ) (w : Walk) → Open p q w → length b ≤ p → From q w []
-  unfolding runLines after keptBytes joined printed sizes
+  unfolding runLines after keptBytes together printed sizes
   at-end p q w o h =
       let c = closed p q w o [] [] (λ free. end (let e : p ≡ length b = omega (arith, h, o .inside) in e)) in
       record {
@@ -135,7 +136,7 @@ module _ (b : List ℕ) where
     }
 
     block-told : passes (there b p) ≡ true → (s : List Step) → From (p + 512) block-on s → From q w (kept (there b p) ∷ s)
-    unfolding runLines after keptBytes joined
+    unfolding runLines after keptBytes together
     block-told e s later =
         let c = closed p q w o (later .runs) (there b p ∷ later .blocks) (λ free. block e (later .told)) in
         record {

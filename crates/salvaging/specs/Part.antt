@@ -1,11 +1,12 @@
 -- The same by parts: what is at hand is walked as long as 512 bytes of it are left, and the rest is handed on, in front of the next part.
 use mathlib.Core.Path.{_≡_}
-use Prim.Native.Nat.{ℕ, _+_, _/_}
+use Prim.Native.Nat.{ℕ, _+_, _-_, _/_}
 use mathlib.Core.Bool.{Bool, true, cond, _&&_}
 use mathlib.Core.List.{List, [], _∷_, _++_}
 use lib.Dec.{leb, ltb}
 use lib.ListN.{length, drop}
 use Rattle.model.specs.Block.{blockSize}
+use Rattle.runs.specs.Run.{textRun}
 use Rattle.text.specs.Put.{Put}
 use Rattle.salvaging.specs.declared.Walk.{Walk}
 use Rattle.salvaging.specs.Walk.{Step, bytesOf, stepsBy, keptBytes, after, runLine, runLines, totalLine}
@@ -69,19 +70,42 @@ lastRunFor n w textRoom = cond (leb 42 textRoom && countable n w) (runLine (skip
 abbrev pub totalFor : ℕ → Walk → ℕ → List ℕ
 totalFor n w textRoom = cond (leb 48 textRoom && countable n w) (totalLine (skippedOn n w)) []
 
--- ---- a run over parts, with these rooms for each
+-- ---- a run over parts: what is handed on in front of the next one, and the walk so far
+pub record Stand : Type 0 where
+  pub held : List ℕ
+  pub walk : Walk
+
+abbrev pub stand : List ℕ → Walk → Stand
+stand held w = record { held = held; walk = w }
+
+-- with a buffer and a file of such a length, and room for so much text
 module _ (room textRoom : ℕ) where
-  unfoldable pub fileBy : List ℕ → Walk → List (List ℕ) → List ℕ
-  fileBy held w [] = []
-  fileBy held w (p ∷ ps) =
-      fileFor (held ++ p) w room textRoom ++ fileBy (restFor (held ++ p) w room textRoom) (walkFor (held ++ p) w room textRoom) ps
+  -- a part is read behind what is held
+  abbrev pub partRoom : Stand → ℕ
+  partRoom s = room - length (s .held)
 
-  unfoldable pub textBy : List ℕ → Walk → List (List ℕ) → List ℕ
-  textBy held w [] = lastRunFor (length held) w textRoom ++ totalFor (length held) w textRoom
-  textBy held w (p ∷ ps) =
-      textFor (held ++ p) w room textRoom ++ textBy (restFor (held ++ p) w room textRoom) (walkFor (held ++ p) w room textRoom) ps
+  abbrev pub nextStand : Stand → List ℕ → Stand
+  nextStand s part = let b = s .held ++ part in stand (restFor b (s .walk) room textRoom) (walkFor b (s .walk) room textRoom)
 
--- each part has room behind what is handed on to it
-unfoldable pub Placed : ℕ → List ℕ → List (List ℕ) → Type 0
-Placed room held [] = Unit {0}
-Placed room held (p ∷ ps) = (leb (length (held ++ p)) room ≡ true) × Placed room (restOf (held ++ p)) ps
+  -- the last part leaves the buffer not full; the run is over too where there was no room
+  abbrev pub isLast : Stand → List ℕ → Bool
+  isLast s part = roomy (s .held ++ part) (s .walk) room textRoom && ltb (length (s .held ++ part)) room
+
+  abbrev pub isOver : Stand → List ℕ → Bool
+  isOver s part = cond (roomy (s .held ++ part) (s .walk) room textRoom) (ltb (length (s .held ++ part)) room) true
+
+  -- what is written of a part, and what is told: after the last one its last run and the totals too
+  abbrev pub writeBy : Stand → List ℕ → List ℕ
+  writeBy s part = fileFor (s .held ++ part) (s .walk) room textRoom
+
+  abbrev pub lastFor : Stand → List ℕ
+  lastFor s = lastRunFor (length (s .held)) (s .walk) textRoom ++ totalFor (length (s .held)) (s .walk) textRoom
+
+  abbrev pub tellBy : Stand → List ℕ → List ℕ
+  tellBy s part = textFor (s .held ++ part) (s .walk) room textRoom ++ cond (isLast s part) (lastFor (nextStand s part)) []
+
+  abbrev pub fileBy : Stand → List (List ℕ) → List ℕ
+  fileBy = textRun nextStand isOver writeBy
+
+  abbrev pub textBy : Stand → List (List ℕ) → List ℕ
+  textBy = textRun nextStand isOver tellBy

@@ -6,7 +6,8 @@ use mathlib.Core.List.{List, [], _∷_, _++_}
 use lib.ListN.{length, take, drop}
 use Rattle.model.specs.Block.{blockSize}
 use Rattle.text.specs.Put.{number}
-use Rattle.forms.specs.Convert.{passes}
+use Rattle.model.specs.Blocks.{passes}
+use Rattle.model.specs.Parts.{together}
 use Rattle.salvaging.specs.Walk.{totalText, fileOf, textOf}
 
 pub record Run : Type 0 where
@@ -34,15 +35,11 @@ unfoldable pub printed : List Run → List ℕ
 printed [] = []
 printed (r ∷ rs) = number (r .place) 32 ++ (number (r .size) 10 ++ printed rs)
 
-unfoldable pub joined : List (List ℕ) → List ℕ
-joined [] = []
-joined (k ∷ ks) = k ++ joined ks
-
 -- what is told of a file, and written
 pub record Salvage (b : List ℕ) : Type 0 where
   pub runs : List Run
   pub blocks : List (List ℕ)
   pub told : Told b true 0 runs blocks
   pub text : textOf b ≡ printed runs ++ (totalText ++ (number (length blocks) 32 ++ number (sizes runs) 10))
-  pub file : fileOf b ≡ joined blocks
+  pub file : fileOf b ≡ together blocks
   pub counts : blockSize * length blocks + sizes runs ≡ length b

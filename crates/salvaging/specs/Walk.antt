@@ -7,7 +7,7 @@ use lib.Dec.{eqb, ltb}
 use lib.ListN.{length, take, drop}
 use Rattle.model.specs.Block.{blockSize}
 use Rattle.text.specs.Put.{number}
-use Rattle.forms.specs.Convert.{passes}
+use Rattle.model.specs.Blocks.{passes}
 use Rattle.salvaging.specs.declared.Walk.{Walk}
 
 -- ---- a step, with the bytes that it goes over

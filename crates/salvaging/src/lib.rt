@@ -1,12 +1,11 @@
 // A file walked from its start: each place whose 512 bytes pass is kept as a block, any other is skipped by one byte, and runs of skipped bytes are
 // told. It comes in parts; what is left behind the last whole 512 bytes is handed on, to the front of the next part.
-use model::CheckedBlock;
 ghost use mathlib.Core.Path.{_≡_};
 ghost use Prim.Native.Nat.{_+_, _*_, _-_, _≤_, _<_};
 ghost use mathlib.Core.Bool.{true};
 ghost use lib.ListN.{length, take, drop};
-ghost use Rattle.model.specs.Block.{blockSize, badCount};
-ghost use Rattle.forms.specs.Convert.{isGood, passes};
+ghost use Rattle.model.specs.Block.{blockSize};
+ghost use Rattle.model.specs.Blocks.{passes};
 ghost use Rattle.text.specs.Put.{Put};
 ghost use Rattle.salvaging.specs.Walk.{bytesOf, stepAt, keptBy, keptBytes, next, after, runLine, toldBy, runLines};
 ghost use Rattle.salvaging.specs.Part.{stepsIn, allBytes, skippedOn, lastRunFor, totalFor, SalvagedTo};
@@ -39,21 +38,6 @@ struct Reached {
     walk: Walk,
 }
 
-fn bad_count(n: u8) -> bool
-    ensures { λ r. ⌜ r ≡ badCount n ⌝ }
-{
-    (n == 0) | (n > 16)
-}
-
-fn good(checked: CheckedBlock) -> bool
-    ensures { λ r. ⌜ r ≡ isGood checked ⌝ }
-{
-    match checked {
-        CheckedBlock::Good(_) => true,
-        CheckedBlock::Refused(_, _) => false,
-    }
-}
-
 // Whether the 512 bytes from a place on pass. Bytes that can refuse them at once are looked at before the sum.
 fn passes_at(bytes: &[u8], at: usize) -> bool
     requires { ⌜ at + blockSize ≤ length (now bytes) ⌝ }
@@ -62,14 +46,14 @@ fn passes_at(bytes: &[u8], at: usize) -> bool
     if bytes[at + 7] != 0 {
         return false;
     }
-    if bad_count(bytes[at + 4]) {
+    if block::bad_count(bytes[at + 4]) {
         return false;
     }
-    if bad_count(bytes[at + 5]) {
+    if block::bad_count(bytes[at + 5]) {
         return false;
     }
     let end = at + 512;
-    good(block::check_block(&bytes[at..end]))
+    block::good(block::check_block(&bytes[at..end]))
 }
 
 // The line of the present run, where there is one.

@@ -1,6 +1,6 @@
 -- `forms::convert_block` meets its contract: what is not written in one place is in the other. Assumes nothing.
 use mathlib.Core.Path.{sym, ap, _∙_}
-use Rattle.forms.specs.Convert.{isGood}
+use Rattle.model.specs.Blocks.{isGood}
 use Rattle.text.proofs.Pasted.{put-nothing}
 use Rattle.text.proofs.Lengths.{roomy}
 use Rattle.forms.proofs.Laws.{put-turned}
@@ -28,10 +28,13 @@ same-length c = search needs
 
 returns : tie.Need-returns
 returns c =
-    let start = c .before .before .before .before .before .before .before .before .before .before .before .before in
-    let good = ap isGood (sym (c .before .before .before .before .before .before .before .before .check-block .ensures)) ∙ sym (c .before .before .before .before .before .before .before .good2 .ensures) ∙ c .before .before .before .before .before .before .if1 .taken in
+    let turned = c .before .before .before .before .before in
+    let tested = turned .before in
+    let checked = tested .before .before in
+    let start = checked .before .before .before .before in
+    let good = ap isGood (sym (checked .check-block .ensures)) ∙ sym (tested .before .good2 .ensures) ∙ tested .if1 .taken in
     rw good (
-      put-turned (start .args .part .now) _ (start .pre .1 .0) (start .pre .0 .0) (c .before .before .before .before .before .other-form .ensures) (c .before .before .put-text .ensures),
+      put-turned (start .args .part .now) _ (start .pre .1 .0) (start .pre .0 .0) (turned .other-form .ensures) (c .before .before .put-text .ensures),
       put-nothing _ _,
     )
 
@@ -46,8 +49,10 @@ same-length-2 c = search needs
 
 returns-2 : tie.Need-returns-2
 returns-2 c =
-    let start = c .before .before .before .before .before .before .before .before .before .before in
-    let bad = ap isGood (sym (c .before .before .before .before .before .before .check-block .ensures)) ∙ sym (c .before .before .before .before .before .good2 .ensures) ∙ c .before .before .before .before .if1 .left in
+    let tested = c .before .before .before .before in
+    let checked = tested .before .before in
+    let start = checked .before .before .before .before in
+    let bad = ap isGood (sym (checked .check-block .ensures)) ∙ sym (tested .before .good2 .ensures) ∙ tested .if1 .left in
     rw bad (put-nothing _ _, roomy 21 (c .before .before .put-number .ensures) (start .pre .1 .1))
 
 pub convert-block-spec : {M : Type 1} → statement M

@@ -7,7 +7,8 @@ use lib.ListN.{length}
 use borrow.Author.Needs.{needs}
 use Rattle.text.specs.Put.{Put}
 use Rattle.text.proofs.Pasted.{put-nothing}
-use Rattle.forms.specs.Convert.{wholeBlocks, converted, toldFrom}
+use Rattle.model.specs.Blocks.{wholeBlocks}
+use Rattle.forms.specs.Convert.{converted, toldFrom}
 use Rattle.forms.proofs.Laws.{file-step, text-step, file-grows, text-grows}
 use Rattle.forms.proofs.convert_blocks.Statement.{statement}
 use Rattle.forms.proofs.convert_blocks.Tie as tie
@@ -54,18 +55,19 @@ loop-less c = search needs
 loop-again : tie.Need-loop-again Inv-loop μ-loop
 loop-again c =
     let w = c .before .before .before .before .convert-block in
-    let l = c .before .before .before .before .before .before .before .before .before .loop in
-    let start = c .before .before .before .before .before .before .before .before .before .before .before .before .before in
+    let turn = c .before .before .before .before .before .before .before .before in
+    let l = turn .before .loop in
+    let start = turn .before .before .before .before .before in
     let i = l .i in
     let whole : 512 * i + 512 - 512 * i ≡ 512 = omega arith in
     let inside : 512 * i + 512 ≤ length (start .args .part .now) =
-    omega (arith, c .before .before .before .before .before .before .before .before .loop-test .taken) in (
+    omega (arith, turn .loop-test .taken) in (
       search needs,
       search needs,
       w .kept .1 .1 .0 ∙ l .inv .2,
       w .kept .1 .1 .1 .0 ∙ l .inv .3,
       omega (arith, l .inv .4, file-grows (start .args .part .now) (start .args .before) i _ whole inside (w .ensures .0)),
-      omega (arith, l .inv .5, text-grows (start .args .part .now) (start .args .before) i _ whole inside (l .n + 1) (w .ensures .1)),
+      omega (arith, l .inv .5, text-grows (start .args .part .now) (start .args .before) i _ whole inside (l .n) (w .ensures .1)),
       file-step (start .args .part .now) (start .args .before) i _ whole inside (l .inv .6) (w .ensures .0),
       text-step (start .args .part .now) (start .args .before) i _ whole inside (l .inv .7) (rw (l .inv .1) at (w .ensures .1)),
     )

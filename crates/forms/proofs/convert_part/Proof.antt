@@ -1,11 +1,11 @@
 -- `forms::convert_part` meets its contract: nothing where there is no room; else the whole blocks, and the number of a rest. Assumes nothing.
 use mathlib.Core.Path.{refl, sym, _∙_}
 use native.Mathlib.Omega.{arith}
-use lib.ListN.{length}
 use borrow.Author.Tests.{not-true, not-false}
+use Rattle.model.proofs.Blocks.{whole-counted, rest-counted}
 use Rattle.text.proofs.Pasted.{put-nothing, put-then}
 use Rattle.text.proofs.Lengths.{roomy}
-use Rattle.forms.proofs.Laws.{fits-room, whole-converted, whole-told, whole-counted, rest-converted, rest-told, rest-counted}
+use Rattle.forms.proofs.Laws.{room-of, whole-converted, whole-told, rest-converted, rest-told}
 use borrow.Author.Needs.{needs}
 use Rattle.forms.proofs.convert_part.Statement.{statement}
 use Rattle.forms.proofs.convert_part.Tie as tie
@@ -19,16 +19,20 @@ returns c =
 
 convert-blocks-requires : tie.Need-convert-blocks-requires
 convert-blocks-requires c κs =
-    let start = c .before .before .before .before .before .before .before in
-    let fits = sym (c .before .before .before .fits2 .ensures) ∙ not-false (c .before .before .before .fits2 .result) (c .before .before .if1 .left) in
-    let room = fits-room (length (start .args .part .now)) (length (start .args .file .now)) (length (start .args .text .now)) (start .args .before) fits in
+    let tested = c .before .before in
+    let asked = tested .before in
+    let start = asked .before .before .before .before in
+    let fits = sym (asked .fits2 .ensures) ∙ not-false (asked .fits2 .result) (tested .if1 .left) in
+    let room = room-of (start .args .part .now) (start .args .file .now) (start .args .text .now) (start .args .before) fits in
     (room .blocks, omega (arith, room .numbers), room .small)
 
 add-count : tie.Need-add-count
 add-count c =
-    let start = c .before .before .before .before .before .before .before .before .before .before .before .before in
-    let fits = sym (c .before .before .before .before .before .before .before .before .fits2 .ensures) ∙ not-false (c .before .before .before .before .before .before .before .before .fits2 .result) (c .before .before .before .before .before .before .before .if1 .left) in
-    let room = fits-room (length (start .args .part .now)) (length (start .args .file .now)) (length (start .args .text .now)) (start .args .before) fits in
+    let tested = c .before .before .before .before .before .before .before in
+    let asked = tested .before in
+    let start = asked .before .before .before .before in
+    let fits = sym (asked .fits2 .ensures) ∙ not-false (asked .fits2 .result) (tested .if1 .left) in
+    let room = room-of (start .args .part .now) (start .args .file .now) (start .args .text .now) (start .args .before) fits in
     omega (arith, room .small, start .good, start .fits)
 
 same-length : tie.Need-same-length
@@ -39,9 +43,11 @@ same-length-2 c = search needs
 
 returns-2 : tie.Need-returns-2
 returns-2 c =
-    let start = c .before .before .before .before .before .before .before .before .before .before .before .before .before in
-    let fits = sym (c .before .before .before .before .before .before .before .before .before .fits2 .ensures) ∙ not-false (c .before .before .before .before .before .before .before .before .before .fits2 .result) (c .before .before .before .before .before .before .before .before .if1 .left) in
-    let room = fits-room (length (start .args .part .now)) (length (start .args .file .now)) (length (start .args .text .now)) (start .args .before) fits in
+    let tested = c .before .before .before .before .before .before .before .before in
+    let asked = tested .before in
+    let start = asked .before .before .before .before in
+    let fits = sym (asked .fits2 .ensures) ∙ not-false (asked .fits2 .result) (tested .if1 .left) in
+    let room = room-of (start .args .part .now) (start .args .file .now) (start .args .text .now) (start .args .before) fits in
     let w = c .before .before .before .before .before .convert-blocks in
     let b = start .args .part .now in
     let none = c .if2 .taken in
@@ -50,9 +56,11 @@ returns-2 c =
 
 add-put-number : tie.Need-add-put-number
 add-put-number c =
-    let start = c .before .before .before .before .before .before .before .before .before .before .before .before .before .before in
-    let fits = sym (c .before .before .before .before .before .before .before .before .before .before .fits2 .ensures) ∙ not-false (c .before .before .before .before .before .before .before .before .before .before .fits2 .result) (c .before .before .before .before .before .before .before .before .before .if1 .left) in
-    let room = fits-room (length (start .args .part .now)) (length (start .args .file .now)) (length (start .args .text .now)) (start .args .before) fits in
+    let tested = c .before .before .before .before .before .before .before .before .before in
+    let asked = tested .before in
+    let start = asked .before .before .before .before in
+    let fits = sym (asked .fits2 .ensures) ∙ not-false (asked .fits2 .result) (tested .if1 .left) in
+    let room = room-of (start .args .part .now) (start .args .file .now) (start .args .text .now) (start .args .before) fits in
     omega (arith, room .small, start .good, start .fits)
 
 put-number-requires : tie.Need-put-number-requires
@@ -60,9 +68,11 @@ put-number-requires c κs = search needs
 
 add-t18 : tie.Need-add-t18
 add-t18 c =
-    let start = c .before .before .before .before .before .before .before .before .before .before .before .before .before .before .before .before .before in
-    let fits = sym (c .before .before .before .before .before .before .before .before .before .before .before .before .before .fits2 .ensures) ∙ not-false (c .before .before .before .before .before .before .before .before .before .before .before .before .before .fits2 .result) (c .before .before .before .before .before .before .before .before .before .before .before .before .if1 .left) in
-    let room = fits-room (length (start .args .part .now)) (length (start .args .file .now)) (length (start .args .text .now)) (start .args .before) fits in
+    let tested = c .before .before .before .before .before .before .before .before .before .before .before .before in
+    let asked = tested .before in
+    let start = asked .before .before .before .before in
+    let fits = sym (asked .fits2 .ensures) ∙ not-false (asked .fits2 .result) (tested .if1 .left) in
+    let room = room-of (start .args .part .now) (start .args .file .now) (start .args .text .now) (start .args .before) fits in
     omega (arith, room .small, start .good, start .fits)
 
 same-length-3 : tie.Need-same-length-3
@@ -73,9 +83,11 @@ same-length-4 c = search needs
 
 returns-3 : tie.Need-returns-3
 returns-3 c =
-    let start = c .before .before .before .before .before .before .before .before .before .before .before .before .before .before .before .before .before in
-    let fits = sym (c .before .before .before .before .before .before .before .before .before .before .before .before .before .fits2 .ensures) ∙ not-false (c .before .before .before .before .before .before .before .before .before .before .before .before .before .fits2 .result) (c .before .before .before .before .before .before .before .before .before .before .before .before .if1 .left) in
-    let room = fits-room (length (start .args .part .now)) (length (start .args .file .now)) (length (start .args .text .now)) (start .args .before) fits in
+    let tested = c .before .before .before .before .before .before .before .before .before .before .before .before in
+    let asked = tested .before in
+    let start = asked .before .before .before .before in
+    let fits = sym (asked .fits2 .ensures) ∙ not-false (asked .fits2 .result) (tested .if1 .left) in
+    let room = room-of (start .args .part .now) (start .args .file .now) (start .args .text .now) (start .args .before) fits in
     let w = c .before .before .before .before .before .before .before .before .before .convert-blocks in
     let b = start .args .part .now in
     let some = c .before .before .before .before .if2 .left in

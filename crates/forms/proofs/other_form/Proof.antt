@@ -29,35 +29,39 @@ sum-before-requires c κs = search needs
 sub-check : tie.Need-sub-check
 sub-check c = search needs
 
-cast-turned : tie.Need-cast-turned
-cast-turned c = search needs
+word-bytes-requires : tie.Need-word-bytes-requires
+word-bytes-requires c κs = search needs
+
+array-read-turned : tie.Need-array-read-turned
+array-read-turned c = search needs
 
 array-write-turned-2 : tie.Need-array-write-turned-2
 array-write-turned-2 c = search needs
 
-cast-turned-2 : tie.Need-cast-turned-2
-cast-turned-2 c = search needs
+array-read-turned-2 : tie.Need-array-read-turned-2
+array-read-turned-2 c = search needs
 
 array-write-turned-3 : tie.Need-array-write-turned-3
 array-write-turned-3 c = search needs
 
-cast-turned-3 : tie.Need-cast-turned-3
-cast-turned-3 c = search needs
+array-read-turned-3 : tie.Need-array-read-turned-3
+array-read-turned-3 c = search needs
 
 array-write-turned-4 : tie.Need-array-write-turned-4
 array-write-turned-4 c = search needs
 
-cast-turned-4 : tie.Need-cast-turned-4
-cast-turned-4 c = search needs
+array-read-turned-4 : tie.Need-array-read-turned-4
+array-read-turned-4 c = search needs
 
 array-write-turned-5 : tie.Need-array-write-turned-5
 array-write-turned-5 c = search needs
 
 returns : tie.Need-returns
 returns c =
-    let start = c .before .before .before .before .before .before .before in
-    made (start .args .part .now) _ _ _ (start .pre) (c .before .before .before .before .copy .ensures .1 ∙ copied _ _ (start .pre) refl)
-    (c .before .before .other-number .ensures) (c .sum-before .ensures)
+    let start = c .before .before .before .before .before .before .before .before in
+    rw (c .word-bytes .ensures)
+    (made (start .args .part .now) _ _ _ (start .pre) (c .before .before .before .before .before .copy .ensures .1 ∙ copied _ _ (start .pre) refl)
+    (c .before .before .before .other-number .ensures) (c .before .sum-before .ensures))
 
 pub other-form-spec : {M : Type 1} → statement M
 other-form-spec =
@@ -71,12 +75,13 @@ other-form-spec =
     slice-aggregate-sum-before
     sum-before-requires
     sub-check
-    cast-turned
+    word-bytes-requires
+    array-read-turned
     array-write-turned-2
-    cast-turned-2
+    array-read-turned-2
     array-write-turned-3
-    cast-turned-3
+    array-read-turned-3
     array-write-turned-4
-    cast-turned-4
+    array-read-turned-4
     array-write-turned-5
     returns)

@@ -2,7 +2,7 @@
 use mathlib.Core.Path.{sym, ap, _∙_}
 use Prim.Native.Nat.{_+_, _-_}
 use native.Mathlib.Omega.{arith}
-use Rattle.forms.specs.Convert.{isGood}
+use Rattle.model.specs.Blocks.{isGood}
 use Rattle.salvaging.proofs.Passing.{good-there, refused-by-7, refused-by-a, refused-by-b}
 use borrow.Author.Needs.{needs}
 use Rattle.salvaging.proofs.passes_at.Statement.{statement}

@@ -86,13 +86,14 @@ loop-again : tie.Need-loop-again Inv-loop μ-loop
 loop-again c =
     let e = c .before .before .before .before .end-line in
     let h = c .before .before .before .before .before .before .before .before .before .hold in
-    let l = c .before .before .before .before .before .before .before .before .before .before .before .before .before .loop in
-    let b = c .before .before .before .before .before .before .before .before .before .before .before .before .before .before .before .before .before .before in
+    let turn = c .before .before .before .before .before .before .before .before .before .before .before .before in
+    let l = turn .before .loop in
+    let p = turn .before .before .before .lay in
+    let b = turn .before .before .before .before .before .before in
     let a = b .before .before .before .before .args in
     let u = used-fits (length (a .part .now)) (length (a .out .now) / 512) (length (a .err .now)) (a .held .lines) (b .used-of .ensures) in
-    let more = c .before .before .before .before .before .before .before .before .before .before .before .before .loop-test .taken in
+    let more = turn .loop-test .taken in
     let f = goes-further (e .ensures) in
-    let p = c .before .before .before .before .before .before .before .before .before .before .before .before .before .before .before .lay in
     let inside : l .i < length (a .part .now) = omega (arith, u .inside, more) in
     let same = h .kept .0 ∙ l .inv .3 in
     let most : h .result ≤ length (h .last .0) = omega (arith, h .ensures .1, same) in (
@@ -104,7 +105,8 @@ loop-again c =
       omega (arith, f .ended, l .inv .5),
       omega (arith, f .written, l .inv .6),
       omega (arith, f .complaints, l .inv .7),
-      rw (run-more (starting (take (p .result) (p .last .1 .1 .0)) (a .held .lines)) (a .part .now) (l .i) inside) (shows-byte _ _ _ _ (h .last .0) (h .result) most (l .inv .8) (h .ensures .0) (e .ensures)),
+      rw (run-more (starting (take (p .result) (p .last .1 .1 .0)) (a .held .lines)) (a .part .now) (l .i) inside)
+          (shows-byte _ _ _ _ (h .last .0) (h .result) most (l .inv .8) (h .ensures .0) (e .ensures)),
     )
 
 array-share-prefix-line-2 : tie.Need-array-share-prefix-line-2 Inv-loop μ-loop
@@ -132,7 +134,7 @@ returns c =
     let b = c .before .before .before .before .before .before .before .before in
     let a = b .before .before .before .before in
     let done = le-antisymm (l .inv .0) (c .before .before .loop-test .left) in
-    let run = run-in-is (a .args .held) (a .args .part .now) (a .args .out .now) (a .args .err .now) _ done (b .used-of .ensures)
+    let run = run-in-is (a .args .held) (a .args .part .now) (length (a .args .out .now)) (length (a .args .err .now)) _ done (b .used-of .ensures)
     (c .before .before .before .before .before .lay .ensures .0) in
     let s = rw run at (l .inv .8) in
     (s .written, (s .complaints, c .kept .ensures ∙ rw (s .held, s .ended)))

@@ -1,7 +1,7 @@
 -- `job_text::unpack::put_block` meets its contract, case by case. Assumes nothing.
 use mathlib.Core.Path.{_≡_, sym, ap, _∙_}
 use Rattle.text.proofs.Pasted.{put-nothing}
-use Rattle.job_text.specs.Job.{passes}
+use Rattle.model.specs.Blocks.{isGood}
 use Rattle.job_text.specs.Unpack.{unpacked, refused}
 use Rattle.job_text.proofs.Passed.{what-passed}
 use borrow.Author.Needs.{needs}
@@ -16,7 +16,7 @@ enum-told c = search needs
 
 put-job-requires : tie.Need-put-job-requires
 put-job-requires c κs =
-    let p = what-passed _ (ap passes (sym (c .before .before .before .check-plain .ensures) ∙ c .before .enum-told .given .1)) in
+    let p = what-passed _ (ap isGood (sym (c .before .before .before .check-plain .ensures) ∙ c .before .enum-told .given .1)) in
     (search needs, p .count-a, p .count-b)
 
 enum-known-number : tie.Need-enum-known-number

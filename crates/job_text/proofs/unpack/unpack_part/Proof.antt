@@ -7,6 +7,7 @@ use lib.ListN.{length}
 use Rattle.text.specs.Put.{Put}
 use Rattle.text.proofs.Pasted.{put-nothing}
 use Rattle.text.proofs.Lengths.{ends}
+use Rattle.model.specs.Blocks.{wholeBlocks}
 use Rattle.job_text.specs.Unpack.{linesOf, refusalsOf}
 use Rattle.job_text.proofs.Runs.{used-fits, count-fits}
 use Rattle.job_text.proofs.Blocks.{lines-more, refusals-more, length-unpacked, length-refused}
@@ -17,7 +18,8 @@ use Rattle.job_text.proofs.unpack.unpack_part.Tie as tie
 abbrev Inv-loop : tie.InvT-loop
 Inv-loop part before out₀ err₀ n at₀ told₀ i₀ out err at told i =
     (i ≤ n) × (length out ≡ length out₀) × (length err ≡ length err₀) × (at ≤ 855 * i) × (told ≤ 42 * i)
-    × Put out₀ 0 (linesOf part i) out at × Put err₀ 0 (refusalsOf before part i) err told
+    × Put out₀ 0 (linesOf (wholeBlocks i part)) out at
+    × Put err₀ 0 (refusalsOf before (wholeBlocks i part)) err told
 
 abbrev μ-loop : tie.MeasureT-loop
 μ-loop part before out₀ err₀ n at₀ told₀ i₀ out err at told i = n - i
@@ -26,7 +28,7 @@ used-of-requires : tie.Need-used-of-requires Inv-loop μ-loop
 used-of-requires c κs = search needs
 
 loop-holds : tie.Need-loop-holds Inv-loop μ-loop
-unfolding linesOf refusalsOf
+unfolding wholeBlocks linesOf refusalsOf
 loop-holds c = (search needs, refl, refl, search needs, search needs, put-nothing _ _, put-nothing _ _)
 
 mul-from : tie.Need-mul-from Inv-loop μ-loop
@@ -77,7 +79,8 @@ put-block-requires : tie.Need-put-block-requires Inv-loop μ-loop
 put-block-requires c κs =
     let l = c .before .before .before .before .loop in
     let a = c .before .before .before .before .before .before .before .before .before in
-    let u = used-fits (length (a .args .part .now) / 512) (length (a .args .out .now) / 855) (length (a .args .err .now)) (a .args .before) (c .before .before .before .before .before .used-of .ensures) in
+    let used = c .before .before .before .before .before .used-of .ensures in
+    let u = used-fits (length (a .args .part .now) / 512) (length (a .args .out .now) / 855) (length (a .args .err .now)) (a .args .before) used in
     let more = c .before .before .before .loop-test .taken in (
       omega (arith, more, l .inv .1, l .inv .3, u .room),
       omega (arith, more, l .inv .2, l .inv .4, u .refusals),
@@ -92,15 +95,19 @@ loop-less c = search needs
 loop-again : tie.Need-loop-again Inv-loop μ-loop
 loop-again c =
     let p = c .before .before .before .before .put-block in
-    let l = c .before .before .before .before .before .before .before .before .before .loop in
-    let whole : 512 * l .i + 512 - 512 * l .i ≡ 512 = omega arith in (
+    let turn = c .before .before .before .before .before .before .before .before in
+    let l = turn .before .loop in
+    let a = turn .before .before .before .before .before .before .args in
+    let u = used-fits (length (a .part .now) / 512) (length (a .out .now) / 855) (length (a .err .now)) (a .before) (turn .before .before .used-of .ensures) in
+    let whole : 512 * l .i + 512 - 512 * l .i ≡ 512 = omega arith in
+    let inside : 512 * l .i + 512 ≤ length (a .part .now) = omega (arith, u .inside, turn .loop-test .taken) in (
       search needs,
       p .kept .1 .1 .0 ∙ l .inv .1,
       p .kept .1 .1 .1 .1 .0 ∙ l .inv .2,
       omega (arith, ends (p .ensures .0) (length-unpacked _), l .inv .3),
       omega (arith, ends (p .ensures .1) (length-refused _ _), l .inv .4),
-      lines-more _ _ _ whole (l .inv .5) (p .ensures .0),
-      refusals-more _ _ _ _ whole (l .inv .6) (p .ensures .1),
+      lines-more (a .part .now) (l .i) _ whole inside (l .inv .5) (p .ensures .0),
+      refusals-more (a .part .now) (l .i) _ whole inside (a .before) (l .inv .6) (p .ensures .1),
     )
 
 add-t30 : tie.Need-add-t30 Inv-loop μ-loop
