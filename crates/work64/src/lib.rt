@@ -1,4 +1,4 @@
-// Written by tests/wide.py from work, in f64.
+// Written by tests/written/wide.py from work, in f64.
 // From a block to its answer: its floats, the sweep that they ask for, and what the sweep's answer comes to.
 use model::Block;
 use model::CheckedBlock;

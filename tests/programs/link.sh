@@ -1,10 +1,10 @@
 #!/usr/bin/env bash
 # link.sh: runs the Rust crate's tests, then compares what the C and the Rust examples print of every examples/*.batch, of the stored batch of `sheet`, and
 # of cut ones with the proved program, byte for byte; in f64 likewise, and the distances and roots of C with those of Rust. What it needs is said in
-# tests/build-examples.sh.
+# tests/programs/build-examples.sh.
 set -eu
-cd "$(dirname "$0")/.."
-. tests/build-examples.sh
+cd "$(dirname "$0")/../.."
+. tests/programs/build-examples.sh
 cargo test --offline --quiet --manifest-path rust/Cargo.toml --target-dir target/rust
 work="$(mktemp -d)"; trap 'rm -r "$work"' EXIT
 same() { # same NAME: the three sheets of the batch in the work folder, in f32 and in f64

@@ -1,7 +1,7 @@
 #!/usr/bin/env bash
 # faults.sh: what `sheet` and the C and Rust examples tell where input, output or arguments are at fault. For each fault and program: the exit
 # status, the first line on standard error, and that what was printed does not pass for a finished sheet. Exit status 1 where one differs.
-# What it needs is said in tests/build-examples.sh; SHEET names another program to try in the place of target/bin/sheet.
+# What it needs is said in tests/programs/build-examples.sh; SHEET names another program to try in the place of target/bin/sheet.
 #
 # - `sheet` ends with status 0 even then: a Rattle program cannot set another. C and Rust end with 1, for an argument with 2.
 # - Rust adds `(os error N)` to the system's text, which is taken off here.
@@ -9,8 +9,8 @@
 # - Where a pipe is closed early the system ends a program (status 141), unless the signal is ignored, as Rust's start-up does: then the write
 #   fails, and that is told.
 set -u
-cd "$(dirname "$0")/.."
-set -e; . tests/build-examples.sh; set +e
+cd "$(dirname "$0")/../.."
+set -e; . tests/programs/build-examples.sh; set +e
 work="$(mktemp -d)"; trap 'rm -r "$work"' EXIT
 declare -A program=([sheet]="${SHEET:-target/bin/sheet}" [c]=target/link/sheet-c [rust]=target/link/sheet-rust)
 declare -A faulty=([sheet]=0 [c]=1 [rust]=1) argued=([sheet]=0 [c]=2 [rust]=2) piped=([sheet]=141 [c]=141 [rust]=1)

@@ -1,10 +1,10 @@
 #!/usr/bin/env bash
-# page.sh: makes the page of every examples/*.batch, of cut ones, of no input, and of README's swing with its turn cut by `jobs`, and has tests/page.py
+# page.sh: makes the page of every examples/*.batch, of cut ones, of no input, and of README's swing with its turn cut by `jobs`, and has tests/programs/page.py
 # compare each with the sheet of the same batch. Then what `page` and `jobs` tell where something fails, with their exit status: a page is whole or
-# not there. Exit status 1 where anything differs. What it needs is said in tests/build-examples.sh, and Python 3.
+# not there. Exit status 1 where anything differs. What it needs is said in tests/programs/build-examples.sh, and Python 3.
 set -u
-cd "$(dirname "$0")/.."
-. tests/build-examples.sh || exit 1
+cd "$(dirname "$0")/../.."
+. tests/programs/build-examples.sh || exit 1
 work="$(mktemp -d)"; trap 'rm -r "$work"' EXIT
 bad=0
 wrong() { echo "WRONG: $*"; bad=1; }
@@ -14,7 +14,7 @@ jobs_of() { $run target/link/jobs "$@"; }
 compare() { # compare NAME: the page of the batch in the work folder
   $run target/bin/sheet < "$work/batch" > "$work/sheet"
   page "$work/batch" "$work/page.html" 2> "$work/told" || wrong "$1: $(cat "$work/told")"
-  python3 tests/page.py "$work/page.html" "$work/batch" "$work/sheet" > "$work/said" 2>&1 || { wrong "$1"; tail -n 3 "$work/said"; }
+  python3 tests/programs/page.py "$work/page.html" "$work/batch" "$work/sheet" > "$work/said" 2>&1 || { wrong "$1"; tail -n 3 "$work/said"; }
   echo "$1:$(sed 's/^[^:]*://' "$work/said" | head -n 1)"
 }
 for batch in examples/*.batch; do

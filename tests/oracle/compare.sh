@@ -6,7 +6,7 @@
 set -eu
 wide=""; if [ "$1" = --f64 ]; then wide=64; shift; fi
 kind="$1"; src="$2"; seeds="${3:-50}"; count="${4:-20020}"
-cd "$(dirname "$0")/.."
+cd "$(dirname "$0")/../.."
 oracle/build.sh ${wide:+--f64} "$src" target/oracle
 rt check "replay$wide" > /dev/null
 total() { sed -n "s/.*$1 \([0-9]*\),.*/\1/p" <<< "$out" | awk '{n += $1} END {print n + 0}'; }

@@ -6,7 +6,7 @@
 set -eu
 wide=""; if [ "$1" = --f64 ]; then wide=64; shift; fi
 src="$1"; batches="${2:-100}"; count="${3:-10000}"
-cd "$(dirname "$0")/.."
+cd "$(dirname "$0")/../.."
 oracle/build.sh "$src" target/oracle
 [ -z "$wide" ] || oracle/build.sh --f64 "$src" target/oracle
 rt check "sheet$wide" > /dev/null
