@@ -1,11 +1,12 @@
 #!/usr/bin/env bash
 # programs.sh: runs `any_contact`, and `sheet` beside it, `convert` and `salvage` on the cases below, `pack` and `unpack` on those of
 # tests/cases/job_lines.py, `report` on those of tests/cases/report_cases.py, `route` on those of tests/cases/route_cases.py, and compares all that they write, standard
-# error and files included. Exit status 1 where one differs. They are x86-64 programs: on another machine RUN names what runs such a program (an
-# emulator). PROGRAMS names another folder than target/bin; where it is not given they are proved and built first.
+# error and files included. Exit status 1 where one differs. tests/programs/with.sh says how x86-64 programs are run on another machine.
+# PROGRAMS names the folder that has them; where it is not given they are proved and built first.
 set -u
 cd "$(dirname "$0")/../.."
-run="${RUN:-}"; bin="${PROGRAMS:-}"
+. tests/programs/with.sh
+bin="${PROGRAMS:-}"
 if [ -z "$bin" ]; then
   rt check any_contact sheet convert salvage pack unpack report route > /dev/null || { echo "a program is not proved"; exit 1; }
   bin="$PWD/target/bin"
