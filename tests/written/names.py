@@ -36,6 +36,11 @@ ENDS = {pathlib.PurePath(f).suffix for f in FILES} - {""} | {".html", ".rlib"}
 NAME = r"[^\W\d][\w·'-]*"
 KEYWORDS = {"pub", "abbrev", "unfoldable", "data", "record", "partial"}
 STEMS = {pathlib.PurePath(f).stem for f in FILES}
+# the functions of each source file that is no crate's first, by its name
+MODULES = {}
+for f in FILES:
+    if f.endswith((".rt", ".rs")):
+        MODULES.setdefault(pathlib.PurePath(f).stem, set()).update(re.findall(r"\bfn (\w+)", (ROOT / f).read_text(encoding="utf-8")))
 # the repository's files and folders by their last parts
 TAILS = {"/".join(parts[k:]) for parts in (pathlib.PurePath(p).parts for p in FILES + sorted(FOLDERS)) for k in range(len(parts))}
 
@@ -129,7 +134,7 @@ def name_fault(word, tree, by_crate):
         crate, *_, last = word.split("::")
         if crate in by_crate:
             return None if last in by_crate[crate] else f"no function of {crate}"
-        return None if crate in STEMS and last in tree or crate[0].isupper() else "no such crate, module or type"
+        return None if last in MODULES.get(crate, ()) or crate[0].isupper() else "no such function of a crate or module"
     if re.fullmatch(r"[A-Z]\w*\.[\w']+", word):
         return None if word.split(".")[1] in tree else "nothing of this name"
     if re.fullmatch(NAME, word) and len(word) > 2:
