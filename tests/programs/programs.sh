@@ -1,16 +1,11 @@
 #!/usr/bin/env bash
 # programs.sh: runs `any_contact`, and `sheet` beside it, `convert` and `salvage` on the cases below, `pack` and `unpack` on those of
 # tests/cases/job_lines.py, `report` on those of tests/cases/report_cases.py, `route` on those of tests/cases/route_cases.py, and compares all that they write, standard
-# error and files included. Exit status 1 where one differs. tests/programs/with.sh says how x86-64 programs are run on another machine.
-# PROGRAMS names the folder that has them; where it is not given they are proved and built first.
+# error and files included. Exit status 1 where one differs. tests/programs/with.sh says which programs are run, and how.
 set -u
 cd "$(dirname "$0")/../.."
 . tests/programs/with.sh
-bin="${PROGRAMS:-}"
-if [ -z "$bin" ]; then
-  rt check any_contact sheet convert salvage pack unpack report route > /dev/null || { echo "a program is not proved"; exit 1; }
-  bin="$PWD/target/bin"
-fi
+proved any_contact sheet convert salvage pack unpack report route
 work="$(mktemp -d)"; trap 'rm -r "$work"' EXIT
 bad=0
 
@@ -261,7 +256,7 @@ long="$(printf 'n%.0s' $(seq 5000))"
 reports "$long";                                                  reported "an argument that is too long" "$work/no" "${long:0:4096}"$': File name too long\n'
 cp "$one" "$reports/locked"; chmod 000 "$reports/locked"
 if [ "$(id -u)" = 0 ]; then
-  echo "report, a file that may not be read: left out, since root may read it"
+  echo "skipped: report on a file that may not be read: root may read it"
 else
   reports "$two" locked;                                          reported "a file that may not be read" "$work/no" $'locked: Permission denied\n'
 fi
