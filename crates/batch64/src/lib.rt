@@ -1,4 +1,4 @@
-// Written by tests/wide.py from batch, in f64.
+// Written by tests/written/wide.py from batch, in f64.
 // The run of `sheet64`: reads standard input in parts of 64 KiB, has each worked, and writes its text. A read or a write that fails is told on
 // standard error and ends the run, with no TOTAL.
 use model::Totals;

@@ -1,4 +1,4 @@
-// Written by tests/wide.py from entries, in f64.
+// Written by tests/written/wide.py from entries, in f64.
 // The sweep and the distance call over lists of numbers, as programs in C and Rust have them. Nothing is required of the caller.
 mod numbers;
 mod tell;

@@ -1,4 +1,4 @@
-// Written by tests/wide.py from lines, in f64.
+// Written by tests/written/wide.py from lines, in f64.
 // The lines of the sheet, written into lent bytes.
 mod answer;
 mod part;

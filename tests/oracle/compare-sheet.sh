@@ -2,19 +2,20 @@
 # compare-sheet.sh [--f64] SRC [BATCHES [COUNT]]: makes BATCHES seeded batches of COUNT blocks (default 100 of 10,000) of twelve families (see
 # oracle/batches.rs), runs the oracle's sheet and ours on each, and compares every byte; likewise COUNT carts, convex outlines and outlines that nearly
 # touch (oracle/families.rs); then files of every length from 1 to 1,023 bytes. With --f64 the same, worked by the oracle's f64 build and by `sheet64`.
-# SRC is the folder that holds query/sweep_toi/*.rs of parry2d 0.31.1. Where the machine is not x86-64, RUN names the emulator for `sheet`.
+# SRC is the folder that holds query/sweep_toi/*.rs of parry2d 0.31.1.
 set -eu
 wide=""; if [ "$1" = --f64 ]; then wide=64; shift; fi
 src="$1"; batches="${2:-100}"; count="${3:-10000}"
-cd "$(dirname "$0")/.."
+cd "$(dirname "$0")/../.."
 oracle/build.sh "$src" target/oracle
 [ -z "$wide" ] || oracle/build.sh --f64 "$src" target/oracle
-rt check "sheet$wide" > /dev/null
+. tests/programs/with.sh
+proved "sheet$wide"
 work="$(mktemp -d)"; trap 'rm -r "$work"' EXIT
 differ=0
 same() { # same NAME: the two sheets of the batch in the work folder
   "target/oracle/oracle$wide" sheet < "$work/batch" > "$work/oracle"
-  ${RUN:-} "target/bin/sheet$wide" < "$work/batch" > "$work/ours"
+  $run "$bin/sheet$wide" < "$work/batch" > "$work/ours"
   cmp -s "$work/oracle" "$work/ours" || { differ=$((differ + 1)); echo "$1 differs: $(diff "$work/oracle" "$work/ours" | head -n 2 | tr '\n' ' ')"; }
 }
 for seed in $(seq 1 "$batches"); do

@@ -1,8 +1,8 @@
 #!/usr/bin/env python3
 """The list of first guesses at a root, in the forms that contracts, code and proofs need: all are written from the table of crates/root_list/src/lib.rt.
 
-  python3 tests/root_list.py           write them anew
-  python3 tests/root_list.py --check   change nothing; name each file that is not what would be written, and exit with 1 if there is one
+  python3 tests/written/root_list.py           write them anew
+  python3 tests/written/root_list.py --check   change nothing; name each file that is not what would be written, and exit with 1 if there is one
 
 That every form has the table's entries, and that these meet the rule, is proved; this script only saves the typing.
 """
@@ -10,11 +10,11 @@ import pathlib
 import re
 import sys
 
-CRATES = pathlib.Path(__file__).resolve().parent.parent / "crates"
+CRATES = pathlib.Path(__file__).resolve().parents[2] / "crates"
 HALF = 512  # the checker takes no 1,024 arms in one function
 
 CODE = """\
-// Made by tests/root_list.py of the table in root_list: its entries as the arms of a `match`, of which the back end makes a read-only table.
+// Made by tests/written/root_list.py of the table in root_list: its entries as the arms of a `match`, of which the back end makes a read-only table.
 ghost use mathlib.Core.Path.{{_≡_}};
 ghost use Prim.Native.Nat.{{_≤_, _<_}};
 ghost use lib.ListN.{{getD}};
@@ -48,7 +48,7 @@ pub fn guess(k: u64) -> u32
 }}
 """
 LIST = """\
--- Made by tests/root_list.py of the table in src/lib.rt: the first guesses, for contracts and proofs to name. Entry k is the largest whole number
+-- Made by tests/written/root_list.py of the table in src/lib.rt: the first guesses, for contracts and proofs to name. Entry k is the largest whole number
 -- whose square is at most k * 2 ^ 38: proofs/Rule.antt.
 use Prim.Native.Nat.{{ℕ}}
 use mathlib.Core.List.{{List, [], _∷_}}
@@ -59,7 +59,7 @@ guesses =
     []
 """
 PROOF = """\
--- Made by tests/root_list.py. `{name}` answers the list's entry: in each arm by looking it up, and {rest}. Assumes nothing.
+-- Made by tests/written/root_list.py. `{name}` answers the list's entry: in each arm by looking it up, and {rest}. Assumes nothing.
 {uses}use Rattle.root_list.specs.Guesses.{{guesses}}
 use Rattle.root_guess.proofs.Keys.{{at-key, past-keys}}
 use Rattle.root_guess.proofs.{name}.Statement.{{statement}}
@@ -127,7 +127,7 @@ def main():
         file = CRATES / name
         if sys.argv[1:] == ["--check"]:
             if not file.exists() or file.read_text() != text:
-                print(f"crates/{name}: not what tests/root_list.py writes from the table")
+                print(f"crates/{name}: not what tests/written/root_list.py writes from the table")
                 wrong = 1
         else:
             file.parent.mkdir(parents=True, exist_ok=True)

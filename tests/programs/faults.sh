@@ -1,7 +1,7 @@
 #!/usr/bin/env bash
 # faults.sh: what `sheet` and the C and Rust examples tell where input, output or arguments are at fault. For each fault and program: the exit
 # status, the first line on standard error, and that what was printed does not pass for a finished sheet. Exit status 1 where one differs.
-# What it needs is said in tests/build-examples.sh; SHEET names another program to try in the place of target/bin/sheet.
+# Which programs are run, and how, is said in tests/programs/with.sh and build-examples.sh; SHEET names another program to try in the place of `sheet`.
 #
 # - `sheet` ends with status 0 even then: a Rattle program cannot set another. C and Rust end with 1, for an argument with 2.
 # - Rust adds `(os error N)` to the system's text, which is taken off here.
@@ -9,10 +9,11 @@
 # - Where a pipe is closed early the system ends a program (status 141), unless the signal is ignored, as Rust's start-up does: then the write
 #   fails, and that is told.
 set -u
-cd "$(dirname "$0")/.."
-set -e; . tests/build-examples.sh; set +e
+cd "$(dirname "$0")/../.."
+. tests/programs/with.sh
+proved sheet; linked
 work="$(mktemp -d)"; trap 'rm -r "$work"' EXIT
-declare -A program=([sheet]="${SHEET:-target/bin/sheet}" [c]=target/link/sheet-c [rust]=target/link/sheet-rust)
+declare -A program=([sheet]="${SHEET:-$bin/sheet}" [c]=target/link/sheet-c [rust]=target/link/sheet-rust)
 declare -A faulty=([sheet]=0 [c]=1 [rust]=1) argued=([sheet]=0 [c]=2 [rust]=2) piped=([sheet]=141 [c]=141 [rust]=1)
 cp examples/shift.batch "$work/batch"
 for _ in $(seq 1000); do cat "$work/batch"; done > "$work/long"
@@ -31,7 +32,7 @@ expect() { # expect FAULT STATUS TEXT: of the last run, which left its status in
   fi
 }
 
-for kind in sheet c rust; do
+for kind in sheet $kinds; do
   this="$run ${program[$kind]}"
   status=${faulty[$kind]}
 
@@ -44,7 +45,7 @@ for kind in sheet c rust; do
 
   timeout 60 $this <&- > "$work/out" 2> "$work/err"; ended=$?
   if [ $kind = rust ]; then
-    [ "$ended" = 0 ] && [ "$(cat "$work/out")" = "$($run target/bin/sheet < /dev/null)" ] || { echo "rust, closed input: WRONG: status $ended"; bad=1; }
+    [ "$ended" = 0 ] && [ "$(cat "$work/out")" = "$($run "$bin/sheet" < /dev/null)" ] || { echo "rust, closed input: WRONG: status $ended"; bad=1; }
     echo "rust, closed input: as no input"
   else
     expect "closed input" "$status" "standard input: Bad file descriptor"

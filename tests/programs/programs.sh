@@ -1,15 +1,11 @@
 #!/usr/bin/env bash
 # programs.sh: runs `any_contact`, and `sheet` beside it, `convert` and `salvage` on the cases below, `pack` and `unpack` on those of
-# tests/job_lines.py, `report` on those of tests/report_cases.py, `route` on those of tests/route_cases.py, and compares all that they write, standard
-# error and files included. Exit status 1 where one differs. They are x86-64 programs: on another machine RUN names what runs such a program (an
-# emulator). PROGRAMS names another folder than target/bin; where it is not given they are proved and built first.
+# tests/cases/job_lines.py, `report` on those of tests/cases/report_cases.py, `route` on those of tests/cases/route_cases.py, and compares all that they write, standard
+# error and files included. Exit status 1 where one differs. tests/programs/with.sh says which programs are run, and how.
 set -u
-cd "$(dirname "$0")/.."
-run="${RUN:-}"; bin="${PROGRAMS:-}"
-if [ -z "$bin" ]; then
-  rt check any_contact sheet convert salvage pack unpack report route > /dev/null || { echo "a program is not proved"; exit 1; }
-  bin="$PWD/target/bin"
-fi
+cd "$(dirname "$0")/../.."
+. tests/programs/with.sh
+proved any_contact sheet convert salvage pack unpack report route
 work="$(mktemp -d)"; trap 'rm -r "$work"' EXIT
 bad=0
 
@@ -155,7 +151,7 @@ replaces() {
 }
 
 program=convert; cases="$work/convert"; mkdir "$cases"
-for name in $(python3 tests/convert_cases.py "$cases"); do
+for name in $(python3 tests/cases/convert_cases.py "$cases"); do
   fresh; makes "$cases/$name.in" file;             did "$name" "$cases/$name.out" "" file "$cases/$name.file"
   makes "$folder/file" file;                       did "$name, its file over itself" "$work/no" "" file "$cases/$name.kept"
 done
@@ -163,7 +159,7 @@ replaces "$cases"/both-forms.in "$work/no" "$cases"/both-forms.file "$cases"/wro
 
 # what was salvaged is salvaged whole; reads of other sizes, from a pipe, change nothing
 program=salvage; cases="$work/salvage"; mkdir "$cases"
-for name in $(python3 tests/salvage_cases.py "$cases"); do
+for name in $(python3 tests/cases/salvage_cases.py "$cases"); do
   fresh; makes "$cases/$name.in" file;             did "$name" "$cases/$name.out" "" file "$cases/$name.file"
   echo "TOTAL $(($(wc -c < "$cases/$name.file") / 512)) 0" > "$work/whole"
   makes "$folder/file" file;                       did "$name, its file over itself" "$work/whole" "" file "$cases/$name.file"
@@ -173,7 +169,7 @@ done
 replaces "$cases"/both-forms.in "$cases"/both-forms.out "$cases"/both-forms.file "$cases"/both-forms.in "$cases"/no-damage.in "$cases"/lost-in-every-block.in
 
 # a read that fails after some parts: their runs are told, in order, no TOTAL follows, and the file is as it was
-old; input="$cases/lost-in-every-block.in"; fails="$PWD/tests/failing_input.py"
+old; input="$cases/lost-in-every-block.in"; fails="$PWD/tests/programs/failing_input.py"
 (cd "$folder" && timeout 60 python3 "$fails" "$input" $run "$bin/salvage" file > "$work/out" 2> "$work/err"); ended=$?
 head -n 256 "$cases/lost-in-every-block.out" > "$work/runs"
 did "a read that fails after four parts" "$work/runs" $'standard input: Input/output error\n' file "$work/before"
@@ -189,7 +185,7 @@ faults() {
   wrote "$1, an argument" 0 "" "$1"$': no argument is taken\n'
 }
 for program in pack unpack; do
-  mkdir "$work/$program"; python3 tests/job_lines.py $program "$work/$program"
+  mkdir "$work/$program"; python3 tests/cases/job_lines.py $program "$work/$program"
   for input in "$work/$program"/*.in; do
     want="${input%.in}"; name="$program, $(basename "$want" | tr _ ' ')"
     timeout 60 $run "$bin/$program" < "$input" > "$work/out" 2> "$work/err"; ended=$?
@@ -203,7 +199,7 @@ for program in pack unpack; do
 done
 
 # routes: one line each; the example's is that of the gate
-mkdir "$work/route"; python3 tests/route_cases.py "$work/route"
+mkdir "$work/route"; python3 tests/cases/route_cases.py "$work/route"
 cp examples/hall.route "$work/route/the_hall.in"; cp crates/route/stdout "$work/route/the_hall.out"
 for input in "$work/route"/*.in; do
   timeout 60 $run "$bin/route" < "$input" > "$work/out" 2> "$work/err"; ended=$?
@@ -224,7 +220,7 @@ cmp "$work/back" "$work/want" || bad=1
 
 # ---- report: its text is worked out from the sheets of the same batches
 reports="$work/reports"; mkdir "$reports"
-names="$(python3 tests/report_cases.py files "${run:+$run }$bin/sheet" "$reports")" || bad=1
+names="$(python3 tests/cases/report_cases.py files "${run:+$run }$bin/sheet" "$reports")" || bad=1
 
 # reported CASE OUT ERR: status 0, the bytes of OUT printed, and that text told
 reported() {
@@ -260,7 +256,7 @@ long="$(printf 'n%.0s' $(seq 5000))"
 reports "$long";                                                  reported "an argument that is too long" "$work/no" "${long:0:4096}"$': File name too long\n'
 cp "$one" "$reports/locked"; chmod 000 "$reports/locked"
 if [ "$(id -u)" = 0 ]; then
-  echo "report, a file that may not be read: left out, since root may read it"
+  echo "skipped: report on a file that may not be read: root may read it"
 else
   reports "$two" locked;                                          reported "a file that may not be read" "$work/no" $'locked: Permission denied\n'
 fi

@@ -5,7 +5,7 @@
 # MILLIONS that are hunted for their length. It stops at the first call that a claim does not fit. With --f64 the oracle's f64 build, within 2,048 instead
 # of 16: there the round limit may be reached, and the small outlines are left out.
 set -eu
-here="$(cd "$(dirname "$0")/.." && pwd)"
+here="$(cd "$(dirname "$0")/../.." && pwd)"
 wide=""; if [ "$1" = --f64 ]; then wide=64; shift; fi
 "$here/oracle/build.sh" ${wide:+--f64} "$1" "$2" rustc rounds
 "$2/oracle$wide" squared-paper "${3:-20}" "${4:-1}"

@@ -239,7 +239,7 @@ class Gen:
 
     # ---- files
     def model(self):
-        src = ['// Written by tests/wide.py from model: the records that hold floats, in f64. The others are model\'s.']
+        src = ['// Written by tests/written/wide.py from model: the records that hold floats, in f64. The others are model\'s.']
         used = set()
         body = []
         for n, (text, ws) in self.decls.items():
@@ -283,7 +283,7 @@ class Gen:
                     text = text.replace(k, v)
             text = self.rt(text, name) if f.suffix == '.rt' else self.antt(text, name)
             if str(rel) == 'src/lib.rt':
-                text = f'// Written by tests/wide.py from {name}, in f64.\n' + text
+                text = f'// Written by tests/written/wide.py from {name}, in f64.\n' + text
             self.write(f'{name}64/{rel}', text)
 
     def write(self, rel, text):
@@ -307,7 +307,7 @@ class Gen:
 
 
 def main():
-    root = Path(__file__).resolve().parent.parent
+    root = Path(__file__).resolve().parents[2]
     g = Gen(root)
     out = g.run()
     if '--shared' in sys.argv:

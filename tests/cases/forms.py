@@ -3,7 +3,7 @@ import pathlib
 import struct
 
 SIZE, ONES = 512, 0xFFFFFFFF
-EXAMPLES = pathlib.Path(__file__).resolve().parent.parent / "examples"
+EXAMPLES = pathlib.Path(__file__).resolve().parents[2] / "examples"
 
 
 def words(block):

@@ -4,7 +4,7 @@
 # second all is there, and `distance` is proved with what it needs: the first crate that refuses is told, be it the model by its laws and its table
 # or the code by its contracts. Printed with the first error of the log. Exit status 1 where `exact` does not do what the edit's line says.
 set -u
-here="$(cd "$(dirname "$0")/.." && pwd)"
+here="$(cd "$(dirname "$0")/../.." && pwd)"
 work="$(mktemp -d)"
 trap 'rm -rf "$work"' EXIT
 bad=0

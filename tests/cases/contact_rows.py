@@ -6,7 +6,7 @@ import pathlib
 import struct
 import sys
 
-BATCH = (pathlib.Path(__file__).resolve().parent.parent / "examples/every-answer.batch").read_bytes()
+BATCH = (pathlib.Path(__file__).resolve().parents[2] / "examples/every-answer.batch").read_bytes()
 PLACE = {"H": 1, "S": 2, "O": 5, "8": 6, "11": 10, "F": 12, "10": 14}  # the number of a block with that answer
 ROOM, PART = 9 * 512, 65536
 

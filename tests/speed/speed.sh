@@ -8,7 +8,7 @@
 # SRC is the folder that holds query/sweep_toi/*.rs of parry2d 0.31.1.
 set -eu
 wide=""; if [ "$1" = --f64 ]; then wide=64; shift; fi
-cd "$(dirname "$0")/.."
+cd "$(dirname "$0")/../.."
 oracle/build.sh "$1" target/oracle "${2:-rustc}"
 [ -z "$wide" ] || oracle/build.sh --f64 "$1" target/oracle "${2:-rustc}"
 rt check "sheet$wide" > /dev/null
