@@ -11,7 +11,7 @@ lays it out.
 import re, sys, os
 from pathlib import Path
 
-CRATES = 'model ground domain outline simplex distance separation sweep_toi sweep_numbers work fields lines batch entries replay'.split()
+CRATES = 'model ground domain outline simplex distance separation sweep_toi sweep_numbers work fields sheet_lines sheet_run list_calls replay'.split()
 # crates of either width that are written by hand
 WRITTEN = ['root']
 # files of model that mention a record with floats, and are written again for f64; the others are shared
@@ -26,18 +26,18 @@ BITS = {'ground/src/bits.rt', 'ground/src/scalar.rt'}
 # numbers of bytes, where they are named: a float has 16 digits
 ROOM = {'fields': [('floatRoom = 9', 'floatRoom = 17'), ('contactRoom = 45', 'contactRoom = 85'), ('CONTACT_ROOM: usize = 45', 'CONTACT_ROOM: usize = 85'),
                    ('eight digits', 'sixteen digits'), ('put_hex', 'put_wide_hex'), ('put-hex', 'put-wide-hex')],
-        'lines': [('longestLine = 240', 'longestLine = 280'), ('LONGEST_LINE: usize = 240', 'LONGEST_LINE: usize = 280'), ('238', '278'),
+        'sheet_lines': [('longestLine = 240', 'longestLine = 280'), ('LONGEST_LINE: usize = 240', 'LONGEST_LINE: usize = 280'), ('238', '278'),
                   ('five floats of eight', 'five floats of sixteen')]}
 # crates of which only some files have a counterpart
 ONLY = {'replay': ['words', 'pool', 'operations', 'distances', 'sweeps', 'tally']}
 # files that speak of a block's own numbers, which are f32's
 OF_BLOCK = {'work64/proofs/Laws.antt'}
 # files that speak of the sheet alone: what they say is said of model's
-OF_MODEL = {'lines64/proofs/Run.antt'}
+OF_MODEL = {'sheet_lines64/proofs/Run.antt'}
 # what differs otherwise: file, what stands there once, what stands in its place
 PATCHES = [
-    ('batch64/src/lib.rt', 'b"sheet"', 'b"sheet64"'),
-    ('batch64/src/lib.rt', 'The run of `sheet`', 'The run of `sheet64`'),
+    ('sheet_run64/src/lib.rt', 'b"sheet"', 'b"sheet64"'),
+    ('sheet_run64/src/lib.rt', 'The run of `sheet`', 'The run of `sheet64`'),
     # a block's numbers are taken over from f32
     ('work64/src/lib.rt', 'floats[i] = ground64::from_bits(wire::word(part, from + 4 * i));',
      'floats[i] = f32_to_f64_with_nan(ground::from_bits(wire::word(part, from + 4 * i)));'),
@@ -67,15 +67,15 @@ PATCHES = [
     ('replay64/src/pool.rt', 'whose bytes 2 to 6 are', 'whose bytes 2, 3 and 8 to 10 are'),
     ('replay64/src/sweeps.rt', 'bytes 0 to 6 are', 'bytes 0 to 3 and 8 to 10 are'),
     # the text and the totals of a part are model's
-    ('lines64/proofs/Parts.antt', 'use Rattle.model64.proofs.DistanceCall.{both}',
+    ('sheet_lines64/proofs/Parts.antt', 'use Rattle.model64.proofs.DistanceCall.{both}',
      'use Rattle.model.specs.Sheet as Sheet\nuse Rattle.bridge.proofs.Sheet.{lines-same, totals-same}\nuse Rattle.model64.proofs.DistanceCall.{both}'),
-    ('lines64/proofs/Parts.antt', "→ Put d₀ 0 (linesFrom binary64 (t₀ .blocks) (answers binary64 b)) d' at'",
+    ('sheet_lines64/proofs/Parts.antt', "→ Put d₀ 0 (linesFrom binary64 (t₀ .blocks) (answers binary64 b)) d' at'",
      "→ Put d₀ 0 (Sheet.linesFrom binary64 (t₀ .blocks) (Sheet.answers binary64 b)) d' at'"),
-    ('lines64/proofs/Parts.antt', '      rw (answers-cut binary64 b, lines-append',
+    ('sheet_lines64/proofs/Parts.antt', '      rw (answers-cut binary64 b, lines-append',
      '      rw (← lines-same binary64 (t₀ .blocks) b, answers-cut binary64 b, lines-append'),
-    ('lines64/proofs/Parts.antt', "→ t' ≡ totalsFrom t₀ (answers binary64 b)", "→ t' ≡ Sheet.totalsFrom t₀ (Sheet.answers binary64 b)"),
-    ('lines64/proofs/Parts.antt', '  all-totals e = e ∙ rw (answers-cut', '  all-totals e = e ∙ rw (← totals-same binary64 t₀ b, answers-cut'),
-    ('lines64/specs/Part.antt', 'use Rattle.model64.specs.Sheet.{answers, answerLine, totalsFrom, partText}',
+    ('sheet_lines64/proofs/Parts.antt', "→ t' ≡ totalsFrom t₀ (answers binary64 b)", "→ t' ≡ Sheet.totalsFrom t₀ (Sheet.answers binary64 b)"),
+    ('sheet_lines64/proofs/Parts.antt', '  all-totals e = e ∙ rw (answers-cut', '  all-totals e = e ∙ rw (← totals-same binary64 t₀ b, answers-cut'),
+    ('sheet_lines64/specs/Part.antt', 'use Rattle.model64.specs.Sheet.{answers, answerLine, totalsFrom, partText}',
      'use Rattle.model.specs.Sheet.{answers, totalsFrom, partText}\nuse Rattle.model64.specs.Sheet.{answerLine}'),
 ]
 

@@ -8,11 +8,11 @@ use lib.ListN.{length}
 use lib.Ieee.{Float, binary32}
 use Rattle.model.specs.declared.Status.{Status}
 use Rattle.model.specs.declared.Status.the-variants.{Overlapped, Hit, Separated, Failed}
-use Rattle.legs.specs.declared.Stop.{Stop}
-use Rattle.legs.specs.declared.RouteAnswer.{RouteAnswer}
-use Rattle.legs.specs.declared.RouteAnswer.the-variants.{Clear, Ended, Refused, Wrong}
-use Rattle.legs.specs.Route.{route}
-use Rattle.entries.specs.Entry.{contactFloats}
+use Rattle.route_legs.specs.declared.Stop.{Stop}
+use Rattle.route_legs.specs.declared.RouteAnswer.{RouteAnswer}
+use Rattle.route_legs.specs.declared.RouteAnswer.the-variants.{Clear, Ended, Refused, Wrong}
+use Rattle.route_legs.specs.Route.{route}
+use Rattle.list_calls.specs.Entry.{contactFloats}
 
 -- a status that ends a route; separated ends none
 abbrev pub endNumber : Status → ℕ

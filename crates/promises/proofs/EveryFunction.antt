@@ -19,14 +19,14 @@ use Rattle.simplex.proofs as simplex
 use Rattle.distance.proofs as distance
 use Rattle.separation.proofs as separation
 use Rattle.sweep_toi.proofs as sweep_toi
-use Rattle.moment.proofs as moment
+use Rattle.at_fraction.proofs as moment
 use Rattle.toi_proxy.proofs as toi_proxy
 use Rattle.shapes.proofs as shapes
 use Rattle.text.proofs as text
 use Rattle.wire.proofs as wire
 use Rattle.block.proofs as block
 use Rattle.work.proofs as work
-use Rattle.lines.proofs as lines
+use Rattle.sheet_lines.proofs as lines
 use Rattle.root64.proofs as root64
 use Rattle.ground64.proofs as ground64
 use Rattle.domain64.proofs as domain64
@@ -36,22 +36,22 @@ use Rattle.distance64.proofs as distance64
 use Rattle.separation64.proofs as separation64
 use Rattle.sweep_toi64.proofs as sweep_toi64
 use Rattle.work64.proofs as work64
-use Rattle.lines64.proofs as lines64
-use Rattle.contacts.proofs as contacts
+use Rattle.sheet_lines64.proofs as lines64
+use Rattle.any_contact_search.proofs as contacts
 use Rattle.forms.proofs as forms
 use Rattle.salvaging.proofs as salvaging
 use Rattle.job_text.proofs as job_text
-use Rattle.summary.proofs as summary
+use Rattle.report_counts.proofs as summary
 use Rattle.report_lines.proofs as report_lines
-use Rattle.monthly.proofs as monthly
-use Rattle.legs.proofs as legs
+use Rattle.report_batches.proofs as monthly
+use Rattle.route_legs.proofs as legs
 use Rattle.route_text.proofs as route_text
-use Rattle.entries.proofs as entries
-use Rattle.entries64.proofs as entries64
+use Rattle.list_calls.proofs as entries
+use Rattle.list_calls64.proofs as entries64
 use Rattle.foldflake.proofs as foldflake
 use Rattle.toi_proxy.specs.declared.ToiProxy.{ToiProxy}
-use Rattle.lines.specs.declared.part.Written.{Written}
-use Rattle.lines64.specs.declared.part.Written.{Written as Written64}
+use Rattle.sheet_lines.specs.declared.part.Written.{Written}
+use Rattle.sheet_lines64.specs.declared.part.Written.{Written as Written64}
 use Rattle.forms.specs.declared.Converted.{Converted}
 use Rattle.salvaging.specs.declared.Salvaged.{Salvaged}
 use Rattle.job_text.specs.declared.pack.Packed.{Packed}

@@ -16,9 +16,9 @@ use Rattle.model.specs.Text.{line}
 use Rattle.text.specs.Put.{Put, number}
 use Rattle.text.proofs.Lengths.{length-number}
 use Rattle.fields.specs.Floats.{floats}
-use Rattle.legs.specs.declared.Stop.{Stop}
-use Rattle.legs.specs.declared.RouteAnswer.{RouteAnswer}
-use Rattle.legs.specs.Route.{route}
+use Rattle.route_legs.specs.declared.Stop.{Stop}
+use Rattle.route_legs.specs.declared.RouteAnswer.{RouteAnswer}
+use Rattle.route_legs.specs.Route.{route}
 use Rattle.route_read.specs.declared.Kept.{Kept}
 use Rattle.route_read.specs.declared.Reader.{Reader}
 use Rattle.route_line.specs.Line.{isRoute}

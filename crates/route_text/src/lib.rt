@@ -1,6 +1,6 @@
 // The answer of a route that was read as text, as a line.
-use legs::RouteAnswer;
-use legs::Stop;
+use route_legs::RouteAnswer;
+use route_legs::Stop;
 use model::Contact;
 use model::Status;
 use route_read::Kept;
@@ -43,7 +43,7 @@ fn route_of(kept: Kept, floats: &[f32], lengths: &[u32]) -> RouteAnswer
     let n = least(kept.outlines, lengths.len());
     let whole = whole_end(cart, ways);
     let first = outline::point(floats, 0);
-    legs::route(
+    route_legs::route(
         &floats[start..cart],
         &floats[cart..whole],
         &floats[ways..used],

@@ -1,7 +1,7 @@
 -- `foldflake::foldflake_pose` meets its contract: the lists have their lengths, and the answer is told. Assumes nothing.
 use mathlib.Core.Path.{ap, _∙_}
 use lib.Ieee.{binary32}
-use Rattle.moment.specs.Moment.{poseAt}
+use Rattle.at_fraction.specs.Moment.{poseAt}
 use Rattle.foldflake.proofs.Moment.{pose-room, pose-told, pose-misfit}
 use borrow.Author.Needs.{needs}
 use Rattle.foldflake.proofs.foldflake_pose.Statement.{statement}
