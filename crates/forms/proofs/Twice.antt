@@ -92,8 +92,8 @@ module _ (b d : List ℕ) (size : length b ≡ 512) (size' : length d ≡ 512) (
   unfolding sealed
   resealed =
       let w = word b 508 in
-      ap (withCheck d) fits
-      ∙ ext-getD 0 (withCheck d (word b 508)) b (length-four d 508 _ _ _ _ ∙ size' ∙ sym size) (λ j h. every-byte j (omega (arith, h, length-four d 508 (w % 256) (w / 256 % 256) (w / 65536 % 256) (w / 16777216 % 256), size')))
+      let same = length-four d 508 (w % 256) (w / 256 % 256) (w / 65536 % 256) (w / 16777216 % 256) in
+      ap (withCheck d) fits ∙ ext-getD 0 (withCheck d w) b (same ∙ size' ∙ sym size) (λ j h. every-byte j (omega (arith, h, same, size')))
 
 -- ---- the other form of a block
 module _ (b : List ℕ) (size : length b ≡ 512) where
@@ -125,7 +125,8 @@ known-other zero e = (refl, refl)
 known-other (suc zero) e = absurd (true≢false (sym e))
 known-other (suc (suc zero)) e = (refl, refl)
 known-other (suc (suc (suc n))) e =
-    let no : knownForm (suc (suc (suc n))) ≡ false = rw (ne-eqb (suc (suc (suc n))) 0 (λ z. absurd (omega (arith, z))), ne-eqb (suc (suc (suc n))) 2 (λ z. absurd (omega (arith, z)))) in
+    let m = suc (suc (suc n)) in
+    let no : knownForm m ≡ false = rw (ne-eqb m 0 (λ z. absurd (omega (arith, z))), ne-eqb m 2 (λ z. absurd (omega (arith, z)))) in
     absurd (true≢false (sym e ∙ no))
 
 module _ (b : List ℕ) (size : length b ≡ 512) (known : knownForm (byte b 6) ≡ true) where
@@ -134,7 +135,9 @@ module _ (b : List ℕ) (size : length b ≡ 512) (known : knownForm (byte b 6) 
 
   again : otherForm (otherForm b) ≡ sealed back
   unfolding otherForm
-  again = ap (λ (n : ℕ). sealed (set (otherForm b) 6 (otherNumber n))) (other-form b size) ∙ ap (λ (n : ℕ). sealed (set (otherForm b) 6 n)) (known-other (byte b 6) known .1)
+  again =
+      ap (λ (n : ℕ). sealed (set (otherForm b) 6 (otherNumber n))) (other-form b size)
+      ∙ ap (λ (n : ℕ). sealed (set (otherForm b) 6 n)) (known-other (byte b 6) known .1)
 
   back-same : Agree b back 0 508
   back-same j l m = go (eqb j 6) refl

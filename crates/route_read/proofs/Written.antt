@@ -135,7 +135,8 @@ words-read : (kind : Kind) → Open kind → (ws : List ℕ) → Fit ws → (v n
 unfolding wordsText over Fit
 words-read kind o [] fit v n = after v n
 words-read kind o (w ∷ ws) fit v n =
-    rw (over-then (line kind wordEnd v n) (32 ∷ hexBy 8 w) (wordsText ws), word-read kind n v w (takes o n) (fit .0)) (words-read kind o ws (fit .1) w (oneMore n))
+    rw (over-then (line kind wordEnd v n) (32 ∷ hexBy 8 w) (wordsText ws), word-read kind n v w (takes o n) (fit .0))
+    (words-read kind o ws (fit .1) w (oneMore n))
 
 end-read : {kind : Kind} (l : Line) → Open kind → AfterWord kind l → Between kind (over l (10 ∷ []))
 unfolding over lineAfter afterWord
@@ -144,14 +145,23 @@ end-read _ still-open (after v n) = ends n
 
 open-line : (last kind : Kind) (l : Line) → Open kind → Follows last kind → (ws : List ℕ) → Fit ws → Between last l → Between kind (over l (lineText kind ws))
 open-line last kind _ o f ws fit (ends n) =
-    rw (over-then (line last between 0 n) (name kind ++ wordsText ws) (10 ∷ []), over-then (line last between 0 n) (name kind) (wordsText ws), name-read last kind f n)
+    let start = line last between 0 n in
+    rw (over-then start (name kind ++ wordsText ws) (10 ∷ []), over-then start (name kind) (wordsText ws), name-read last kind f n)
     (end-read _ o (words-read kind o ws fit 0 0))
 
 -- ---- SLOP and its word, AT and its four
 slop-line : (w : ℕ) → w < 4294967296 → Between Slop (over (line Nothing between 0 0) (lineText Slop (w ∷ [])))
 unfolding wordsText over lineAfter afterWord
 slop-line w fits =
-    rw (over-then (line Nothing between 0 0) (name Slop ++ ((32 ∷ hexBy 8 w) ++ [])) (10 ∷ []), over-then (line Nothing between 0 0) (name Slop) ((32 ∷ hexBy 8 w) ++ []), name-read Nothing Slop slop-first 0, over-then (line Slop wordEnd 0 0) (32 ∷ hexBy 8 w) [], word-read Slop 0 0 w refl fits)
+    let start = line Nothing between 0 0 in
+    let digits : List ℕ = 32 ∷ hexBy 8 w in
+    rw (
+      over-then start (name Slop ++ (digits ++ [])) (10 ∷ []),
+      over-then start (name Slop) (digits ++ []),
+      name-read Nothing Slop slop-first 0,
+      over-then (line Slop wordEnd 0 0) digits [],
+      word-read Slop 0 0 w refl fits,
+    )
     (ends 1)
 
 four-read : (w : Way) → Fit (wayWords w) → over (line At wordEnd 0 0) (wordsText (wayWords w)) ≡ line At wordEnd (w .s) 4
@@ -171,7 +181,9 @@ four-read w fit =
 way-line : (last : Kind) (l : Line) → Follows last At → (w : Way) → Fit (wayWords w) → Between last l → Between At (over l (lineText At (wayWords w)))
 unfolding over lineAfter afterWord
 way-line last _ f w fit (ends n) =
-    rw (over-then (line last between 0 n) (name At ++ wordsText (wayWords w)) (10 ∷ []), over-then (line last between 0 n) (name At) (wordsText (wayWords w)), name-read last At f n, four-read w fit)
+    let start = line last between 0 n in
+    let words = wordsText (wayWords w) in
+    rw (over-then start (name At ++ words) (10 ∷ []), over-then start (name At) words, name-read last At f n, four-read w fit)
     (ends 4)
 
 -- ---- the text
@@ -215,7 +227,8 @@ done-is-route _ (no-still (behind-cart (ends n))) = refl
 done-is-route _ (no-still (behind-way (ends n))) = refl
 done-is-route _ (behind-still (ends n)) = refl
 
-module _ (slop : ℕ) (cart : List ℕ) (ways : List Way) (stills : List (List ℕ)) (fits : slop < 4294967296) (fit-cart : Fit cart) (fit-ways : FitWays ways) (fit-stills : FitStills stills) where
+module _ (slop : ℕ) (cart : List ℕ) (ways : List Way) (stills : List (List ℕ)) (fits : slop < 4294967296) (fit-cart : Fit cart) (fit-ways : FitWays ways)
+    (fit-stills : FitStills stills) where
   text-read : Done (over (line Nothing between 0 0) (routeText slop cart ways stills))
   text-read =
       let l = line Nothing between 0 0 in

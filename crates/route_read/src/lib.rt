@@ -75,7 +75,8 @@ fn keep_length(lengths: &mut [u32], outlines: usize, n: u32) -> usize
 
 // The number that a word stands for is kept where a byte has ended it.
 fn used_after(before: Line, line: Line, used: usize, floats: &mut [f32]) -> usize
-    ensures { λ r. ⌜ (r ≡ Read.usedAfter before line used (now (floats .entry))) × (now (floats .exit) ≡ Read.numbersAfter before line used (now (floats .entry))) ⌝ }
+    ensures { λ r. ⌜ (r ≡ Read.usedAfter before line used (now (floats .entry)))
+        × (now (floats .exit) ≡ Read.numbersAfter before line used (now (floats .entry))) ⌝ }
 {
     if (before.place == LAST_DIGIT) & (line.place == AFTER_WORD) {
         let x = ground::from_bits(line.value);
@@ -134,7 +135,8 @@ fn is_still(kind: Kind) -> bool
 
 // The length of a still outline is kept with the end of its line.
 fn outlines_after(kind: Kind, outlines: usize, count: u32, lengths: &mut [u32]) -> usize
-    ensures { λ r. ⌜ (r ≡ Read.outlinesAfter kind outlines (now (lengths .entry))) × (now (lengths .exit) ≡ Read.lengthsAfter kind outlines count (now (lengths .entry))) ⌝ }
+    ensures { λ r. ⌜ (r ≡ Read.outlinesAfter kind outlines (now (lengths .entry)))
+        × (now (lengths .exit) ≡ Read.lengthsAfter kind outlines count (now (lengths .entry))) ⌝ }
 {
     if is_still(kind) {
         return keep_length(lengths, outlines, count);
@@ -163,7 +165,9 @@ fn lines_after(place: usize, lines: u64) -> u64
 
 // One byte more.
 fn read_byte(x: u8, reader: Reader, floats: &mut [f32], lengths: &mut [u32]) -> Reader
-    ensures { λ r. ⌜ (r ≡ Read.readerAfter x reader (now (floats .entry)) (now (lengths .entry))) × (now (floats .exit) ≡ Read.floatsAfter x reader (now (floats .entry))) × (now (lengths .exit) ≡ Read.lengthsOf x reader (now (lengths .entry))) ⌝ }
+    ensures { λ r. ⌜ (r ≡ Read.readerAfter x reader (now (floats .entry)) (now (lengths .entry)))
+        × (now (floats .exit) ≡ Read.floatsAfter x reader (now (floats .entry)))
+        × (now (lengths .exit) ≡ Read.lengthsOf x reader (now (lengths .entry))) ⌝ }
 {
     let before = reader.line;
     let kept = reader.kept;
@@ -190,7 +194,8 @@ fn read_byte(x: u8, reader: Reader, floats: &mut [f32], lengths: &mut [u32]) -> 
 // A part of the text, after what was read before it. Numbers and lengths are kept in the lent lists as long as there are places: 4,390 and 33 suffice for
 // every text, since more waypoints or outlines than that are refused.
 pub fn read_part(part: &[u8], reader: Reader, floats: &mut [f32], lengths: &mut [u32]) -> Reader
-    ensures { λ r. ⌜ Read.IsRun (Read.runOver (Read.run reader (now (floats .entry)) (now (lengths .entry))) (now (part .entry))) r (now (floats .exit)) (now (lengths .exit)) ⌝ }
+    ensures { λ r. ⌜ Read.IsRun (Read.runOver (Read.run reader (now (floats .entry)) (now (lengths .entry))) (now (part .entry)))
+        r (now (floats .exit)) (now (lengths .exit)) ⌝ }
 {
     let mut after = reader;
     let mut i: usize = 0;

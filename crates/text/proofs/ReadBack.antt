@@ -96,7 +96,8 @@ unfolding decimalBy valueOf
 decimal-value zero n below fits = omega (arith, below)
 decimal-value (suc k) n below fits = go (ltb n 10) refl (decimal-value k (n / 10) (omega (arith, below)) (omega arith))
   where
-    go : (b : Bool) → ltb n 10 ≡ b → valueOf 10 0 (decimalBy k (n / 10)) ≡ n / 10 → valueOf 10 0 (cond b ((48 + n) ∷ []) (decimalBy k (n / 10) ++ ((48 + n % 10) ∷ []))) ≡ n
+    go : (b : Bool) → ltb n 10 ≡ b → valueOf 10 0 (decimalBy k (n / 10)) ≡ n / 10
+        → valueOf 10 0 (cond b ((48 + n) ∷ []) (decimalBy k (n / 10) ++ ((48 + n % 10) ∷ []))) ≡ n
     go true e rest =
         let same : (0 + n) % 4294967296 ≡ n = omega arith in
         rw (decimal-digit n (ltb-true n 10 e)) same

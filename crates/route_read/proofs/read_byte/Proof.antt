@@ -37,9 +37,12 @@ unfolding readerAfter floatsAfter lengthsOf
 returns c =
     let used = c .before .before .used-after .ensures in
     let outlines = c .before .before .before .before .before .before .outlines-after .ensures in
-    let kind = c .before .before .before .before .before .before .before .before .before .before .before .ended .ensures in
-    let line = c .before .before .before .before .before .before .before .before .before .before .before .before .line-after .ensures in (
-      rw (used .0, outlines .0, c .before .before .before .before .before .before .before .before .lines-after .ensures, c .before .before .before .before .before .before .before .before .before .way-end .ensures, c .before .before .before .before .before .before .before .before .before .before .cart-end .ensures, kind, line),
+    let counted = c .before .before .before .before .before .before .before .before in
+    let ways = counted .before in
+    let cart = ways .before in
+    let kind = cart .before .ended .ensures in
+    let line = cart .before .before .line-after .ensures in (
+      rw (used .0, outlines .0, counted .lines-after .ensures, ways .way-end .ensures, cart .cart-end .ensures, kind, line),
       used .1 ∙ rw line,
       outlines .1 ∙ rw (kind, line),
     )

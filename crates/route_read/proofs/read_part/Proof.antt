@@ -33,12 +33,15 @@ loop-less c = search needs
 
 loop-again : tie.Need-loop-again Inv-loop μ-loop
 loop-again c =
-    let l = c .before .before .before .before .before .before .before .before .before .loop in
-    let e = c .before .before .before .before .read-byte in (
+    let turn = c .before .before .before .before .before .before .before .before in
+    let l = turn .before .loop in
+    let part = turn .before .before .before .before .before .args .part .now in
+    let e = c .before .before .before .before .read-byte in
+    let one = read-on part (l .i) (l .after) _ (l .floats) _ (l .lengths) _ (turn .loop-test .taken) (e .ensures .0) (e .ensures .1) (e .ensures .2) in (
       search needs,
       e .kept .1 .1 .0 ∙ l .inv .1,
       e .kept .1 .1 .1 .0 ∙ l .inv .2,
-      read-on (c .before .before .before .before .before .before .before .before .before .before .before .before .before .args .part .now) (l .i) (l .after) _ (l .floats) _ (l .lengths) _ (c .before .before .before .before .before .before .before .before .loop-test .taken) (e .ensures .0) (e .ensures .1) (e .ensures .2) ∙ l .inv .3,
+      one ∙ l .inv .3,
     )
 
 same-length : tie.Need-same-length Inv-loop μ-loop

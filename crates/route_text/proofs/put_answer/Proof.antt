@@ -55,7 +55,9 @@ same-length-4 : tie.Need-same-length-4
 same-length-4 c = search needs
 
 returns-4 : tie.Need-returns-4
-returns-4 c = rw (c .before .before .before .before .before .answer4 .given .1, wrong-is) (roomy 21 (c .before .before .put-number .ensures) (omega (arith, c .before .before .before .before .before .before .before .before .pre)))
+returns-4 c =
+    let told = c .before .before .before .before .before in
+    rw (told .answer4 .given .1, wrong-is) (roomy 21 (c .before .before .put-number .ensures) (omega (arith, told .before .before .before .pre)))
 
 pub put-answer-spec : {M : Type 1} → statement M
 put-answer-spec =

@@ -49,11 +49,15 @@ same-length c = search needs
 
 returns : tie.Need-returns
 returns c =
-    let pre = c .before .before .before .before .before .before .before .before .before .before .before .before .before .before .before .before .before .before .before .before .before .before .before .before .before .before .before .pre in
-    let p = c .before .before .before .before .before .before .before .before .before .before .before .before .before .before .before .before .before .before .before .before .before .before .put-text in
-    let q = c .before .before .before .before .before .before .before .before .before .before .before .before .before .before .before .before .put-pair in
-    let r = c .before .before .before .before .before .before .before .before .before .before .before .put-text2 in
-    let s = c .before .before .before .before .before .before .before .write-contact in
+    let at-contact = c .before .before .before .before .before .before .before in
+    let at-letter = at-contact .before .before .before .before in
+    let at-pair = at-letter .before .before .before .before .before in
+    let at-start = at-pair .before .before .before .before .before .before in
+    let pre = at-start .before .before .before .before .before .pre in
+    let p = at-start .put-text in
+    let q = at-pair .put-pair in
+    let r = at-letter .put-text2 in
+    let s = at-contact .write-contact in
     let first = roomy 2 (p .ensures) (omega (arith, pre)) in
     let after = ends (q .ensures) (length-two _ _ _) in
     let third = roomy 2 (r .ensures) (omega (arith, first .place, p .kept .0, after, q .kept .0, pre)) in
@@ -61,7 +65,8 @@ returns c =
     let fifth = roomy 21 (c .before .before .put-number .ensures)
     (omega (arith, first .place, p .kept .0, after, q .kept .0, third .place, r .kept .0, ends fourth (length-floats _), s .kept .0, pre)) in
     let start = put-then (omega arith) (put-then (omega arith) first (q .ensures)) third in
-    rw (ended-is, ← c .before .before .before .before .before .before .before .before .before .before .before .before .before .before .before .before .before .before .before .before .before .before .before .before .before .letter-of .ensures) (put-then (omega arith) (put-then (omega arith) start fourth) fifth)
+    rw (ended-is, ← at-start .before .before .before .letter-of .ensures)
+    (put-then (omega arith) (put-then (omega arith) start fourth) fifth)
 
 pub put-ended-spec : {M : Type 1} → statement M
 put-ended-spec =

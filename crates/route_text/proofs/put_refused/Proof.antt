@@ -20,7 +20,9 @@ cast-put-pair-3 : tie.Need-cast-put-pair-3
 cast-put-pair-3 c = search needs
 
 put-pair-requires-2 : tie.Need-put-pair-requires-2
-put-pair-requires-2 c κs = omega (arith, ends (c .before .before .before .before .before .put-pair .ensures) (length-two _ _ _), c .before .before .before .before .before .put-pair .kept .0, c .before .before .before .before .before .before .before .before .before .pre)
+put-pair-requires-2 c κs =
+    let first = c .before .before .before .before .before in
+    omega (arith, ends (first .put-pair .ensures) (length-two _ _ _), first .put-pair .kept .0, first .before .before .before .before .pre)
 
 same-length : tie.Need-same-length
 same-length c = search needs

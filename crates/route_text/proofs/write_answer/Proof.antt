@@ -23,8 +23,11 @@ same-length c = search needs
 
 returns-2 : tie.Need-returns-2
 returns-2 c =
-    let a = c .before .before .before .before .before .before .before .before .before .before .before .before .args in
-    told-no-route (a .reader) (a .floats .now) (a .lengths .now) (c .before .before .before .before .before .before .before .before .if1 .left) _ _ (c .before .before .before .before .before .before .is-route .ensures) (c .before .before .before .before .before .if2 .taken) (c .before .before .before .next-line .ensures) (c .before .before .put-pair .ensures)
+    let tested = c .before .before .before .before .before in
+    let room = tested .before .before .before in
+    let a = room .before .before .before .before .args in
+    told-no-route (a .reader) (a .floats .now) (a .lengths .now) (room .if1 .left) _ _ (tested .before .is-route .ensures) (tested .if2 .taken)
+    (c .before .before .before .next-line .ensures) (c .before .before .put-pair .ensures)
 
 route-of-requires : tie.Need-route-of-requires
 route-of-requires c κs = search needs
@@ -37,8 +40,11 @@ same-length-2 c = search needs
 
 returns-3 : tie.Need-returns-3
 returns-3 c =
-    let a = c .before .before .before .before .before .before .before .before .before .before .before .before .before .args in
-    told-route (a .reader) (a .floats .now) (a .lengths .now) (c .before .before .before .before .before .before .before .before .before .if1 .left) _ _ (c .before .before .before .before .before .before .before .is-route .ensures) (c .before .before .before .before .before .before .if2 .left) (c .before .before .before .route-of .ensures) (c .before .before .put-answer .ensures)
+    let tested = c .before .before .before .before .before .before in
+    let room = tested .before .before .before in
+    let a = room .before .before .before .before .args in
+    told-route (a .reader) (a .floats .now) (a .lengths .now) (room .if1 .left) _ _ (tested .before .is-route .ensures) (tested .if2 .left)
+    (c .before .before .before .route-of .ensures) (c .before .before .put-answer .ensures)
 
 pub write-answer-spec : {M : Type 1} → statement M
 write-answer-spec =

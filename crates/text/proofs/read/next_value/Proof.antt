@@ -26,7 +26,8 @@ hex-digit-requires c κs = search needs
 add-result : tie.Need-add-result
 add-result c =
     let b = c .before .base-at in
-    omega (arith, most (c .before .before .before .args .value) (b .result) (search needs) (b .ensures .1), hex-most (c .before .before .before .args .x), c .hex-digit .ensures)
+    let a = c .before .before .before .args in
+    omega (arith, most (a .value) (b .result) (search needs) (b .ensures .1), hex-most (a .x), c .hex-digit .ensures)
 
 cast-result : tie.Need-cast-result
 cast-result c = search needs
