@@ -47,7 +47,8 @@ placeAfter (Wrong k) place = place
 abbrev pub routeFits : List Float → List ℕ → Bool
 routeFits out place = eqb (length out) 5 && eqb (length place) 3
 
-pub record RouteTold (cart waypoints stills : List Float) (lengths : List ℕ) (slop : Float) (out : List Float) (place : List ℕ) (out' : List Float) (place' : List ℕ) (r : ℕ) : Type 0 where
+pub record RouteTold (cart waypoints stills : List Float) (lengths : List ℕ) (slop : Float) (out : List Float) (place : List ℕ) (out' : List Float)
+    (place' : List ℕ) (r : ℕ) : Type 0 where
   pub number : r ≡ cond (routeFits out place) (routeNumber (route binary32 cart waypoints stills lengths slop)) 255
   pub contact : out' ≡ cond (routeFits out place) (floatsAfter (route binary32 cart waypoints stills lengths slop) out) out
   pub stopped : place' ≡ cond (routeFits out place) (placeAfter (route binary32 cart waypoints stills lengths slop) place) place

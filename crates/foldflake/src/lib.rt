@@ -56,7 +56,8 @@ pub extern "C" fn foldflake_sweep(
     out: &mut [f32],
     counts: &mut [u32],
 ) -> u32
-    ensures { λ r. ⌜ SweepTold binary32 (now («points_a» .entry)) (now («points_b» .entry)) (now (numbers .entry)) (now (out .entry)) (now (counts .entry)) (now (out .exit)) (now (counts .exit)) r ⌝ }
+    ensures { λ r. ⌜ SweepTold binary32 (now («points_a» .entry)) (now («points_b» .entry)) (now (numbers .entry)) (now (out .entry)) (now (counts .entry))
+        (now (out .exit)) (now (counts .exit)) r ⌝ }
 {
     list_calls::sweep_call(points_a, points_b, numbers, out, counts)
 }
@@ -76,7 +77,8 @@ pub extern "C" fn foldflake_distance(
     cache: &mut [u32],
     out: &mut [f32],
 ) -> u32
-    ensures { λ r. ⌜ DistanceTold binary32 (now («points_a» .entry)) (now («points_b» .entry)) (now (numbers .entry)) «use_radii» pair (now (cache .entry)) (now (out .entry)) (now (cache .exit)) (now (out .exit)) r ⌝ }
+    ensures { λ r. ⌜ DistanceTold binary32 (now («points_a» .entry)) (now («points_b» .entry)) (now (numbers .entry)) «use_radii» pair (now (cache .entry))
+        (now (out .entry)) (now (cache .exit)) (now (out .exit)) r ⌝ }
 {
     list_calls::distance_call(points_a, points_b, numbers, use_radii, pair, cache, out)
 }
@@ -98,7 +100,8 @@ pub extern "C" fn foldflake_sweep64(
     out: &mut [f64],
     counts: &mut [u32],
 ) -> u32
-    ensures { λ r. ⌜ SweepTold binary64 (now («points_a» .entry)) (now («points_b» .entry)) (now (numbers .entry)) (now (out .entry)) (now (counts .entry)) (now (out .exit)) (now (counts .exit)) r ⌝ }
+    ensures { λ r. ⌜ SweepTold binary64 (now («points_a» .entry)) (now («points_b» .entry)) (now (numbers .entry)) (now (out .entry)) (now (counts .entry))
+        (now (out .exit)) (now (counts .exit)) r ⌝ }
 {
     list_calls64::sweep_call(points_a, points_b, numbers, out, counts)
 }
@@ -114,7 +117,8 @@ pub extern "C" fn foldflake_distance64(
     cache: &mut [u32],
     out: &mut [f64],
 ) -> u32
-    ensures { λ r. ⌜ DistanceTold binary64 (now («points_a» .entry)) (now («points_b» .entry)) (now (numbers .entry)) «use_radii» pair (now (cache .entry)) (now (out .entry)) (now (cache .exit)) (now (out .exit)) r ⌝ }
+    ensures { λ r. ⌜ DistanceTold binary64 (now («points_a» .entry)) (now («points_b» .entry)) (now (numbers .entry)) «use_radii» pair (now (cache .entry))
+        (now (out .entry)) (now (cache .exit)) (now (out .exit)) r ⌝ }
 {
     list_calls64::distance_call(points_a, points_b, numbers, use_radii, pair, cache, out)
 }
@@ -123,7 +127,8 @@ pub extern "C" fn foldflake_distance64(
 // a half size, 15 where out has fewer than 8 numbers. Refused, nothing is written.
 #[no_mangle]
 pub extern "C" fn foldflake_plate(half_x: f32, half_y: f32, out: &mut [f32]) -> u32
-    ensures { λ r. ⌜ (r ≡ builtNumber (plateTold binary32 «half_x» «half_y» (now (out .entry)))) × (now (out .exit) ≡ plateLeft binary32 «half_x» «half_y» (now (out .entry))) ⌝ }
+    ensures { λ r. ⌜ (r ≡ builtNumber (plateTold binary32 «half_x» «half_y» (now (out .entry))))
+        × (now (out .exit) ≡ plateLeft binary32 «half_x» «half_y» (now (out .entry))) ⌝ }
 {
     built_number(shapes::plate(half_x, half_y, out))
 }
@@ -131,7 +136,8 @@ pub extern "C" fn foldflake_plate(half_x: f32, half_y: f32, out: &mut [f32]) -> 
 // The corners of a bar, its ends a and b, in the same way: 3 for an end, 15 where out has fewer than 4 numbers.
 #[no_mangle]
 pub extern "C" fn foldflake_bar(ax: f32, ay: f32, bx: f32, by: f32, out: &mut [f32]) -> u32
-    ensures { λ r. ⌜ (r ≡ builtNumber (barTold binary32 (vector ax ay) (vector bx by) (now (out .entry)))) × (now (out .exit) ≡ barLeft binary32 (vector ax ay) (vector bx by) (now (out .entry))) ⌝ }
+    ensures { λ r. ⌜ (r ≡ builtNumber (barTold binary32 (vector ax ay) (vector bx by) (now (out .entry))))
+        × (now (out .exit) ≡ barLeft binary32 (vector ax ay) (vector bx by) (now (out .entry))) ⌝ }
 {
     let a = Vector { x: ax, y: ay };
     let b = Vector { x: bx, y: by };
@@ -147,7 +153,8 @@ pub extern "C" fn foldflake_placed_plate(
     pose: &[f32],
     out: &mut [f32],
 ) -> u32
-    ensures { λ r. ⌜ PlacedTold (placedPlateTold binary32 «half_x» «half_y») (placedPlateLeft binary32 «half_x» «half_y») (now (pose .entry)) (now (out .entry)) (now (out .exit)) r ⌝ }
+    ensures { λ r. ⌜ PlacedTold (placedPlateTold binary32 «half_x» «half_y») (placedPlateLeft binary32 «half_x» «half_y») (now (pose .entry))
+        (now (out .entry)) (now (out .exit)) r ⌝ }
 {
     if pose.len() != 4 {
         return 255;
@@ -166,7 +173,8 @@ pub extern "C" fn foldflake_placed_bar(
     pose: &[f32],
     out: &mut [f32],
 ) -> u32
-    ensures { λ r. ⌜ PlacedTold (placedBarTold binary32 (vector ax ay) (vector bx by)) (placedBarLeft binary32 (vector ax ay) (vector bx by)) (now (pose .entry)) (now (out .entry)) (now (out .exit)) r ⌝ }
+    ensures { λ r. ⌜ PlacedTold (placedBarTold binary32 (vector ax ay) (vector bx by)) (placedBarLeft binary32 (vector ax ay) (vector bx by))
+        (now (pose .entry)) (now (out .entry)) (now (out .exit)) r ⌝ }
 {
     if pose.len() != 4 {
         return 255;
@@ -202,7 +210,8 @@ pub extern "C" fn foldflake_gap(
     fraction: f32,
     out: &mut [f32],
 ) -> u32
-    ensures { λ r. ⌜ GapTold (now («points_a» .entry)) (now («move_a» .entry)) (now («points_b» .entry)) (now («move_b» .entry)) fraction (now (out .entry)) (now (out .exit)) r ⌝ }
+    ensures { λ r. ⌜ GapTold (now («points_a» .entry)) (now («move_a» .entry)) (now («points_b» .entry)) (now («move_b» .entry)) fraction (now (out .entry))
+        (now (out .exit)) r ⌝ }
 {
     if (move_a.len() == 10) & (move_b.len() == 10) & (out.len() == 1) {
         let sweep_a = sweep_numbers::move_of(move_a);
@@ -229,7 +238,8 @@ pub extern "C" fn foldflake_route(
     out: &mut [f32],
     place: &mut [u32],
 ) -> u32
-    ensures { λ r. ⌜ RouteTold (now (cart .entry)) (now (waypoints .entry)) (now (stills .entry)) (now (lengths .entry)) slop (now (out .entry)) (now (place .entry)) (now (out .exit)) (now (place .exit)) r ⌝ }
+    ensures { λ r. ⌜ RouteTold (now (cart .entry)) (now (waypoints .entry)) (now (stills .entry)) (now (lengths .entry)) slop (now (out .entry))
+        (now (place .entry)) (now (out .exit)) (now (place .exit)) r ⌝ }
 {
     if (out.len() == 5) & (place.len() == 3) {
         let answer = route_legs::route(cart, waypoints, stills, lengths, slop);

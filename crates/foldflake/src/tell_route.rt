@@ -1,9 +1,9 @@
 // The answer of a route, told by a number and by what is written into lent lists.
 use list_calls::put_contact;
-use route_legs::RouteAnswer;
-use route_legs::Stop;
 use model::Contact;
 use model::Status;
+use route_legs::RouteAnswer;
+use route_legs::Stop;
 ghost use mathlib.Core.Path.{_≡_};
 ghost use mathlib.Core.List.{[], _∷_};
 ghost use lib.ListN.{length};

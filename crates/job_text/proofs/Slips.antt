@@ -28,7 +28,8 @@ nan-made-quiet = refl
 
 -- an empty line: `1 14`
 lines-numbered-from-zero : packTold (10 ∷ []) ≡ 49 ∷ 32 ∷ 49 ∷ 52 ∷ 10 ∷ []
-unfolding runOver refusal isJob blockFor blockFrom firstWords sumOfFirst wordAt same jobLine wordsOf hexes plainBlock checkedBlock sumOfWords allZero word decimalBy hexBy line stored
+unfolding runOver refusal isJob blockFor blockFrom firstWords sumOfFirst wordAt same jobLine wordsOf hexes plainBlock checkedBlock sumOfWords allZero word
+    decimalBy hexBy line stored
 lines-numbered-from-zero = refl
 
 -- nothing but byte 6, of form 2

@@ -123,8 +123,10 @@ fn kept(line: &[u8], lines: u64) -> Held
 
 // Packs as many bytes of a part as there is room for if each of them ended a line: blocks to the start of out, refusals to the start of err.
 pub fn pack_part(part: &[u8], held: Held, out: &mut [u8], err: &mut [u8]) -> Packed
-    ensures { λ r. ⌜ Put (now (out .entry)) 0 (runIn held (now (part .entry)) (length (now (out .entry))) (length (now (err .entry))) .out) (now (out .exit)) (r .at) ⌝ }
-    ensures { λ r. ⌜ Put (now (err .entry)) 0 (runIn held (now (part .entry)) (length (now (out .entry))) (length (now (err .entry))) .told) (now (err .exit)) (r .told)
+    ensures { λ r. ⌜ Put (now (out .entry)) 0 (runIn held (now (part .entry)) (length (now (out .entry))) (length (now (err .entry))) .out) (now (out .exit))
+        (r .at) ⌝ }
+    ensures { λ r. ⌜ Put (now (err .entry)) 0 (runIn held (now (part .entry)) (length (now (out .entry))) (length (now (err .entry))) .told) (now (err .exit))
+        (r .told)
         × (r .held ≡ heldAfter (runIn held (now (part .entry)) (length (now (out .entry))) (length (now (err .entry))))) ⌝ }
 {
     let n = used_of(part.len(), out.len() / 512, err.len(), held.lines);

@@ -46,7 +46,8 @@ fn put_block(block: &[u8], n: u64, out: &mut [u8], at: usize, err: &mut [u8], to
 // Unpacks as many whole blocks of a part as there is room for if each were written and each refused: lines to the start of out, refusals to the
 // start of err, with so many blocks before them.
 pub fn unpack_part(part: &[u8], before: u64, out: &mut [u8], err: &mut [u8]) -> Unpacked
-    ensures { λ r. ⌜ Put (now (out .entry)) 0 (linesOf (blocksIn before (now (part .entry)) (length (now (out .entry))) (length (now (err .entry))))) (now (out .exit)) (r .at) ⌝ }
+    ensures { λ r. ⌜ Put (now (out .entry)) 0 (linesOf (blocksIn before (now (part .entry)) (length (now (out .entry))) (length (now (err .entry)))))
+        (now (out .exit)) (r .at) ⌝ }
     ensures { λ r. ⌜ Put (now (err .entry)) 0 (refusalsOf before (blocksIn before (now (part .entry)) (length (now (out .entry))) (length (now (err .entry)))))
         (now (err .exit)) (r .told)
         × (r .blocks ≡ before + usedBlocks before (now (part .entry)) (length (now (out .entry))) (length (now (err .entry)))) ⌝ }

@@ -122,7 +122,9 @@ distanceFits ns words out = eqb (length ns) 6 && eqb (length words) 8 && eqb (le
 abbrev pub distanceCall : Format → List Float → List Float → List Float → ℕ → ℕ → List ℕ → Distance
 distanceCall f a b ns radii pair words = distanceFor f a b ns (ltb 0 radii) pair (cacheOf words)
 
-pub record DistanceTold (f : Format) (a b ns : List Float) (radii pair : ℕ) (words : List ℕ) (out : List Float) (words' : List ℕ) (out' : List Float) (r : ℕ) : Type 0 where
+pub record DistanceTold (f : Format) (a b ns : List Float) (radii pair : ℕ) (words : List ℕ) (out : List Float) (words' : List ℕ) (out' : List Float)
+    (r : ℕ) : Type 0 where
   pub number : r ≡ cond (distanceFits ns words out) (distanceNumber (distanceCall f a b ns radii pair words .answer)) 255
-  pub cached : words' ≡ cond (distanceFits ns words out) (cacheAfter (distanceCall f a b ns radii pair words .answer) (distanceCall f a b ns radii pair words .cache) words) words
+  pub cached : words' ≡ cond (distanceFits ns words out)
+      (cacheAfter (distanceCall f a b ns radii pair words .answer) (distanceCall f a b ns radii pair words .cache) words) words
   pub measured : out' ≡ cond (distanceFits ns words out) (outputAfter (distanceCall f a b ns radii pair words .answer) out) out

@@ -19,7 +19,8 @@ pub fn sweep_call(
     out: &mut [f32],
     counts: &mut [u32],
 ) -> u32
-    ensures { λ r. ⌜ SweepTold binary32 (now («points_a» .entry)) (now («points_b» .entry)) (now (numbers .entry)) (now (out .entry)) (now (counts .entry)) (now (out .exit)) (now (counts .exit)) r ⌝ }
+    ensures { λ r. ⌜ SweepTold binary32 (now («points_a» .entry)) (now («points_b» .entry)) (now (numbers .entry)) (now (out .entry)) (now (counts .entry))
+        (now (out .exit)) (now (counts .exit)) r ⌝ }
 {
     if (numbers.len() == 24) & (out.len() == 5) & (counts.len() == 7) {
         let swept = sweep_numbers::sweep_of(points_a, points_b, numbers);
@@ -39,7 +40,8 @@ pub fn distance_call(
     cache: &mut [u32],
     out: &mut [f32],
 ) -> u32
-    ensures { λ r. ⌜ DistanceTold binary32 (now («points_a» .entry)) (now («points_b» .entry)) (now (numbers .entry)) «use_radii» pair (now (cache .entry)) (now (out .entry)) (now (cache .exit)) (now (out .exit)) r ⌝ }
+    ensures { λ r. ⌜ DistanceTold binary32 (now («points_a» .entry)) (now («points_b» .entry)) (now (numbers .entry)) «use_radii» pair (now (cache .entry))
+        (now (out .entry)) (now (cache .exit)) (now (out .exit)) r ⌝ }
 {
     if (numbers.len() == 6) & (cache.len() == 8) & (out.len() == 7) {
         if cache[1] < 256 {

@@ -16,7 +16,23 @@ use Rattle.model64.specs.declared.DistanceAnswer.{DistanceAnswer}
 use Rattle.model64.specs.declared.DistanceAnswer.the-variants.{Measured, Refused}
 use Rattle.model64.specs.declared.Distance.{Distance}
 use Rattle.model64.proofs.DistanceCall.{both, rounds-at-most-20}
-use Rattle.list_calls64.specs.Entry.{sweepCall, sweepNumber, contactAfter, countsAfter, sweepFits, SweepTold, endingNumber, roundsOf, cacheOf, distanceFor, distanceNumber, cacheAfter, outputAfter, distanceFits, DistanceTold}
+use Rattle.list_calls.specs.Entry.{
+  sweepCall,
+  sweepNumber,
+  contactAfter,
+  countsAfter,
+  sweepFits,
+  SweepTold,
+  endingNumber,
+  roundsOf,
+  cacheOf,
+  distanceFor,
+  distanceNumber,
+  cacheAfter,
+  outputAfter,
+  distanceFits,
+  DistanceTold,
+}
 
 -- ---- the sweep
 module _ (ns out : List Float) (counts : List ℕ) where
@@ -41,7 +57,8 @@ ending-small Touching = omega arith
 ending-small Settled = omega arith
 ending-small RoundLimit = omega arith
 
-pub distance-rounds : (a b ns : List Float) (radii : Bool) (pair : ℕ) (start : SimplexCache) → roundsOf (distanceFor binary64 a b ns radii pair start .answer) ≤ 20
+pub distance-rounds : (a b ns : List Float) (radii : Bool) (pair : ℕ) (start : SimplexCache) → roundsOf (distanceFor binary64 a b ns radii pair start .answer)
+    ≤ 20
 unfolding distanceFor
 distance-rounds a b ns radii pair start = go _ refl
   where

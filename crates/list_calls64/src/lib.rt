@@ -20,7 +20,8 @@ pub fn sweep_call(
     out: &mut [f64],
     counts: &mut [u32],
 ) -> u32
-    ensures { λ r. ⌜ SweepTold binary64 (now («points_a» .entry)) (now («points_b» .entry)) (now (numbers .entry)) (now (out .entry)) (now (counts .entry)) (now (out .exit)) (now (counts .exit)) r ⌝ }
+    ensures { λ r. ⌜ SweepTold binary64 (now («points_a» .entry)) (now («points_b» .entry)) (now (numbers .entry)) (now (out .entry)) (now (counts .entry))
+        (now (out .exit)) (now (counts .exit)) r ⌝ }
 {
     if (numbers.len() == 24) & (out.len() == 5) & (counts.len() == 7) {
         let swept = sweep_numbers64::sweep_of(points_a, points_b, numbers);
@@ -40,7 +41,8 @@ pub fn distance_call(
     cache: &mut [u32],
     out: &mut [f64],
 ) -> u32
-    ensures { λ r. ⌜ DistanceTold binary64 (now («points_a» .entry)) (now («points_b» .entry)) (now (numbers .entry)) «use_radii» pair (now (cache .entry)) (now (out .entry)) (now (cache .exit)) (now (out .exit)) r ⌝ }
+    ensures { λ r. ⌜ DistanceTold binary64 (now («points_a» .entry)) (now («points_b» .entry)) (now (numbers .entry)) «use_radii» pair (now (cache .entry))
+        (now (out .entry)) (now (cache .exit)) (now (out .exit)) r ⌝ }
 {
     if (numbers.len() == 6) & (cache.len() == 8) & (out.len() == 7) {
         if cache[1] < 256 {

@@ -72,7 +72,8 @@ module _ (f : Format) (a : List Float) (wa : Sweep) (b : List Float) (wb : Sweep
   sweep-other k e = go number number-other e
     where
       go : (n : ℕ) → Other n → sweepBy f a (Ground.zero f) wa b (Ground.zero f) wb (one f) slop n ≡ Swept.Refused k → Other k
-      go zero o e = absurd (subst Answered e (advance-answers f (sweepTask f (Ground.zero f) wa (Ground.zero f) wb (one f) slop) a b 19 (Ground.zero f) noCorners noCounts))
+      go zero o e = absurd (subst Answered e
+          (advance-answers f (sweepTask f (Ground.zero f) wa (Ground.zero f) wb (one f) slop) a b 19 (Ground.zero f) noCorners noCounts))
       go (suc n) o e = let same : suc n ≡ k = cc in rw same at o
 
 -- ---- the route

@@ -45,7 +45,8 @@ module _ (f : Format) (cart waypoints stills : List Float) (lengths : List ℕ) 
       is ∙ rw (size, long, begins, same)
 
   -- one sweep more
-  module _ (sweeps k calls n : ℕ) (x : SweepAnswer) (before : k < sweeps) (is : x ≡ sweepIn f cart waypoints stills lengths slop k) (counts : n ≡ callsOf x) where
+  module _ (sweeps k calls n : ℕ) (x : SweepAnswer) (before : k < sweeps) (is : x ≡ sweepIn f cart waypoints stills lengths slop k)
+      (counts : n ≡ callsOf x) where
     one-less : sweeps - k ≡ suc (sweeps - (k + 1))
     one-less = omega arith
 
@@ -55,7 +56,8 @@ module _ (f : Format) (cart waypoints stills : List Float) (lengths : List ℕ) 
     ends-here true told e s at-stop r ended = absurd (let z : _≡_ {A = ℕ} 0 1 = cc in omega arith)
     ends-here false told e s at-stop r ended = rw (one-less, ← is, ← told, ended, at-stop, counts)
 
-    pub goes-on : (separated : Bool) → separated ≡ isSeparated x → not separated ≡ false → from (sweeps - (k + 1)) (k + 1) (calls + n) ≡ from (sweeps - k) k calls
+    pub goes-on : (separated : Bool) → separated ≡ isSeparated x → not separated ≡ false → from (sweeps - (k + 1)) (k + 1) (calls + n)
+        ≡ from (sweeps - k) k calls
     unfolding walkFrom
     goes-on false told e = absurd (let z : _≡_ {A = ℕ} 0 1 = cc in omega arith)
     goes-on true told e = rw (one-less, ← is, ← told, counts)

@@ -31,7 +31,20 @@ use Rattle.salvaging.specs.Part.{
   fileBy,
   textBy,
 }
-use Rattle.salvaging.proofs.Steps.{Kind, keeps, skips, kind, behind, whole-inside, first-step, over, walked-by-parts, kept-append, after-append, lines-append}
+use Rattle.salvaging.proofs.Steps.{
+  Kind,
+  keeps,
+  skips,
+  kind,
+  behind,
+  whole-inside,
+  first-step,
+  over,
+  walked-by-parts,
+  kept-append,
+  after-append,
+  lines-append,
+}
 use Rattle.salvaging.proofs.Laws.{counted}
 
 -- the place after all that was walked
@@ -170,7 +183,8 @@ module _ (room textRoom : ℕ) (block : 512 ≤ room) (lines : 42 * (room / 512)
 
       last-text : (isOver room textRoom s p ≡ true) × (tellBy room textRoom s p ≡ textFrom s p)
       last-text =
-          rw (roomy-last, not-full, counted-last, le-leb 42 textRoom (omega (arith, long)), le-leb 48 textRoom long, no-more-told s p, walk-ends s p) (refl, refl)
+          rw (roomy-last, not-full, counted-last, le-leb 42 textRoom (omega (arith, long)), le-leb 48 textRoom long, no-more-told s p, walk-ends s p)
+          (refl, refl)
 
     module _ (r : List ℕ) (can : Can s (p ++ r)) (full : length p ≡ partRoom room textRoom s) where
       roomy-full : fits (length (b s p)) room textRoom (s .walk) ≡ true

@@ -56,9 +56,11 @@ fn write_answer(out: &mut [u8], at: usize, t: Totals, answer: BlockAnswer) -> Li
 // The lines of the whole blocks of a part, each from its own 512 bytes, with the totals carried on.
 fn write_blocks(part: &[u8], out: &mut [u8], t: Totals) -> Lines
     requires { ⌜ (longestLine * (length (now part) / blockSize) ≤ length (now out)) × Below countLimit t ⌝ }
-    ensures { λ r. ⌜ Put (now (out .entry)) 0 (linesFrom binary64 (t .blocks) (wholeAnswers binary64 (length (now (part .entry)) / blockSize) (now (part .entry)))) (now (out .exit)) (r .at) ⌝ }
+    ensures { λ r. ⌜ Put (now (out .entry)) 0
+        (linesFrom binary64 (t .blocks) (wholeAnswers binary64 (length (now (part .entry)) / blockSize) (now (part .entry)))) (now (out .exit)) (r .at) ⌝ }
     ensures { λ r. ⌜ r .totals ≡ totalsFrom t (wholeAnswers binary64 (length (now (part .entry)) / blockSize) (now (part .entry))) ⌝ }
-    ensures { λ r. ⌜ (r .at ≤ longestLine * (length (now (part .entry)) / blockSize)) × Below (countLimit + length (now (part .entry)) / blockSize) (r .totals) ⌝ }
+    ensures { λ r. ⌜ (r .at ≤ longestLine * (length (now (part .entry)) / blockSize)) × Below (countLimit + length (now (part .entry)) / blockSize)
+        (r .totals) ⌝ }
 {
     let k = part.len() / 512;
     let mut totals = t;
@@ -80,7 +82,8 @@ fn write_blocks(part: &[u8], out: &mut [u8], t: Totals) -> Lines
 // The line of a rest of fewer bytes than a block, where there is one.
 fn write_rest(out: &mut [u8], at: usize, t: Totals, rest: usize) -> Lines
     requires { ⌜ (at + longestLine ≤ length (now out)) × Below 0xffff_ffff_ffff_ffff t ⌝ }
-    ensures { λ r. ⌜ Put (now (out .entry)) at (linesFrom binary64 (t .blocks) (restAnswer rest)) (now (out .exit)) (r .at) × (r .totals ≡ totalsFrom t (restAnswer rest)) ⌝ }
+    ensures { λ r. ⌜ Put (now (out .entry)) at (linesFrom binary64 (t .blocks) (restAnswer rest)) (now (out .exit)) (r .at)
+        × (r .totals ≡ totalsFrom t (restAnswer rest)) ⌝ }
 {
     if rest == 0 {
         return Lines { at, totals: t };
@@ -99,7 +102,8 @@ fn fits(size: usize, room: usize, t: Totals) -> bool
 // Where there is no room nothing is written, and the run is over.
 pub fn write_part(part: &[u8], out: &mut [u8], t: Totals) -> Written
     ensures { λ r. ⌜ Put (now (out .entry)) 0 (textFor t (now (part .entry)) (length (now (out .entry)))) (now (out .exit)) (r .at) ⌝ }
-    ensures { λ r. ⌜ (r .totals ≡ totalsFor t (now (part .entry)) (length (now (out .entry)))) × (r .last ≡ lastFor t (now (part .entry)) (length (now (out .entry)))) ⌝ }
+    ensures { λ r. ⌜ (r .totals ≡ totalsFor t (now (part .entry)) (length (now (out .entry))))
+        × (r .last ≡ lastFor t (now (part .entry)) (length (now (out .entry)))) ⌝ }
 {
     if !fits(part.len(), out.len(), t) {
         return Written {

@@ -32,7 +32,8 @@ same-length-2 c = search needs
 
 returns : tie.Need-returns
 returns c =
-    let a = c .before .before .before .before .before .before .before .before .before .before .before .before .before .before .before .before .before .before .args in
+    let a = c .before .before .before .before .before .before .before .before .before .before .before .before .before .before .before .before .before .before
+    .args in
     distance-told (a .numbers .now) (a .cache .now) (a .out .now) (a .points-a .now) (a .points-b .now) (a .use-radii) (a .pair) _ _ _ _ _
     (c .before .before .before .before .before .before .before .before .before .before .before .before .if1 .taken)
     (c .before .before .before .before .before .before .before .before .before .before .if2 .taken)

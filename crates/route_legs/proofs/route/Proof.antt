@@ -22,17 +22,20 @@ returns-2 c =
 returns-3 : tie.Need-returns-3
 returns-3 c =
     let a = c .before .before .before .before .before .before .before .args in
-    too-many binary32 (a .cart .now) (a .waypoints .now) (a .stills .now) (a .lengths .now) (a .slop) (c .before .before .if1 .left) (c .before .if2 .left) (c .if3 .taken)
+    too-many binary32 (a .cart .now) (a .waypoints .now) (a .stills .now) (a .lengths .now) (a .slop) (c .before .before .if1 .left) (c .before .if2 .left)
+    (c .if3 .taken)
 
 returns-4 : tie.Need-returns-4
 returns-4 c =
     let a = c .before .before .before .before .before .before .before .before .args in
-    no-outline binary32 (a .cart .now) (a .waypoints .now) (a .stills .now) (a .lengths .now) (a .slop) (c .before .before .before .if1 .left) (c .before .before .if2 .left) (c .before .if3 .left) (c .if4 .taken)
+    no-outline binary32 (a .cart .now) (a .waypoints .now) (a .stills .now) (a .lengths .now) (a .slop) (c .before .before .before .if1 .left)
+    (c .before .before .if2 .left) (c .before .if3 .left) (c .if4 .taken)
 
 returns-5 : tie.Need-returns-5
 returns-5 c =
     let a = c .before .before .before .before .before .before .before .before .before .args in
-    too-many-outlines binary32 (a .cart .now) (a .waypoints .now) (a .stills .now) (a .lengths .now) (a .slop) (c .before .before .before .before .if1 .left) (c .before .before .before .if2 .left) (c .before .before .if3 .left) (c .before .if4 .left) (c .if5 .taken)
+    too-many-outlines binary32 (a .cart .now) (a .waypoints .now) (a .stills .now) (a .lengths .now) (a .slop) (c .before .before .before .before .if1 .left)
+    (c .before .before .before .if2 .left) (c .before .before .if3 .left) (c .before .if4 .left) (c .if5 .taken)
 
 start-of-requires : tie.Need-start-of-requires
 start-of-requires c κs = search needs
@@ -40,7 +43,10 @@ start-of-requires c κs = search needs
 returns-6 : tie.Need-returns-6
 returns-6 c =
     let a = c .before .before .before .before .before .before .before .before .before .before .before .args in
-    lengths-differ binary32 (a .cart .now) (a .waypoints .now) (a .stills .now) (a .lengths .now) (a .slop) (c .before .before .before .before .before .before .if1 .left) (c .before .before .before .before .before .if2 .left) (c .before .before .before .before .if3 .left) (c .before .before .before .if4 .left) (c .before .before .if5 .left) (rw (c .before .start-of .ensures .0) at (c .if6 .taken))
+    lengths-differ binary32 (a .cart .now) (a .waypoints .now) (a .stills .now) (a .lengths .now) (a .slop)
+    (c .before .before .before .before .before .before .if1 .left) (c .before .before .before .before .before .if2 .left)
+    (c .before .before .before .before .if3 .left) (c .before .before .before .if4 .left) (c .before .before .if5 .left)
+    (rw (c .before .start-of .ensures .0) at (c .if6 .taken))
 
 sub-sweeps : tie.Need-sub-sweeps
 sub-sweeps c = search needs
@@ -48,7 +54,11 @@ sub-sweeps c = search needs
 mul-sweeps : tie.Need-mul-sweeps
 mul-sweeps c =
     let a = c .before .before .before .before .before .before .before .before .before .before .before .args in
-    omega (arith, sweeps-few (length (a .waypoints .now) / 4) (length (a .lengths .now)) (c .before .before .before .before .if3 .left) (c .before .before .if5 .left))
+    omega (
+      arith,
+      sweeps-few (length (a .waypoints .now) / 4) (length (a .lengths .now)) (c .before .before .before .before .if3 .left)
+          (c .before .before .if5 .left),
+    )
 
 cast-walk : tie.Need-cast-walk
 cast-walk c = search needs
@@ -56,7 +66,11 @@ cast-walk c = search needs
 cast-walk-2 : tie.Need-cast-walk-2
 cast-walk-2 c =
     let a = c .before .before .before .before .before .before .before .before .before .before .before .args in
-    omega (arith, sweeps-few (length (a .waypoints .now) / 4) (length (a .lengths .now)) (c .before .before .before .before .if3 .left) (c .before .before .if5 .left))
+    omega (
+      arith,
+      sweeps-few (length (a .waypoints .now) / 4) (length (a .lengths .now)) (c .before .before .before .before .if3 .left)
+          (c .before .before .if5 .left),
+    )
 
 walk-requires : tie.Need-walk-requires
 walk-requires c κs =
@@ -73,7 +87,9 @@ walk-requires c κs =
 returns-7 : tie.Need-returns-7
 returns-7 c =
     let a = c .before .before .before .before .before .before .before .before .before .before .before .before .args in
-    c .walk .ensures ∙ all-right binary32 (a .cart .now) (a .waypoints .now) (a .stills .now) (a .lengths .now) (a .slop) (c .before .before .before .before .before .before .before .if1 .left) (c .before .before .before .before .before .before .if2 .left) (c .before .before .before .before .before .if3 .left) (c .before .before .before .before .if4 .left) (c .before .before .before .if5 .left)
+    c .walk .ensures ∙ all-right binary32 (a .cart .now) (a .waypoints .now) (a .stills .now) (a .lengths .now) (a .slop)
+    (c .before .before .before .before .before .before .before .if1 .left) (c .before .before .before .before .before .before .if2 .left)
+    (c .before .before .before .before .before .if3 .left) (c .before .before .before .before .if4 .left) (c .before .before .before .if5 .left)
     (rw (c .before .before .start-of .ensures .0) at (c .before .if6 .left))
 
 pub route-spec : {M : Type 1} → statement M

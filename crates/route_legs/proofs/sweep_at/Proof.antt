@@ -54,7 +54,8 @@ sweep-past-requires c κs = search needs
 returns : tie.Need-returns
 returns c =
     let a = c .before .before .before .before .before .before .before .before .before .before .args in
-    swept-past binary32 (a .cart .now) (a .waypoints .now) (a .stills .now) (a .lengths .now) (a .slop) (a .i) _ _ _ _ (c .before .before .before .before .before .wide .ensures)
+    swept-past binary32 (a .cart .now) (a .waypoints .now) (a .stills .now) (a .lengths .now) (a .slop) (a .i) _ _ _ _
+    (c .before .before .before .before .before .wide .ensures)
     (c .before .before .before .before .start-of .ensures .0) (c .before .before .wide2 .ensures) (c .sweep-past .ensures)
 
 pub sweep-at-spec : {M : Type 1} → statement M

@@ -11,13 +11,15 @@ use Rattle.route_legs.proofs.walk.Tie as tie
 
 abbrev Inv-loop : tie.InvT-loop
 Inv-loop cart waypoints stills lengths slop outlines sweeps calls₀ k₀ calls k =
-    (k ≤ sweeps) × (calls ≤ 20 * k) × (walkFrom binary32 cart waypoints stills lengths slop (sweeps - k) k calls ≡ walkFrom binary32 cart waypoints stills lengths slop sweeps 0 0)
+    (k ≤ sweeps) × (calls ≤ 20 * k)
+    × (walkFrom binary32 cart waypoints stills lengths slop (sweeps - k) k calls ≡ walkFrom binary32 cart waypoints stills lengths slop sweeps 0 0)
 
 abbrev μ-loop : tie.MeasureT-loop
 μ-loop cart waypoints stills lengths slop outlines sweeps calls₀ k₀ calls k = sweeps - k
 
 loop-holds : tie.Need-loop-holds Inv-loop μ-loop
-loop-holds c = let a = c .before .before .before .before .args in (search needs, search needs, at-first binary32 (a .cart .now) (a .waypoints .now) (a .stills .now) (a .lengths .now) (a .slop) (a .sweeps))
+loop-holds c = let a = c .before .before .before .before .args in
+    (search needs, search needs, at-first binary32 (a .cart .now) (a .waypoints .now) (a .stills .now) (a .lengths .now) (a .slop) (a .sweeps))
 
 leg-of-requires : tie.Need-leg-of-requires Inv-loop μ-loop
 leg-of-requires c κs = search needs
@@ -46,8 +48,15 @@ add-calls : tie.Need-add-calls Inv-loop μ-loop
 add-calls c =
     let l = c .before .before .before .before .before .loop in
     let a = c .before .before .before .before .before .before .before .before .before .before .args in
-    let few = few-calls-of binary32 (a .cart .now) (a .waypoints .now) (a .stills .now) (a .lengths .now) (a .slop) _ _ (c .calls-of .result) _ (c .before .sweep-at .ensures) (c .calls-of .ensures) in
-    omega (arith, few, l .inv .1, c .before .before .before .before .loop-test .taken, c .before .before .before .before .before .before .before .before .before .before .pre .0 .3)
+    let few = few-calls-of binary32 (a .cart .now) (a .waypoints .now) (a .stills .now) (a .lengths .now) (a .slop) _ _ (c .calls-of .result) _
+    (c .before .sweep-at .ensures) (c .calls-of .ensures) in
+    omega (
+      arith,
+      few,
+      l .inv .1,
+      c .before .before .before .before .loop-test .taken,
+      c .before .before .before .before .before .before .before .before .before .before .pre .0 .3,
+    )
 
 is-separated-requires : tie.Need-is-separated-requires Inv-loop μ-loop
 is-separated-requires c κs = search needs
@@ -57,7 +66,8 @@ stop-at-requires c κs =
     let k = c .before .before .before .before .before .before .before .loop .k in
     let a = c .before .before .before .before .before .before .before .before .before .before .before .before .args in
     let p = c .before .before .before .before .before .before .before .before .before .before .before .before .pre in
-    let leg = leg-few k (a .outlines) 1024 (c .before .before .before .before .before .leg-of .ensures) (omega (arith, c .before .before .before .before .before .before .loop-test .taken, p .0 .3)) in
+    let leg = leg-few k (a .outlines) 1024 (c .before .before .before .before .before .leg-of .ensures)
+    (omega (arith, c .before .before .before .before .before .before .loop-test .taken, p .0 .3)) in
     (leg, omega (arith, outline-few k (a .outlines) (c .before .before .before .before .outline-of .ensures) (p .0 .1), p .0 .2))
 
 ended-by-requires : tie.Need-ended-by-requires Inv-loop μ-loop
@@ -70,9 +80,12 @@ returns c =
     let all = c .before .before .before .before .before .before .before .before .before .before .before .before .before .before .pre .0 .0 in
     let leg = c .before .before .before .before .before .before .before .leg-of .ensures in
     let past = c .before .before .before .before .before .before .outline-of .ensures in
-    let swept = swept-in-order binary32 (a .cart .now) (a .waypoints .now) (a .stills .now) (a .lengths .now) (a .slop) (l .k) (a .outlines) all leg past (c .before .before .before .before .before .sweep-at .ensures) in
-    let stopped = stopped-in-order binary32 (a .cart .now) (a .waypoints .now) (a .stills .now) (a .lengths .now) (a .slop) (l .k) (a .outlines) all leg past _ (c .before .stop-at .ensures) in
-    ends-here binary32 (a .cart .now) (a .waypoints .now) (a .stills .now) (a .lengths .now) (a .slop) (a .sweeps) (l .k) (l .calls) _ _ (c .before .before .before .before .before .before .before .before .loop-test .taken) swept (c .before .before .before .before .calls-of .ensures) _
+    let swept = swept-in-order binary32 (a .cart .now) (a .waypoints .now) (a .stills .now) (a .lengths .now) (a .slop) (l .k) (a .outlines) all leg past
+    (c .before .before .before .before .before .sweep-at .ensures) in
+    let stopped = stopped-in-order binary32 (a .cart .now) (a .waypoints .now) (a .stills .now) (a .lengths .now) (a .slop) (l .k)
+    (a .outlines) all leg past _ (c .before .stop-at .ensures) in
+    ends-here binary32 (a .cart .now) (a .waypoints .now) (a .stills .now) (a .lengths .now) (a .slop) (a .sweeps) (l .k) (l .calls) _ _
+    (c .before .before .before .before .before .before .before .before .loop-test .taken) swept (c .before .before .before .before .calls-of .ensures) _
     (c .before .before .before .is-separated .ensures) (c .before .before .if1 .taken) _ stopped _ (c .ended-by .ensures)
     ∙ l .inv .2
 
@@ -88,17 +101,27 @@ loop-again c =
     let a = c .before .before .before .before .before .before .before .before .before .before .before .before .args in
     let calls = c .before .before .calls-of in
     let answer = c .before .before .before .sweep-at .ensures in
-    let swept = swept-in-order binary32 (a .cart .now) (a .waypoints .now) (a .stills .now) (a .lengths .now) (a .slop) (l .k) (a .outlines) (c .before .before .before .before .before .before .before .before .before .before .before .before .pre .0 .0) (c .before .before .before .before .before .leg-of .ensures) (c .before .before .before .before .outline-of .ensures) answer in (
+    let swept = swept-in-order binary32 (a .cart .now) (a .waypoints .now) (a .stills .now) (a .lengths .now) (a .slop) (l .k) (a .outlines)
+    (c .before .before .before .before .before .before .before .before .before .before .before .before .pre .0 .0)
+    (c .before .before .before .before .before .leg-of .ensures) (c .before .before .before .before .outline-of .ensures) answer in (
       search needs,
-      omega (arith, few-calls-of binary32 (a .cart .now) (a .waypoints .now) (a .stills .now) (a .lengths .now) (a .slop) _ _ (calls .result) _ answer (calls .ensures), l .inv .1),
-      goes-on binary32 (a .cart .now) (a .waypoints .now) (a .stills .now) (a .lengths .now) (a .slop) (a .sweeps) (l .k) (l .calls) _ _ (c .before .before .before .before .before .before .loop-test .taken) swept (calls .ensures) _ (c .before .is-separated .ensures) (c .if1 .left) ∙ l .inv .2,
+      omega (
+        arith,
+        few-calls-of binary32 (a .cart .now) (a .waypoints .now) (a .stills .now) (a .lengths .now) (a .slop) _ _ (calls .result) _ answer
+            (calls .ensures),
+        l .inv .1,
+      ),
+      goes-on binary32 (a .cart .now) (a .waypoints .now) (a .stills .now) (a .lengths .now) (a .slop) (a .sweeps) (l .k) (l .calls) _ _
+          (c .before .before .before .before .before .before .loop-test .taken) swept (calls .ensures) _ (c .before .is-separated .ensures) (c .if1 .left)
+          ∙ l .inv .2,
     )
 
 returns-2 : tie.Need-returns-2 Inv-loop μ-loop
 returns-2 c =
     let l = c .before .loop in
     let a = c .before .before .before .before .before .before .args in
-    all-passed binary32 (a .cart .now) (a .waypoints .now) (a .stills .now) (a .lengths .now) (a .slop) (a .sweeps) (l .k) (l .calls) (c .loop-test .left) ∙ l .inv .2
+    all-passed binary32 (a .cart .now) (a .waypoints .now) (a .stills .now) (a .lengths .now) (a .slop) (a .sweeps) (l .k) (l .calls) (c .loop-test .left)
+    ∙ l .inv .2
 
 pub walk-spec : {M : Type 1} → statement M
 walk-spec =

@@ -41,7 +41,16 @@ put-fields-requires c κs =
     let p = c .before .before .before .put-head in
     let b = c .before .before .before .before .before in
     let a = b .before .before .before .before in (
-      omega (arith, a .pre .0, a .pre .1, a .pre .2, b .byte2 .ensures, b .before .byte .ensures, ends (p .ensures) (length-head (a .args .block .now)), p .kept .0),
+      omega (
+        arith,
+        a .pre .0,
+        a .pre .1,
+        a .pre .2,
+        b .byte2 .ensures,
+        b .before .byte .ensures,
+        ends (p .ensures) (length-head (a .args .block .now)),
+        p .kept .0,
+      ),
       a .pre .1,
       omega (arith, a .pre .1, a .pre .2, b .byte2 .ensures, b .before .byte .ensures),
     )

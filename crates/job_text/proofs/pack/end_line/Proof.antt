@@ -61,7 +61,13 @@ returns-3 c =
     let j = c .before .before .before .before .before .before .job-block in
     let over = eq-eqb _ _ (c .before .before .before .before .before .before .before .before .if1 .left) in
     let no-job = sym (j .ensures .0) ∙ c .before .before .before .before .if2 .left in
-    record { written = rw (over, no-job) (put-nothing _ _); complaints = rw (over, no-job) (c .before .before .put-refusal .ensures); held = rw over; ended = rw over }
+    record {
+      written = rw (over, no-job) (put-nothing _ _);
+      complaints = rw (over, no-job) (c .before .before .put-refusal .ensures);
+      held = rw over;
+      ended =
+          rw over;
+    }
 
 pub end-line-spec : {M : Type 1} → statement M
 end-line-spec =

@@ -18,7 +18,12 @@ wrapping-add-u64-requires c κs = search needs
 
 returns : tie.Need-returns
 unfolding together
-returns c = simp (c .wrapping-add-u64 .ensures, c .before .larger-each .ensures, c .before .before .moved-each .ensures, c .before .before .before .sums .ensures)
+returns c = simp (
+  c .wrapping-add-u64 .ensures,
+  c .before .larger-each .ensures,
+  c .before .before .moved-each .ensures,
+  c .before .before .before .sums .ensures,
+)
 
 pub merge-spec : {M : Type 1} → statement M
 merge-spec =
