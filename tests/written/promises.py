@@ -18,7 +18,7 @@ CRATES = ROOT / "crates.txt"
 TABLE = ROOT / "docs/PROMISES.md"
 OWN = "promises"
 SYSTEM = "what it answers is the system's, and no contract can fix it"
-LEFT_OUT = {"input": SYSTEM, "outfile": SYSTEM}
+LEFT_OUT = {"streams": SYSTEM, "outfile": SYSTEM}
 TOLD = {1: "told", 2: "told-in-two"}  # by the number of clauses
 
 HEAD = """\
