@@ -18,14 +18,8 @@ use Rattle.model.specs.Ground as Ground
 use Rattle.model.specs.Simplex.{slot, solve}
 use Rattle.model.specs.Distance.{vertex, held, startSimplex, roundsFrom, measure, proxyDistance}
 use Rattle.model.specs.Distance as D
-use Rattle.model64.specs.Distance.{
-  vertex as vertexOf64,
-  held as held64,
-  startSimplex as startSimplex64,
-  roundsFrom as roundsFrom64,
-  measure as measure64,
-  proxyDistance as proxyDistance64,
-}
+use Rattle.model64.specs.Distance.{vertex as vertexOf64, held as held64, startSimplex as startSimplex64, roundsFrom as roundsFrom64, measure as measure64}
+use Rattle.model64.specs.Distance.{proxyDistance as proxyDistance64}
 use Rattle.model64.specs.Distance as D64
 use Rattle.bridge.specs.Wide.{vector64, pose64, vertex64, simplex64, solved64, rounds64, witnessPoints64, output64, measurement64, distance64}
 use Rattle.bridge.proofs.Ground.{by-test, normalise-same}

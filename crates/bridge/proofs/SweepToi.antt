@@ -20,16 +20,8 @@ use Rattle.model.specs.Separation.{newSeparation, evaluate, findMinSeparation}
 use Rattle.model.specs.SweepToi.{PushEnd, ended, moved, closestAt, tried, rootFrom, pushFrom, advanceFrom, sweepTask, sweepTimeOfImpact}
 use Rattle.model.specs.SweepToi as T
 use Rattle.model64.specs.SweepToi as T64
-use Rattle.model64.specs.SweepToi.{
-  PushEnd as PushEnd64,
-  closestAt as closestAt64,
-  tried as tried64,
-  rootFrom as rootFrom64,
-  pushFrom as pushFrom64,
-  advanceFrom as advanceFrom64,
-  sweepTask as sweepTask64,
-  sweepTimeOfImpact as sweepTimeOfImpact64,
-}
+use Rattle.model64.specs.SweepToi.{PushEnd as PushEnd64, closestAt as closestAt64, tried as tried64, rootFrom as rootFrom64, pushFrom as pushFrom64}
+use Rattle.model64.specs.SweepToi.{advanceFrom as advanceFrom64, sweepTask as sweepTask64, sweepTimeOfImpact as sweepTimeOfImpact64}
 use Rattle.bridge.specs.Wide.{vector64, pose64, sweep64, function64, task64, closest64, rootSearch64, sweepAnswer64}
 use Rattle.bridge.proofs.Ground.{by-test}
 use Rattle.bridge.proofs.Domain.{pair-refusal-same}

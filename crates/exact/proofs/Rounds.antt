@@ -25,24 +25,8 @@ use Rattle.model.specs.declared.Rounds.{Rounds}
 use Rattle.model.specs.Ground.{epsilon, origin}
 use Rattle.model.specs.Ground as Ground
 use Rattle.model.specs.Simplex.{slot, solved, solve}
-use Rattle.model.specs.Distance.{
-  cache,
-  allBelow,
-  held,
-  blank,
-  vertex,
-  cached,
-  fromCache,
-  startSimplex,
-  startCount,
-  supportA,
-  supportB,
-  ended,
-  touches,
-  extended,
-  roundsFrom,
-  rounds,
-}
+use Rattle.model.specs.Distance.{cache, allBelow, held, blank, vertex, cached, fromCache, startSimplex, startCount, supportA, supportB, ended, touches}
+use Rattle.model.specs.Distance.{extended, roundsFrom, rounds}
 use Rattle.plane.specs.Plane.{Point, dot, total}
 use Rattle.plane.specs.Outline.{SharesPoint, NoneNearer}
 use Rattle.exact.specs.SquaredPaper.{SquaredPaper, Room, outlineA, posedB}

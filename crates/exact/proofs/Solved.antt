@@ -20,19 +20,8 @@ use Rattle.exact.proofs.Below.{below1, below2, below3}
 use Rattle.exact.proofs.Vectors.{SizedPoint, weaken-point, negate-sized, minus-sized, plus-sized, perpDot-sized}
 use Rattle.exact.proofs.Enclosed.{across-swap}
 use Rattle.exact.proofs.Origin.{region2-lies, region3-lies}
-use Rattle.exact.proofs.Kept.{
-  Kept,
-  Covered,
-  same-direction,
-  kept-vertex,
-  kept-edge,
-  covered,
-  offEdge,
-  off-either-way,
-  ends-level,
-  behind-vertex,
-  behind-edge,
-}
+use Rattle.exact.proofs.Kept.{Kept, Covered, same-direction, kept-vertex, kept-edge, covered, offEdge, off-either-way, ends-level, behind-vertex}
+use Rattle.exact.proofs.Kept.{behind-edge}
 
 -- ---- slots, by the counts of corners and the place of each pair of corners: the one less the other
 module _ (bound na nb : ℕ) (pair : ℕ → ℕ → Point) where

@@ -14,31 +14,8 @@ use Rattle.runs.proofs.Whole.{run-makes-whole, text-steps}
 use Rattle.text.specs.Put.{pasted}
 use Rattle.job_text.specs.declared.pack.Held.{Held}
 use Rattle.job_text.specs.Room.{refusalRoom}
-use Rattle.job_text.specs.Pack.{
-  longestLine,
-  packed,
-  complaint,
-  Run,
-  longer,
-  lineEnded,
-  lineOn,
-  byteMore,
-  runOver,
-  heldOf,
-  heldAfter,
-  fresh,
-  usedBytes,
-  runIn,
-  unfinished,
-  packOut,
-  packTold,
-  nextHeld,
-  isLast,
-  writeBy,
-  tellBy,
-  outBy,
-  toldBy,
-}
+use Rattle.job_text.specs.Pack.{longestLine, packed, complaint, Run, longer, lineEnded, lineOn, byteMore, runOver, heldOf, heldAfter, fresh, usedBytes}
+use Rattle.job_text.specs.Pack.{runIn, unfinished, packOut, packTold, nextHeld, isLast, writeBy, tellBy, outBy, toldBy}
 use Rattle.job_text.proofs.Runs.{starting, run-append}
 
 -- a run behind what another has written

@@ -16,24 +16,8 @@ use Rattle.model.specs.Block.{jobOf, blockOf, sumOfWords, allZero, checkedBlock
 use Rattle.wire.specs.Bytes.{wordBytes}
 use Rattle.model.specs.Blocks.{isGood}
 use Rattle.job_text.specs.Job as Job
-use Rattle.job_text.specs.Job.{
-  placeOf,
-  wordsOf,
-  wordCount,
-  jobLine,
-  plainBlock,
-  countAt,
-  headWord,
-  pointWord,
-  wordAt,
-  firstWords,
-  sumOfFirst,
-  blockFrom,
-  mostNumbers,
-  numbersOf,
-  blockFor,
-  isJob,
-}
+use Rattle.job_text.specs.Job.{placeOf, wordsOf, wordCount, jobLine, plainBlock, countAt, headWord, pointWord, wordAt, firstWords, sumOfFirst}
+use Rattle.job_text.specs.Job.{blockFrom, mostNumbers, numbersOf, blockFor, isJob}
 use Rattle.job_text.proofs.Read.{Bytes, word-below, fieldsOf, numbers-of-line}
 use Rattle.job_text.proofs.Lines.{length-words}
 use Rattle.job_text.proofs.Compared.{same-list, list-same}

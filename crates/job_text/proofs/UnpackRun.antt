@@ -14,21 +14,8 @@ use Rattle.runs.specs.Run.{Cut, TextSteps}
 use Rattle.runs.proofs.Whole.{run-makes-whole, text-steps}
 use Rattle.job_text.specs.Room.{refusal, refusalRoom, toldFor}
 use Rattle.job_text.specs.Pack.{longestLine}
-use Rattle.job_text.specs.Unpack.{
-  lineBy,
-  refusalBy,
-  linesOf,
-  refusalsOf,
-  usedBlocks,
-  unpackOut,
-  unpackTold,
-  nextCount,
-  isLast,
-  writeBy,
-  tellBy,
-  outBy,
-  toldBy,
-}
+use Rattle.job_text.specs.Unpack.{lineBy, refusalBy, linesOf, refusalsOf, usedBlocks, unpackOut, unpackTold, nextCount, isLast, writeBy, tellBy, outBy}
+use Rattle.job_text.specs.Unpack.{toldBy}
 use Rattle.job_text.proofs.Blocks.{lines-append, refusals-append}
 
 -- ---- the blocks of a file are its whole ones and a rest, which has no line and is refused by 9

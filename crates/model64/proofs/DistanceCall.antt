@@ -26,35 +26,11 @@ use Rattle.model64.specs.declared.Distance.{Distance}
 use Rattle.model64.specs.Ground.{one, origin, dot}
 use Rattle.model.specs.Domain.{badOutline}
 use Rattle.model64.specs.Simplex.{slot, weighted, solve}
-use Rattle.model.specs.Distance.{
-  allBelow,
-  cacheIsValid,
-  replaced,
-  written,
-  blank,
-  held,
-  ended,
-  touches,
-  vertex,
-  cached,
-  fromCache,
-  startSimplex,
-  startCount,
-  supportA,
-  supportB,
-  extended,
-  roundsFrom,
-  rounds,
-  witnessPoints,
-  apart,
-  measuredBy,
-  cacheBy,
-  measuredFrom,
-  measure,
-  distanceRefusal,
-  distanceBy,
-  proxyDistance,
-}
+use Rattle.model.specs.Distance.{allBelow, cacheIsValid, replaced, fromCache}
+use Rattle.model64.specs.Distance.{written, blank, held, ended, touches, vertex, cached, startSimplex}
+use Rattle.model.specs.Distance.{startCount}
+use Rattle.model64.specs.Distance.{supportA, supportB, extended, roundsFrom, rounds, witnessPoints, apart, measuredBy, cacheBy, measuredFrom}
+use Rattle.model64.specs.Distance.{measure, distanceRefusal, distanceBy, proxyDistance}
 use Rattle.model64.proofs.Domain.{test-passed, neither-refused}
 use Rattle.model64.proofs.Support.{support-is-a-point}
 use Rattle.model64.proofs.Simplex.{by-test, by-known-test, Held, single, pair, triple, held-some, held-most, solve-held}

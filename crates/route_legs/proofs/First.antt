@@ -8,17 +8,8 @@ use mathlib.Core.Logic.{inl, inr}
 use Prim.Native.Nat.{ℕ, zero, suc, _+_, _-_, _*_, _/_, _%_, _≤_, _<_}
 use native.Mathlib.Omega.{arith}
 use native.Mathlib.Numerals.{add-one}
-use native.Mathlib.Nat.{
-  mod-lt,
-  mod-eq-of-lt,
-  div-eq-of-lt,
-  mul-add-div-right,
-  mul-add-mod-self-right,
-  div-add-mod',
-  div-lt-iff-lt-mul,
-  mul-le-mul-right,
-  zero-mul,
-}
+use native.Mathlib.Nat.{mod-lt, mod-eq-of-lt, div-eq-of-lt, mul-add-div-right, mul-add-mod-self-right, div-add-mod', div-lt-iff-lt-mul, mul-le-mul-right}
+use native.Mathlib.Nat.{zero-mul}
 use borrow.Author.Count.{below-more}
 use lib.Dec.{eqb, ltb}
 use lib.ListN.{length}

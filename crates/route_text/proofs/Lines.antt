@@ -23,21 +23,8 @@ use Rattle.route_read.specs.declared.Kept.{Kept}
 use Rattle.route_read.specs.declared.Reader.{Reader}
 use Rattle.route_line.specs.Line.{isRoute}
 use Rattle.route_read.specs.Read.{nextLine}
-use Rattle.route_text.specs.Answer.{
-  least,
-  cut,
-  wholeEnd,
-  routeOf,
-  two,
-  clearLine,
-  endedLine,
-  refusedLine,
-  wrongLine,
-  noRouteLine,
-  answerLine,
-  longestLine,
-  textFor,
-}
+use Rattle.route_text.specs.Answer.{least, cut, wholeEnd, routeOf, two, clearLine, endedLine, refusedLine, wrongLine, noRouteLine, answerLine}
+use Rattle.route_text.specs.Answer.{longestLine, textFor}
 
 pub two-is : (a b end : ℕ) → two a b end ≡ number a 32 ++ number b end
 unfolding two

@@ -13,38 +13,10 @@ use Rattle.runs.proofs.Whole.{run-makes-whole, text-steps}
 use Rattle.salvaging.specs.declared.Walk.{Walk}
 use Rattle.salvaging.specs.Walk.{Step, bytesOf, stepAt, stepsBy, steps, keptBytes, next, after, runLines, lastLines, atStart, fileOf, textOf}
 use Rattle.salvaging.specs.Walk.Step.{kept, skipped}
-use Rattle.salvaging.specs.Part.{
-  stepsIn,
-  allBytes,
-  restOf,
-  placeLimit,
-  countable,
-  fits,
-  skippedOn,
-  Stand,
-  stand,
-  partRoom,
-  nextStand,
-  isOver,
-  writeBy,
-  tellBy,
-  fileBy,
-  textBy,
-}
-use Rattle.salvaging.proofs.Steps.{
-  Kind,
-  keeps,
-  skips,
-  kind,
-  behind,
-  whole-inside,
-  first-step,
-  over,
-  walked-by-parts,
-  kept-append,
-  after-append,
-  lines-append,
-}
+use Rattle.salvaging.specs.Part.{stepsIn, allBytes, restOf, placeLimit, countable, fits, skippedOn, Stand, stand, partRoom, nextStand, isOver, writeBy}
+use Rattle.salvaging.specs.Part.{tellBy, fileBy, textBy}
+use Rattle.salvaging.proofs.Steps.{Kind, keeps, skips, kind, behind, whole-inside, first-step, over, walked-by-parts, kept-append, after-append}
+use Rattle.salvaging.proofs.Steps.{lines-append}
 use Rattle.salvaging.proofs.Laws.{counted}
 
 -- the place after all that was walked
