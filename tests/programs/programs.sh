@@ -254,11 +254,15 @@ long="$(printf 'n%.0s' $(seq 300))"
 reports "$long";                                                  reported "a name that is too long" "$work/no" "$long"$': File name too long\n'
 long="$(printf 'n%.0s' $(seq 5000))"
 reports "$long";                                                  reported "an argument that is too long" "$work/no" "${long:0:4096}"$': File name too long\n'
+# root may read any file, so root has nobody run this, on a copy that nobody can reach
+nobody=""; [ "$(id -u)" != 0 ] || nobody="setpriv --reuid=65534 --regid=65534 --clear-groups"
+chmod 711 "$work"; chmod -R go+rX "$reports"; cp "$bin/report" "$work/program"; chmod 755 "$work/program"
 cp "$one" "$reports/locked"; chmod 000 "$reports/locked"
-if [ "$(id -u)" = 0 ]; then
-  echo "skipped: report on a file that may not be read: root may read it"
+if $nobody test -x "$work/program" 2> /dev/null; then
+  (cd "$reports" && timeout 60 $nobody $run "$work/program" "$two" locked > "$work/out" 2> "$work/err"); ended=$?
+  reported "a file that may not be read" "$work/no" $'locked: Permission denied\n'
 else
-  reports "$two" locked;                                          reported "a file that may not be read" "$work/no" $'locked: Permission denied\n'
+  echo "skipped: report on a file that may not be read: root may read it, and cannot be nobody here"
 fi
 reports < "$work";                                                reported "a folder as input" "$work/no" $'standard input: Is a directory\n'
 (cd "$reports" && timeout 60 $run "$bin/report" <&- > "$work/out" 2> "$work/err"); ended=$?
