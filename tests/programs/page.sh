@@ -5,6 +5,7 @@
 set -u
 cd "$(dirname "$0")/../.."
 . tests/programs/with.sh
+command -v python3 > /dev/null || { echo "skipped: page and jobs: no python3 here"; exit 0; }
 proved sheet pack; linked
 case " $kinds " in *" rust "*) ;; *) echo "skipped: page and jobs: no Rust programs are built here"; exit 0 ;; esac
 work="$(mktemp -d)"; trap 'rm -r "$work"' EXIT

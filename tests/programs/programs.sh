@@ -1,10 +1,11 @@
 #!/usr/bin/env bash
-# programs.sh: runs `any_contact`, and `sheet` beside it, `convert` and `salvage` on the cases below, `pack` and `unpack` on those of
-# tests/cases/job_lines.py, `report` on those of tests/cases/report_cases.py, `route` on those of tests/cases/route_cases.py, and compares all that they write, standard
-# error and files included. Exit status 1 where one differs. tests/programs/with.sh says which programs are run, and how.
+# programs.sh: runs `any_contact`, and `sheet` beside it, `convert` and `salvage` on the cases below, `pack` and `unpack` on those of job_lines.py in
+# tests/cases, `report` on those of report_cases.py, `route` on those of route_cases.py, and compares all that they write, standard error and files included.
+# Exit status 1 where one differs. tests/programs/with.sh says which programs are run, and how.
 set -u
 cd "$(dirname "$0")/../.."
 . tests/programs/with.sh
+command -v python3 > /dev/null || { echo "skipped: cases of the programs: no python3 here"; exit 0; }
 proved any_contact sheet convert salvage pack unpack report route
 work="$(mktemp -d)"; trap 'rm -r "$work"' EXIT
 bad=0

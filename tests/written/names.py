@@ -13,10 +13,12 @@ docs/LANDINGS.md tells what was: of it only the links are looked at.
 import fnmatch
 import pathlib
 import re
+import shutil
 import subprocess
 import sys
 
 ROOT = pathlib.Path(__file__).resolve().parents[2]
+OWN = str(pathlib.Path(__file__).resolve().relative_to(ROOT))
 HISTORY = "docs/LANDINGS.md"
 PROMISES = "docs/PROMISES.md"
 TOUR = "docs/ARCHITECTURE.md"
@@ -28,8 +30,19 @@ NO_NAMES = {
     "requires", "definition",
     "SHEET.html", "may.batch", "found.batch",
 }
-FILES = subprocess.run(["git", "ls-files", "--cached", "--others", "--exclude-standard"], cwd=ROOT, stdout=subprocess.PIPE, check=True, text=True).stdout.split("\n")[:-1]
-FILES = [f for f in FILES if (ROOT / f).exists()]
+
+
+def files():
+    """The repository's files; where git does not tell them, all that are there but what runs make."""
+    command = ["git", "ls-files", "--cached", "--others", "--exclude-standard"]
+    told = shutil.which("git") and subprocess.run(command, cwd=ROOT, stdout=subprocess.PIPE, stderr=subprocess.DEVNULL, text=True)
+    if told and told.returncode == 0:
+        return [f for f in told.stdout.split("\n") if f and (ROOT / f).exists()]
+    walked = (p.relative_to(ROOT) for p in ROOT.rglob("*") if p.is_file())
+    return sorted(str(p) for p in walked if not {"target", ".git", "__pycache__"} & set(p.parts))
+
+
+FILES = files()
 PAGES = [f for f in FILES if f == "README.md" or re.fullmatch(r"docs/[^/]*\.md", f)]
 FOLDERS = {str(p) for f in FILES for p in pathlib.PurePath(f).parents}
 ENDS = {pathlib.PurePath(f).suffix for f in FILES} - {""} | {".html", ".rlib"}
@@ -50,7 +63,7 @@ def words_of_tree():
     found = set(STEMS)
     for f in FILES:
         found.update(pathlib.PurePath(f).parts)
-        if f not in PAGES and not f.endswith((".batch", ".png", "/stdin")):
+        if f not in PAGES and f != OWN and not f.endswith((".batch", ".png", "/stdin")):
             try:
                 text = (ROOT / f).read_text(encoding="utf-8")
             except UnicodeDecodeError:
