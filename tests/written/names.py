@@ -2,7 +2,7 @@
 """What README.md and docs/*.md point to is there: links, files and names. Exit status 1 where one is not, each told with its line.
 
 - A link leads to a file of the repository, and what follows # to a heading of that page.
-- A path in backticks is a file, a folder or a pattern of some. It may leave out `crates/`, or all but the file's name.
+- A path in backticks is a file, a folder or a pattern of some. It may leave out `crates/`, or all but the file's name. CRATE/EDIT is a must-fail edit.
 - A name in backticks, be it of a crate, a function, a must-fail edit or a definition, stands somewhere in the repository outside the pages.
 - In docs/PROMISES.md: what a table has in its column `name` is declared in one of the .antt files that its row names; a function of the other table is
   one of its row's crate, and a definition there is declared in some file of specs or proofs.
@@ -28,7 +28,7 @@ ELSEWHERE = ("target/", "query/", "shape/", "/dev/")
 NO_NAMES = {
     "from_cuboid_half_extents", "ofBits", "toBits", "rattle-kit-5b", "logic",
     "requires", "definition",
-    "SHEET.html", "may.batch", "found.batch",
+    "SHEET.html", "may.batch", "found.batch", "./-x",
 }
 
 
@@ -130,7 +130,8 @@ def there(path):
     if path.startswith("../"):
         return True
     pattern = re.sub(r"\b[A-Z]{2,}\b(?!\.md)", "*", path)  # CRATE, NAME, SRC stand for anything
-    return path in TAILS or "*" in pattern and bool(fnmatch.filter(TAILS, pattern))
+    edit = "/must-fail/".join(path.split("/")) + ".edit" if path.count("/") == 1 else None
+    return path in TAILS or edit in TAILS or "*" in pattern and bool(fnmatch.filter(TAILS, pattern))
 
 
 def looks_like_path(word):
