@@ -1,8 +1,10 @@
 #!/usr/bin/env python3
-"""stored.py SHEET: that the rows and files which scripts of this folder wrote into the gate's programs are what they write today.
+"""That the rows and files which scripts of this folder wrote for the gate's programs are what they write today. Exit status 1 where they are not.
 
-SHEET is the command that runs `sheet`, from whose printed lines the reports are worked out. Rows that only the oracle can make are not looked at.
+Reports are worked out from the printed lines of `sheet`, in the folder that PROGRAMS names, else in target/bin: it has to be proved before. Rows that
+only the oracle can make are not looked at.
 """
+import os
 import pathlib
 import subprocess
 import sys
@@ -21,7 +23,14 @@ def written(words, *more):
     return subprocess.run([sys.executable, str(HERE / words[0]), *words[1:], *more], stdout=subprocess.PIPE, stderr=subprocess.DEVNULL, check=True).stdout
 
 
-def main(sheet):
+def sheet_command():
+    """The words that run `sheet` here."""
+    run = subprocess.run(["bash", "-c", ". tests/programs/with.sh && echo $run"], cwd=CRATES.parent, stdout=subprocess.PIPE, check=True, text=True).stdout
+    return f"{run.strip()} {pathlib.Path(os.environ.get('PROGRAMS', CRATES.parent / 'target/bin')) / 'sheet'}"
+
+
+def main():
+    sheet = sheet_command()
     stored, wrong = (CRATES / "replay/stdin").read_bytes(), 0
     for script, tables in ROWS.items():
         rows = written([sheet if word == "SHEET" else word for word in script.split()])
@@ -38,4 +47,4 @@ def main(sheet):
 
 
 if __name__ == "__main__":
-    main(" ".join(sys.argv[1:]))
+    main()

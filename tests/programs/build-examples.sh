@@ -19,7 +19,7 @@ elif [ "$machine" != x86_64 ] && [ -z "${CARGO_BUILD_TARGET:-}" ]; then
 else
   kinds="$kinds rust"
 fi
-rt staticlib foldflake > /dev/null
+said="$(rt staticlib foldflake 2>&1)" || { echo "$said"; exit 1; }
 mkdir -p target/link
 for kind in $kinds; do
   case $kind in

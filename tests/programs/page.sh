@@ -5,6 +5,7 @@
 set -u
 cd "$(dirname "$0")/../.."
 . tests/programs/with.sh
+command -v python3 > /dev/null || { echo "skipped: page and jobs: no python3 here"; exit 0; }
 proved sheet pack; linked
 case " $kinds " in *" rust "*) ;; *) echo "skipped: page and jobs: no Rust programs are built here"; exit 0 ;; esac
 work="$(mktemp -d)"; trap 'rm -r "$work"' EXIT
@@ -14,7 +15,7 @@ page() { $run target/link/page "$@"; }
 jobs_of() { $run target/link/jobs "$@"; }
 
 compare() { # compare NAME: the page of the batch in the work folder
-  $run "$bin/sheet" < "$work/batch" > "$work/sheet"
+  $run target/bin/sheet < "$work/batch" > "$work/sheet"
   page "$work/batch" "$work/page.html" 2> "$work/told" || wrong "$1: $(cat "$work/told")"
   python3 tests/programs/page.py "$work/page.html" "$work/batch" "$work/sheet" > "$work/said" 2>&1 || { wrong "$1"; tail -n 3 "$work/said"; }
   echo "$1:$(sed 's/^[^:]*://' "$work/said" | head -n 1)"
@@ -29,7 +30,7 @@ cp crates/sheet/stdin "$work/batch"; compare "the batch of the gate"
 # the swing, as one turn and cut into steps
 swing='a plate: 5 5\nb: 0 -20  4 -20  4 20  0 20\na turned: 0 90\nb from: 6 0\n'
 printf "job: 1\n$swing\njob: 11\n${swing}turn by: 10\n" > "$work/jobs"
-jobs_of "$work/jobs" 2> "$work/told" | $run "$bin/pack" > "$work/batch"
+jobs_of "$work/jobs" 2> "$work/told" | $run target/bin/pack > "$work/batch"
 grep -q 'line 12, job 11: cut into 9 steps, jobs 11 to 19' "$work/told" || wrong "jobs told: $(cat "$work/told")"
 compare "the swing"
 grep -q '>the search says S, but at 0.50 of the move the outlines touch or overlap: do not clear<' "$work/page.html" || wrong "the swing's card is not red"
@@ -74,7 +75,7 @@ refused "no text named" 2 "usage: jobs" jobs_of
 full() { jobs_of examples/shift.txt > /dev/full; }
 refused "full output" 1 "standard output: No space left on device" full
 jobs_of - < examples/shift.txt | cmp - <(jobs_of examples/shift.txt) || wrong "standard input"
-jobs_of examples/shift.txt | $run "$bin/pack" | cmp - examples/shift.batch || wrong "the sample shift from its text"
+jobs_of examples/shift.txt | $run target/bin/pack | cmp - examples/shift.batch || wrong "the sample shift from its text"
 
 # a long batch: told as it goes, within seconds
 for i in $(seq 667); do cat examples/shift.batch; done | head -c 5120000 > "$work/long"

@@ -1,10 +1,11 @@
 #!/usr/bin/env bash
-# programs.sh: runs `any_contact`, and `sheet` beside it, `convert` and `salvage` on the cases below, `pack` and `unpack` on those of
-# tests/cases/job_lines.py, `report` on those of tests/cases/report_cases.py, `route` on those of tests/cases/route_cases.py, and compares all that they write, standard
-# error and files included. Exit status 1 where one differs. tests/programs/with.sh says which programs are run, and how.
+# programs.sh: runs `any_contact`, and `sheet` beside it, `convert` and `salvage` on the cases below, `pack` and `unpack` on those of job_lines.py in
+# tests/cases, `report` on those of report_cases.py, `route` on those of route_cases.py, and compares all that they write, standard error and files included.
+# Exit status 1 where one differs. tests/programs/with.sh says which programs are run, and how.
 set -u
 cd "$(dirname "$0")/../.."
 . tests/programs/with.sh
+command -v python3 > /dev/null || { echo "skipped: cases of the programs: no python3 here"; exit 0; }
 proved any_contact sheet convert salvage pack unpack report route
 work="$(mktemp -d)"; trap 'rm -r "$work"' EXIT
 bad=0
@@ -254,11 +255,15 @@ long="$(printf 'n%.0s' $(seq 300))"
 reports "$long";                                                  reported "a name that is too long" "$work/no" "$long"$': File name too long\n'
 long="$(printf 'n%.0s' $(seq 5000))"
 reports "$long";                                                  reported "an argument that is too long" "$work/no" "${long:0:4096}"$': File name too long\n'
+# root may read any file, so root has nobody run this, on a copy that nobody can reach
+nobody=""; [ "$(id -u)" != 0 ] || nobody="setpriv --reuid=65534 --regid=65534 --clear-groups"
+chmod 711 "$work"; chmod -R go+rX "$reports"; cp "$bin/report" "$work/program"; chmod 755 "$work/program"
 cp "$one" "$reports/locked"; chmod 000 "$reports/locked"
-if [ "$(id -u)" = 0 ]; then
-  echo "skipped: report on a file that may not be read: root may read it"
+if $nobody test -x "$work/program" 2> /dev/null; then
+  (cd "$reports" && timeout 60 $nobody $run "$work/program" "$two" locked > "$work/out" 2> "$work/err"); ended=$?
+  reported "a file that may not be read" "$work/no" $'locked: Permission denied\n'
 else
-  reports "$two" locked;                                          reported "a file that may not be read" "$work/no" $'locked: Permission denied\n'
+  echo "skipped: report on a file that may not be read: root may read it, and cannot be nobody here"
 fi
 reports < "$work";                                                reported "a folder as input" "$work/no" $'standard input: Is a directory\n'
 (cd "$reports" && timeout 60 $run "$bin/report" <&- > "$work/out" 2> "$work/err"); ended=$?

@@ -2,7 +2,7 @@
 """What README.md and docs/*.md point to is there: links, files and names. Exit status 1 where one is not, each told with its line.
 
 - A link leads to a file of the repository, and what follows # to a heading of that page.
-- A path in backticks is a file, a folder or a pattern of some. It may leave out `crates/`, or all but the file's name.
+- A path in backticks is a file, a folder or a pattern of some. It may leave out `crates/`, or all but the file's name. CRATE/EDIT is a must-fail edit.
 - A name in backticks, be it of a crate, a function, a must-fail edit or a definition, stands somewhere in the repository outside the pages.
 - In docs/PROMISES.md: what a table has in its column `name` is declared in one of the .antt files that its row names; a function of the other table is
   one of its row's crate, and a definition there is declared in some file of specs or proofs.
@@ -13,10 +13,12 @@ docs/LANDINGS.md tells what was: of it only the links are looked at.
 import fnmatch
 import pathlib
 import re
+import shutil
 import subprocess
 import sys
 
 ROOT = pathlib.Path(__file__).resolve().parents[2]
+OWN = str(pathlib.Path(__file__).resolve().relative_to(ROOT))
 HISTORY = "docs/LANDINGS.md"
 PROMISES = "docs/PROMISES.md"
 TOUR = "docs/ARCHITECTURE.md"
@@ -26,10 +28,21 @@ ELSEWHERE = ("target/", "query/", "shape/", "/dev/")
 NO_NAMES = {
     "from_cuboid_half_extents", "ofBits", "toBits", "rattle-kit-5b", "logic",
     "requires", "definition",
-    "SHEET.html", "may.batch", "found.batch",
+    "SHEET.html", "may.batch", "found.batch", "./-x",
 }
-FILES = subprocess.run(["git", "ls-files", "--cached", "--others", "--exclude-standard"], cwd=ROOT, stdout=subprocess.PIPE, check=True, text=True).stdout.split("\n")[:-1]
-FILES = [f for f in FILES if (ROOT / f).exists()]
+
+
+def files():
+    """The repository's files; where git does not tell them, all that are there but what runs make."""
+    command = ["git", "ls-files", "--cached", "--others", "--exclude-standard"]
+    told = shutil.which("git") and subprocess.run(command, cwd=ROOT, stdout=subprocess.PIPE, stderr=subprocess.DEVNULL, text=True)
+    if told and told.returncode == 0:
+        return [f for f in told.stdout.split("\n") if f and (ROOT / f).exists()]
+    walked = (p.relative_to(ROOT) for p in ROOT.rglob("*") if p.is_file())
+    return sorted(str(p) for p in walked if not {"target", ".git", "__pycache__"} & set(p.parts))
+
+
+FILES = files()
 PAGES = [f for f in FILES if f == "README.md" or re.fullmatch(r"docs/[^/]*\.md", f)]
 FOLDERS = {str(p) for f in FILES for p in pathlib.PurePath(f).parents}
 ENDS = {pathlib.PurePath(f).suffix for f in FILES} - {""} | {".html", ".rlib"}
@@ -50,7 +63,7 @@ def words_of_tree():
     found = set(STEMS)
     for f in FILES:
         found.update(pathlib.PurePath(f).parts)
-        if f not in PAGES and not f.endswith((".batch", ".png", "/stdin")):
+        if f not in PAGES and f != OWN and not f.endswith((".batch", ".png", "/stdin")):
             try:
                 text = (ROOT / f).read_text(encoding="utf-8")
             except UnicodeDecodeError:
@@ -117,7 +130,8 @@ def there(path):
     if path.startswith("../"):
         return True
     pattern = re.sub(r"\b[A-Z]{2,}\b(?!\.md)", "*", path)  # CRATE, NAME, SRC stand for anything
-    return path in TAILS or "*" in pattern and bool(fnmatch.filter(TAILS, pattern))
+    edit = "/must-fail/".join(path.split("/")) + ".edit" if path.count("/") == 1 else None
+    return path in TAILS or edit in TAILS or "*" in pattern and bool(fnmatch.filter(TAILS, pattern))
 
 
 def looks_like_path(word):
