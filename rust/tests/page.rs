@@ -1,4 +1,4 @@
-//! The page's words, by jobs made for them. tests/page.py parses whole pages and compares them with the sheet.
+//! The page's words, by jobs made for them. tests/programs/page.py parses whole pages and compares them with the sheet.
 use foldflake::jobs::read;
 use foldflake::page::{write, Totals};
 use std::io;

@@ -9,13 +9,13 @@ struct Step {
 
 fn tell(found: u64) {
     let mut text = [0u8; 21];
-    let n = contacts::write_found(found, &mut text);
-    input::write_to_output(&text, n);
+    let n = any_contact_search::write_found(found, &mut text);
+    streams::write_to_output(&text, n);
 }
 
 // Searches what was read, and tells the answer once it is known.
 fn search_part(part: &[u8], before: u64) -> Step {
-    let searched = contacts::search_part(part, before);
+    let searched = any_contact_search::search_part(part, before);
     if searched.over {
         tell(searched.found);
     }
@@ -27,7 +27,7 @@ fn search_part(part: &[u8], before: u64) -> Step {
 
 fn next_part(before: u64) -> Step {
     let mut buffer = io::large_buffer();
-    let filled = input::fill_from_input(&mut buffer);
+    let filled = streams::fill_from_input(&mut buffer);
     if filled.failed {
         return Step {
             more: false,
@@ -40,7 +40,7 @@ fn next_part(before: u64) -> Step {
 
 // A proved loop has to end, and nothing says that the input does: so the turns are counted, to a number that no run reaches.
 fn main() {
-    if !input::no_argument(b"any_contact") {
+    if !streams::no_argument(b"any_contact") {
         return;
     }
     let mut before = 0u64;

@@ -11,7 +11,8 @@ use borrow.Author.Tests.{ltb-false, ne-eqb}
 use Rattle.model.specs.declared.Block.{Block}
 use Rattle.model.specs.declared.CheckedBlock.the-variants.{Good, Refused}
 use Rattle.model.specs.Wire.{byte, word}
-use Rattle.model.specs.Block.{knownForm, sumOfWords, weighedWords, allZero, jobOf, badCount, zerosHold, badFields, blockOf, checkHolds, checkedBlock, mostPoints}
+use Rattle.model.specs.Block.{knownForm, sumOfWords, weighedWords, allZero, jobOf, badCount, zerosHold, badFields, blockOf, checkHolds, checkedBlock}
+use Rattle.model.specs.Block.{mostPoints}
 
 -- ---- one word more
 pub sum-step : (b : List ℕ) (i : ℕ) → sumOfWords b i + word b (4 * i) ≡ sumOfWords b (i + 1)

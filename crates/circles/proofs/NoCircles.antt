@@ -54,29 +54,42 @@ module _ (f : Format) (a b : List Float) (p : Pose) where
 
 -- ---- the same supports
 module _ (f : Format) {bound : ℕ} (room : Room f bound) {p : Pose} {a b : List Float} (paper : SquaredPaper bound p a b) (domain : InDomain paper) where
-  turned-back-along : {e e' : Point} → Along e e' → Along (turnedBack (paper .cosine) (paper .sine) (opposite e)) (turnedBack (paper .cosine) (paper .sine) (opposite e'))
+  turned-back-along : {e e' : Point} → Along e e' → Along (turnedBack (paper .cosine) (paper .sine) (opposite e))
+      (turnedBack (paper .cosine) (paper .sine) (opposite e'))
   turned-back-along {e} {e'} A =
       let c = paper .cosine in
       let s = paper .sine in
       let k = A .ours in
       let l = A .theirs in
       let across : (k : Int) (e : Point) → k ⊠ (c ⊠ neg (e .x) ⊞ s ⊠ neg (e .y)) ≃ neg (c ⊠ (k ⊠ e .x) ⊞ s ⊠ (k ⊠ e .y)) = λ k e.
-      ring (var 0 :* (var 1 :* negated (var 3) :+ var 2 :* negated (var 4))) (negated (var 1 :* (var 0 :* var 3) :+ var 2 :* (var 0 :* var 4))) (k ∷ c ∷ s ∷ e .x ∷ e .y ∷ []) tt in
+      ring (var 0 :* (var 1 :* negated (var 3) :+ var 2 :* negated (var 4))) (negated (var 1 :* (var 0 :* var 3) :+ var 2 :* (var 0 :* var 4)))
+      (k ∷ c ∷ s ∷ e .x ∷ e .y ∷ []) tt in
       let up : (k : Int) (e : Point) → k ⊠ (c ⊠ neg (e .y) ⊟ s ⊠ neg (e .x)) ≃ neg (c ⊠ (k ⊠ e .y) ⊟ s ⊠ (k ⊠ e .x)) = λ k e.
-      ring (var 0 :* (var 1 :* negated (var 4) :- var 2 :* negated (var 3))) (negated (var 1 :* (var 0 :* var 4) :- var 2 :* (var 0 :* var 3))) (k ∷ c ∷ s ∷ e .x ∷ e .y ∷ []) tt in
+      ring (var 0 :* (var 1 :* negated (var 4) :- var 2 :* negated (var 3))) (negated (var 1 :* (var 0 :* var 4) :- var 2 :* (var 0 :* var 3)))
+      (k ∷ c ∷ s ∷ e .x ∷ e .y ∷ []) tt in
       let cx = ⊠-cong-r c (k ⊠ e .x) (l ⊠ e' .x) (A .equal-x) in
       let cy = ⊠-cong-r c (k ⊠ e .y) (l ⊠ e' .y) (A .equal-y) in
       let sx = ⊠-cong-r s (k ⊠ e .x) (l ⊠ e' .x) (A .equal-x) in
       let sy = ⊠-cong-r s (k ⊠ e .y) (l ⊠ e' .y) (A .equal-y) in
-      record { ours = k; theirs = l; ours-some = A .ours-some; theirs-some = A .theirs-some; equal-x = omega (arith, across k e, across l e'); equal-y = omega (arith, up k e, up l e') }
+      record {
+        ours = k;
+        theirs = l;
+        ours-some = A .ours-some;
+        theirs-some = A .theirs-some;
+        equal-x = omega (arith, across k e, across l e');
+        equal-y = omega
+            (arith, up k e, up l e');
+      }
 
   module _ {d d' : Vector} {e e' : Point} (i : SizedPoint bound d e 16 3) (i' : SizedPoint bound d' e' 16 3) (A : Along e e') where
     pub same-A : supportA f a d ≡ supportA f a d'
-    same-A = support-same f bound room (weaken-point f bound room 32 3 i tt tt) (weaken-point f bound room 32 3 i' tt tt) A (paper .cornerA) a (acrossA f room paper domain)
+    same-A = support-same f bound room (weaken-point f bound room 32 3 i tt tt) (weaken-point f bound room 32 3 i' tt tt) A (paper .cornerA) a
+        (acrossA f room paper domain)
 
     pub same-B : supportB f b p d ≡ supportB f b p d'
     same-B =
-        support-same f bound room (turned-back f room paper domain i) (turned-back f room paper domain i') (turned-back-along A) (paper .cornerB) b (acrossB f room paper domain)
+        support-same f bound room (turned-back f room paper domain i) (turned-back f room paper domain i') (turned-back-along A) (paper .cornerB) b
+        (acrossB f room paper domain)
 
   -- ---- one round after the other
   abbrev spots : List SimplexVertex → ℕ → Point
@@ -99,7 +112,8 @@ module _ (f : Format) {bound : ℕ} (room : Room f bound) {p : Pose} {a b : List
   held-still s n i j i' j' ei ej h = rw (← ei, ← ej) h
 
   -- the next round, from n slots s that hold what K kept and the pair found along its direction d
-  module _ {d : Vector} {e : Point} {m : ℕ} {kept : ℕ → Point} {n' : ℕ} {held' : ℕ → Point} (K : Kept e m kept n' held') (i : SizedPoint bound d e 16 3) (far : 0Int ≺ dot e e)
+  module _ {d : Vector} {e : Point} {m : ℕ} {kept : ℕ → Point} {n' : ℕ} {held' : ℕ → Point} (K : Kept e m kept n' held') (i : SizedPoint bound d e 16 3)
+      (far : 0Int ≺ dot e e)
       (s : List SimplexVertex) (n : ℕ) (still : (F : Point → Type 0) → ((j : ℕ) → j < n → F (spots s j)) → (j : ℕ) → j < m → F (kept j))
       (known : held s n (supportA f a d) (supportB f b p d) ≡ true) (k made : ℕ) where
     -- along a multiple of the direction the pair is found again
@@ -110,7 +124,8 @@ module _ (f : Format) {bound : ℕ} (room : Room f bound) {p : Pose} {a b : List
         again : held s n (supportA f a d') (supportB f b p d') ≡ true
         again = held-still s n _ _ _ _ (same-A i i' A) (same-B i i' A) known
 
-        go : (tiny : Bool) → Test tiny ((e' .x ≃ 0Int) × (e' .y ≃ 0Int)) (0Int ≺ dot e' e') → SettlesAt (made + 2) (cond (eqb m' 3 || tiny) (ended Touching t' m' (origin f) (made + 1))
+        go : (tiny : Bool) → Test tiny ((e' .x ≃ 0Int) × (e' .y ≃ 0Int)) (0Int ≺ dot e' e')
+            → SettlesAt (made + 2) (cond (eqb m' 3 || tiny) (ended Touching t' m' (origin f) (made + 1))
             (cond (held s n (supportA f a d') (supportB f b p d')) (ended Settled (extended f a b p (solved t' m' d')) m' d' (made + 1 + 1))
             (roundsFrom f a b p k (extended f a b p (solved t' m' d')) (m' + 1) d' (made + 1 + 1))))
         go true h = absurd (both-some A far (h .0) (h .1))
@@ -119,7 +134,8 @@ module _ (f : Format) {bound : ℕ} (room : Room f bound) {p : Pose} {a b : List
     or-else : {m' : ℕ} {kept' : ℕ → Point} {Here There : Type 0} → (Here → There) → Descent m kept m' kept' Here → Descent m kept m' kept' There
     or-else turn D = record { before = D .before; after = D .after; falls = elim (D .falls) [ inl h ↦ inl h | inr h ↦ inr (h .0, turn (h .1)) ] }
 
-    second : {t' : List SimplexVertex} {m' : ℕ} {d' : Vector} → Left s n t' m' d' → Descent m kept m' (spots t') (SettlesAt (made + 2) (roundBy k s n (made + 1) (solved t' m' d')))
+    second : {t' : List SimplexVertex} {m' : ℕ} {d' : Vector} → Left s n t' m' d' → Descent m kept m' (spots t')
+        (SettlesAt (made + 2) (roundBy k s n (made + 1) (solved t' m' d')))
     second (vertexLeft e' x i' K') = or-else (settles _ 1 refl i') (shorter-or-same-way K K' (still (λ u. dot e' u ≼ K' .level) (K' .top)))
     second (edgeLeft e' x y i' K') = or-else (settles _ 2 refl i') (shorter-or-same-way K K' (still (λ u. dot e' u ≼ K' .level) (K' .top)))
     second (covers x y z c) = shorter-at-origin K far c
@@ -144,7 +160,8 @@ module _ (f : Format) {bound : ℕ} (room : Room f bound) {p : Pose} {a b : List
       let r = solve f s (m + 1) in
       Slots f room paper domain s (m + 1) × Descent m (spots t) (r .count) (spots (r .simplex)) (SettlesAt (made + 2) (roundBy k s (m + 1) (made + 1) r))
 
-  onward : {s : List SimplexVertex} {n : ℕ} {t : List SimplexVertex} {m : ℕ} {d : Vector} (k made : ℕ) → Left s n t m d → touches f (solved t m d) ≡ false → Onward t m d k made
+  onward : {s : List SimplexVertex} {n : ℕ} {t : List SimplexVertex} {m : ℕ} {d : Vector} (k made : ℕ) → Left s n t m d → touches f (solved t m d) ≡ false
+      → Onward t m d k made
   unfolding vertex
   onward {d = d} k made (vertexLeft e x i K) h =
       let found = supports f room paper domain i in
@@ -152,8 +169,11 @@ module _ (f : Format) {bound : ℕ} (room : Room f bound) {p : Pose} {a b : List
       (slots, second K i (direction-left i h) _ 2 (λ F all. below1 _ (all 0 (lit< tt))) (last-held _ 1 _ _ refl refl) k made (solves bound _ _ _ f room slots))
   onward {d = d} k made (edgeLeft e x y i K) h =
       let found = supports f room paper domain i in
-      let slots = three x y (vertex-stands f room paper domain _ _ _ (found .inA) (found .inB)) in
-      (slots, second K i (direction-left i h) _ 3 (λ F all. below2 _ (all 0 (lit< tt)) (all 1 (lit< tt))) (last-held _ 2 _ _ refl refl) k made (solves bound _ _ _ f room slots))
+      let slots = three x y (vertex-stands f room paper domain _ _ _ (found .inA) (found .inB)) in (
+        slots,
+        second K i (direction-left i h) _ 3 (λ F all. below2 _ (all 0 (lit< tt)) (all 1 (lit< tt))) (last-held _ 2 _ _ refl refl) k made
+            (solves bound _ _ _ f room slots),
+      )
   onward k made (covers x y z c) h = absurd (clash h)
     where
       clash : true ≡ false → ⊥
@@ -164,7 +184,8 @@ module _ (f : Format) {bound : ℕ} (room : Room f bound) {p : Pose} {a b : List
   slots-of {c} first = start-slots f room paper domain c
   slots-of {k = k} (then {x = x} r g) = onward k (x .made) (solves bound _ _ _ f room (slots-of r)) (g .apart) .0
 
-  nearer : (c : SimplexCache) (limit k : ℕ) (x : State) → Reaches f a b p c limit (suc (suc k)) x → GoesOn f a b p x → Nearer f paper (roundsOf f a b p limit (start f a b p c)) x
+  nearer : (c : SimplexCache) (limit k : ℕ) (x : State) → Reaches f a b p c limit (suc (suc k)) x → GoesOn f a b p x
+      → Nearer f paper (roundsOf f a b p limit (start f a b p c)) x
   unfolding roundsFrom
   nearer c limit k x r g =
       let D = onward k (x .made) (solves bound _ _ _ f room (slots-of r)) (g .apart) .1 in
@@ -172,7 +193,8 @@ module _ (f : Format) {bound : ℕ} (room : Room f bound) {p : Pose} {a b : List
       record {
         before = D .before;
         after = D .after;
-        smaller-or-settles = elim (D .falls) [ inl h ↦ inl h | inr h ↦ inr (h .0, ap (λ (r : Rounds). r .ending) same ∙ h .1 .0, ap (λ (r : Rounds). r .iterations) same ∙ h .1 .1) ];
+        smaller-or-settles = elim (D .falls)
+            [ inl h ↦ inl h | inr h ↦ inr (h .0, ap (λ (r : Rounds). r .ending) same ∙ h .1 .0, ap (λ (r : Rounds). r .iterations) same ∙ h .1 .1) ];
       }
 
 pub no-circles : (f : Format) (bound : ℕ) → Room f bound → NoCircles f bound

@@ -169,7 +169,8 @@ module _ {d d' : Point} {m n m' n' : ℕ} {kept held kept' held' : ℕ → Point
 pub shorter-at-origin : {d : Point} {m n n' : ℕ} {kept held held' : ℕ → Point} {Else : Type 0} → Kept d m kept n held → 0Int ≺ dot d d → Covered n' held'
     → Descent m kept n' held' Else
 unfolding nearest-of-kept nearest-of-covered
-shorter-at-origin {d} {m} {n' = n'} {kept = kept} {held' = held'} K far c = record { before = nearest-of-kept K; after = nearest-of-covered c; falls = inl shorter }
+shorter-at-origin {d} {m} {n' = n'} {kept = kept} {held' = held'} K far c = record
+    { before = nearest-of-kept K; after = nearest-of-covered c; falls = inl shorter }
   where
     shorter : squaredLength n' held' (c .weight) <ᶠ squaredLength m kept (K .weight)
     shorter =

@@ -21,10 +21,10 @@ fn write_part(name: &[u8], fd: i32, part: &[u8], before: u64) -> Step {
     let mut file = io::large_buffer();
     let mut text = io::buffer();
     let converted = forms::convert_part(part, before, &mut file, &mut text);
-    if !input::write_to(fd, name, &file, converted.file) {
+    if !streams::write_to(fd, name, &file, converted.file) {
         return failed();
     }
-    if !input::write_to_output(&text, converted.text) {
+    if !streams::write_to_output(&text, converted.text) {
         return failed();
     }
     Step {
@@ -36,7 +36,7 @@ fn write_part(name: &[u8], fd: i32, part: &[u8], before: u64) -> Step {
 
 fn next_part(name: &[u8], fd: i32, before: u64) -> Step {
     let mut buffer = io::large_buffer();
-    let filled = input::fill_from_input(&mut buffer);
+    let filled = streams::fill_from_input(&mut buffer);
     if filled.failed {
         return failed();
     }
@@ -70,7 +70,7 @@ fn replace(name: &[u8], beside: &mut [u8]) {
 }
 
 fn run(name: &[u8]) {
-    if !input::streams_open() {
+    if !streams::streams_open() {
         return;
     }
     if !outfile::may_be_replaced(name) {

@@ -21,7 +21,8 @@ use Rattle.plane.specs.Plane.{Point, sum, difference, opposite, turned, turnedB
 use Rattle.plane.specs.Fraction.{Place, _≈_, _≤ᶠ_, squared}
 use Rattle.plane.specs.Outline.{PointOf, divisor, dividend, gap}
 use Rattle.exact.specs.SquaredPaper.{Near, SquaredPaper, Room, boundOf, outlineA, posedB, Exact}
-use Rattle.exchange.specs.Exchange.{differenceOf, NearestDifference, originPlace, ownB, posedA, inverseShift, negatedAndTurned, IsInverse, ExchangeTurns, Exchange}
+use Rattle.exchange.specs.Exchange.{differenceOf, NearestDifference, originPlace, ownB, posedA, inverseShift, negatedAndTurned, IsInverse}
+use Rattle.exchange.specs.Exchange.{ExchangeTurns, Exchange}
 use Rattle.exact.proofs.Paper.{unit-root}
 use Rattle.circles.proofs.Shorter.{both-zero}
 use Rattle.exchange.proofs.Told.{at-origin, is-nothing, told, told-too}

@@ -260,7 +260,8 @@ one-nearest-difference a b u v h k =
     let m = differenceOf a b p q in
     let some-d : 0Int ≺ d .under = ⊠-pos (divisor a (h .p)) (divisor b (h .q)) (omega (arith, h .p .some)) (omega (arith, h .q .some)) in
     let some-e : 0Int ≺ e .under = ⊠-pos (divisor a (k .p)) (divisor b (k .q)) (omega (arith, k .p .some)) (omega (arith, k .q .some)) in
-    let same = same-difference a b (h .p) (k .p) (h .q) (k .q) (as-short u d m (h .some) (h .is) (h .least p q)) (as-short v e m (k .some) (k .is) (k .least p q)) in
+    let same = same-difference a b (h .p) (k .p) (h .q) (k .q) (as-short u d m (h .some) (h .is) (h .least p q))
+    (as-short v e m (k .some) (k .is) (k .least p q)) in
     same-through u d v some-d (h .is) (same-through d e v some-e same (same-back v e (k .is)))
 
 -- a difference is nearest if, along the way to the origin from it, no corner of a lies further than i, none of b less far than j, and their difference not beyond it

@@ -1,4 +1,4 @@
-// Written by tests/wide.py from fields, in f64.
+// Written by tests/written/wide.py from fields, in f64.
 // The fields that the sheet's lines and a route's line share: the letter of a status, and the floats of a contact.
 use model::Status;
 use model64::Contact;

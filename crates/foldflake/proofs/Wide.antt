@@ -15,10 +15,10 @@ use Rattle.model.specs.Work.{sweepFor}
 use Rattle.bridge.specs.Wide.{answer64, distance64, outcome64}
 use Rattle.bridge.proofs.Distance.{proxy-distance-same}
 use Rattle.bridge.proofs.Sheet.{sweep-for-same, told-same}
-use Rattle.entries.specs.Entry.{distanceFor, cacheOf}
-use Rattle.entries.specs.Entry as E
-use Rattle.entries64.specs.Entry.{distanceFor as distanceFor64, cacheOf as cacheOf64}
-use Rattle.entries64.specs.Entry as E64
+use Rattle.list_calls.specs.Entry.{distanceFor, cacheOf}
+use Rattle.list_calls.specs.Entry as E
+use Rattle.list_calls64.specs.Entry.{distanceFor as distanceFor64, cacheOf as cacheOf64}
+use Rattle.list_calls64.specs.Entry as E64
 
 -- ---- the sweep
 sweep-same : (f : Format) (a b ns : List Float) → E64.sweepCall f a b ns ≡ outcome64 (E.sweepCall f a b ns)

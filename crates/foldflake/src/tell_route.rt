@@ -1,13 +1,13 @@
 // The answer of a route, told by a number and by what is written into lent lists.
-use entries::put_contact;
-use legs::RouteAnswer;
-use legs::Stop;
+use list_calls::put_contact;
 use model::Contact;
 use model::Status;
+use route_legs::RouteAnswer;
+use route_legs::Stop;
 ghost use mathlib.Core.Path.{_≡_};
 ghost use mathlib.Core.List.{[], _∷_};
 ghost use lib.ListN.{length};
-ghost use Rattle.entries.specs.Entry.{contactFloats};
+ghost use Rattle.list_calls.specs.Entry.{contactFloats};
 ghost use Rattle.foldflake.specs.Route.{endNumber, stopWords, routeNumber, floatsAfter, placeAfter};
 
 // A status that ends a route; separated does not.

@@ -15,7 +15,8 @@ use Rattle.block.proofs.Passed.{is-passed, passed-good, fields-of}
 use Rattle.job_text.specs.Job.{otherForm, plainBlock}
 
 -- only where byte 6 is 0 can a block pass
-plain-good : (plain : Bool) (k : CheckedBlock) (other : Bool) (job : ℕ) → isGood (cond plain k (otherForm other job)) ≡ true → (plain ≡ true) × (isGood k ≡ true)
+plain-good : (plain : Bool) (k : CheckedBlock) (other : Bool) (job : ℕ) → isGood (cond plain k (otherForm other job)) ≡ true → (plain ≡ true)
+    × (isGood k ≡ true)
 plain-good true k other job e = (refl, e)
 plain-good false k true job e = (cc, cc)
 plain-good false k false job e = (cc, cc)

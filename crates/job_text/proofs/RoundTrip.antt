@@ -16,24 +16,8 @@ use Rattle.model.specs.Block.{jobOf, blockOf, sumOfWords, allZero, checkedBlock
 use Rattle.wire.specs.Bytes.{wordBytes}
 use Rattle.model.specs.Blocks.{isGood}
 use Rattle.job_text.specs.Job as Job
-use Rattle.job_text.specs.Job.{
-  placeOf,
-  wordsOf,
-  wordCount,
-  jobLine,
-  plainBlock,
-  countAt,
-  headWord,
-  pointWord,
-  wordAt,
-  firstWords,
-  sumOfFirst,
-  blockFrom,
-  mostNumbers,
-  numbersOf,
-  blockFor,
-  isJob,
-}
+use Rattle.job_text.specs.Job.{placeOf, wordsOf, wordCount, jobLine, plainBlock, countAt, headWord, pointWord, wordAt, firstWords, sumOfFirst}
+use Rattle.job_text.specs.Job.{blockFrom, mostNumbers, numbersOf, blockFor, isJob}
 use Rattle.job_text.proofs.Read.{Bytes, word-below, fieldsOf, numbers-of-line}
 use Rattle.job_text.proofs.Lines.{length-words}
 use Rattle.job_text.proofs.Compared.{same-list, list-same}
@@ -95,7 +79,14 @@ module _ (b ns : List ℕ) (p : Passed b) (stored : ns ≡ sets (replicate mostN
   zero-word k n m zeros from to =
       let z : (i : ℕ) → m ≤ i → i < m + 4 → byte b i ≡ 0 = λ i low high.
       (let same : k + (i - k) ≡ i = omega (arith, low, from) in rw same at (zero-byte b k n (i - k) zeros (omega (arith, low, high, from, to)))) in
-      omega (arith, z m (omega arith) (omega arith), z (m + 1) (omega arith) (omega arith), z (m + 2) (omega arith) (omega arith), z (m + 3) (omega arith) (omega arith))
+      omega (
+        arith,
+        z m (omega arith) (omega arith),
+        z (m + 1) (omega arith) (omega arith),
+        z (m + 2) (omega arith) (omega arith),
+        z (m + 3) (omega arith)
+            (omega arith),
+      )
 
   counts-word : byte b 4 + 256 * byte b 5 ≡ word b 4
   unfolding word
@@ -193,7 +184,8 @@ bytes-again p q r s hp hq hr hs =
     let b₀ : w % 256 ≡ p = ap (λ (n : ℕ). n % 256) e₁ ∙ low p (q + (r + s * 256) * 256) hp in
     let b₁ : w / 256 % 256 ≡ q =
     ap (λ (n : ℕ). n / 256 % 256) e₁ ∙ ap (λ (n : ℕ). n % 256) (high-1 p (q + (r + s * 256) * 256) hp) ∙ low q (r + s * 256) hq in
-    let b₂ : w / 65536 % 256 ≡ r = ap (λ (n : ℕ). n / 65536 % 256) e₂ ∙ ap (λ (n : ℕ). n % 256) (high-2 (p + q * 256) (r + s * 256) (omega arith)) ∙ low r s hr in
+    let b₂ : w / 65536 % 256 ≡ r = ap (λ (n : ℕ). n / 65536 % 256) e₂ ∙ ap (λ (n : ℕ). n % 256) (high-2 (p + q * 256) (r + s * 256) (omega arith))
+    ∙ low r s hr in
     let b₃ : w / 16777216 % 256 ≡ s = ap (λ (n : ℕ). n % 256) (high-3 (p + q * 256 + r * 65536) s (omega arith)) ∙ mod-eq-of-lt hs in
     rw (b₀, b₁, b₂, b₃)
 

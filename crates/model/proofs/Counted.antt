@@ -92,14 +92,43 @@ pub record CountedOn (before after : Totals) (lines : List (List ℕ)) : Type 0 
 
 one-more : (t : Totals) (l : List ℕ) (x : BlockAnswer) → printedLetter l ≡ letterTold x → CountedOn t (counted t x) (l ∷ [])
 unfolding howMany
-one-more t l (Refused job number) e = record { blocks = omega arith; clear = rw e (omega arith); contact = rw e (omega arith); undecided = rw e (omega arith); refused = rw e (omega arith) }
+one-more t l (Refused job number) e = record
+    { blocks = omega arith; clear = rw e (omega arith); contact = rw e (omega arith); undecided = rw e (omega arith); refused = rw e (omega arith) }
 one-more t l (Worked job v) e = go (v .status) e
   where
     go : (s : Status) → printedLetter l ≡ letterOf s → CountedOn t (oneWorked t s) (l ∷ [])
-    go Overlapped e = record { blocks = omega arith; clear = rw e (omega arith); contact = rw e (omega arith); undecided = rw e (omega arith); refused = rw e (omega arith) }
-    go Hit e = record { blocks = omega arith; clear = rw e (omega arith); contact = rw e (omega arith); undecided = rw e (omega arith); refused = rw e (omega arith) }
-    go Separated e = record { blocks = omega arith; clear = rw e (omega arith); contact = rw e (omega arith); undecided = rw e (omega arith); refused = rw e (omega arith) }
-    go Failed e = record { blocks = omega arith; clear = rw e (omega arith); contact = rw e (omega arith); undecided = rw e (omega arith); refused = rw e (omega arith) }
+    go Overlapped e = record {
+      blocks = omega arith;
+      clear = rw e (omega arith);
+      contact = rw e (omega arith);
+      undecided = rw e (omega arith);
+      refused = rw e
+          (omega arith);
+    }
+    go Hit e = record {
+      blocks = omega arith;
+      clear = rw e (omega arith);
+      contact = rw e (omega arith);
+      undecided = rw e (omega arith);
+      refused = rw e
+          (omega arith);
+    }
+    go Separated e = record {
+      blocks = omega arith;
+      clear = rw e (omega arith);
+      contact = rw e (omega arith);
+      undecided = rw e (omega arith);
+      refused = rw e
+          (omega arith);
+    }
+    go Failed e = record {
+      blocks = omega arith;
+      clear = rw e (omega arith);
+      contact = rw e (omega arith);
+      undecided = rw e (omega arith);
+      refused = rw e
+          (omega arith);
+    }
 
 and-then : (t u w : Totals) (l : List ℕ) (r : List (List ℕ)) → CountedOn t u (l ∷ []) → CountedOn u w r → CountedOn t w (l ∷ r)
 unfolding howMany

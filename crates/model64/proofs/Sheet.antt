@@ -19,7 +19,8 @@ use Rattle.model64.specs.Work.{blockAnswer}
 use Rattle.model.specs.Blocks.{wholeBlocks, shortRest, blocks, blockAt}
 use Rattle.model.specs.Parts.{together}
 use Rattle.model.specs.Sheet.{none, oneWorked, totalLine}
-use Rattle.model64.specs.Sheet.{answerOf, wholeAnswers, restAnswer, answers, answerLine, linesFrom, counted, totalsFrom, partText, sheet}
+use Rattle.model64.specs.Sheet.{answerOf, wholeAnswers, restAnswer, answers, answerLine, linesFrom, counted, totalsFrom}
+use Rattle.model64.specs.Sheet.{partText, sheet}
 use Rattle.model.proofs.Blocks.{map-append, blocks-more, blocks-in-two-parts, whole-counted, restOf, rest-short}
 use Rattle.model.proofs.Blocks as Blocks
 

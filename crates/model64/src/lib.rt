@@ -1,4 +1,4 @@
-// Written by tests/wide.py from model: the records that hold floats, in f64. The others are model's.
+// Written by tests/written/wide.py from model: the records that hold floats, in f64. The others are model's.
 use model::Corners;
 use model::Counts;
 use model::Ending;

@@ -135,7 +135,7 @@ fn copied(fd: i32, to: i32) -> bool {
     }
     for turn in 0..u64::MAX {
         let mut buffer = io::large_buffer();
-        let filled = input::fill(fd, &mut buffer);
+        let filled = streams::fill(fd, &mut buffer);
         if filled.failed {
             return false;
         }

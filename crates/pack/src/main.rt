@@ -14,7 +14,7 @@ struct Step {
 fn pack_part(part: &[u8], held: Held, out: &mut [u8], err: &mut [u8]) -> Step {
     let packed = packing::pack_part(part, held, out, err);
     let line = packed.held;
-    let written = input::write_both(out, packed.at, err, packed.told);
+    let written = streams::write_both(out, packed.at, err, packed.told);
     Step {
         more: written,
         held: line,
@@ -24,12 +24,12 @@ fn pack_part(part: &[u8], held: Held, out: &mut [u8], err: &mut [u8]) -> Step {
 // The line without its newline that the input ends in, where it does.
 fn end(held: Held, err: &mut [u8]) {
     let told = packing::tell_last(held, err);
-    input::write_to_error(err, told);
+    streams::write_to_error(err, told);
 }
 
 fn next_part(held: Held, out: &mut [u8], err: &mut [u8]) -> Step {
     let mut buffer = [0u8; PART_SIZE];
-    let filled = input::fill_from_input(&mut buffer);
+    let filled = streams::fill_from_input(&mut buffer);
     if filled.failed {
         return Step { more: false, held };
     }
@@ -53,7 +53,7 @@ fn next_part(held: Held, out: &mut [u8], err: &mut [u8]) -> Step {
 
 // A proved loop has to end, and nothing says that the input does: so the turns are counted, to a number that no run reaches.
 fn main() {
-    if !input::no_argument(b"pack") {
+    if !streams::no_argument(b"pack") {
         return;
     }
     let mut out = io::large_buffer();

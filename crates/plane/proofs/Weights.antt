@@ -25,7 +25,8 @@ module _ (weight : ℕ → ℕ) where
       omega (
         arith,
         dot-of-sum n z d,
-        ring (var 0 :* var 2 :+ var 1 :* var 3 :+ var 4 :* (var 0 :* var 5 :+ var 1 :* var 6)) (var 0 :* (var 2 :+ var 4 :* var 5) :+ var 1 :* (var 3 :+ var 4 :* var 6))
+        ring (var 0 :* var 2 :+ var 1 :* var 3 :+ var 4 :* (var 0 :* var 5 :+ var 1 :* var 6))
+            (var 0 :* (var 2 :+ var 4 :* var 5) :+ var 1 :* (var 3 :+ var 4 :* var 6))
             (d .x ∷ d .y ∷ before .x ∷ before .y ∷ ofNat (weight n) ∷ z n .x ∷ z n .y ∷ []) tt,
       )
 
@@ -42,7 +43,8 @@ module _ (weight : ℕ → ℕ) where
   sum-at-least (suc n) g m h =
       omega (arith, sum-at-least n g m (λ i l. h i (le-step l)), ⊠-mono (ofNat (weight n)) m (g n) (omega arith) (h n (le-refl (suc n))), one-weight-more n m)
 
-  pub sum-of-differences : (n : ℕ) (g h : ℕ → Int) → sumBelow n (λ i. ofNat (weight i) ⊠ (g i ⊟ h i)) ≃ sumBelow n (λ i. ofNat (weight i) ⊠ g i) ⊟ sumBelow n (λ i. ofNat (weight i) ⊠ h i)
+  pub sum-of-differences : (n : ℕ) (g h : ℕ → Int) → sumBelow n (λ i. ofNat (weight i) ⊠ (g i ⊟ h i)) ≃ sumBelow n (λ i. ofNat (weight i) ⊠ g i) ⊟ sumBelow n
+      (λ i. ofNat (weight i) ⊠ h i)
   sum-of-differences zero g h = refl
   sum-of-differences (suc n) g h =
       omega (arith, sum-of-differences n g h, ring (var 0 :* (var 1 :- var 2)) (var 0 :* var 1 :- var 0 :* var 2) (ofNat (weight n) ∷ g n ∷ h n ∷ []) tt)
@@ -86,7 +88,8 @@ module _ (z : ℕ → Int) where
   there (suc n) j k h = go (eqb j n) (eqb→eq j n) (λ (e : j ≡ n). rw e (eqb-refl n)) (λ l. there n j k l)
     where
       go : (b : Bool) → (T b → j ≡ n) → (j ≡ n → T b) → (j < n → Both n (λ i. cond (eqb j i) k 0) k (ofNat k ⊠ z j))
-          → (total n (λ i. cond (eqb j i) k 0) + cond b k 0 ≡ k) × (sumBelow n (λ i. ofNat (cond (eqb j i) k 0) ⊠ z i) ⊞ ofNat (cond b k 0) ⊠ z n ≃ ofNat k ⊠ z j)
+          → (total n (λ i. cond (eqb j i) k 0) + cond b k 0 ≡ k)
+          × (sumBelow n (λ i. ofNat (cond (eqb j i) k 0) ⊠ z i) ⊞ ofNat (cond b k 0) ⊠ z n ≃ ofNat k ⊠ z j)
       go true e g ih = let (t, s) = not-there n n k (le-refl n) in rw (e tt) (omega arith, omega arith)
       go false e g ih = let (t, s) = ih (lt-of-le-ne (le-of-suc-le-suc h) g) in (omega arith, omega (arith, ⊠-comm 0Int (z n), ⊠-zero (z n)))
 

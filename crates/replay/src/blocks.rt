@@ -24,7 +24,7 @@ pub fn answer(row: &[u8], n: u64, words: &mut Words) {
     let end: usize = 512;
     let answer = work::answer_block(&row[start..end]);
     let mut text = [0u8; 240];
-    lines::write_line(n, answer, &mut text);
+    sheet_lines::write_line(n, answer, &mut text);
     let mut i: usize = 0;
     while i < 39 {
         put(words, i, wire::word(&text, 4 * i));

@@ -26,7 +26,7 @@ pub fn answer(row: &[u8], words: &mut Words) {
         return;
     }
     let mut text = io::buffer();
-    let report = monthly::report_batches(&row[from..end], &sizes[..count]);
+    let report = report_batches::report_batches(&row[from..end], &sizes[..count]);
     let n = report_lines::write_report(report, &mut text);
     cases::tell_first(row, end, &text, n, b"", 0, words);
 }

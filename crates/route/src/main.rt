@@ -16,12 +16,12 @@ struct Step {
 fn tell(reader: Reader, floats: &[f32], lengths: &[u32]) {
     let mut text = [0u8; 128];
     let n = route_text::write_answer(reader, floats, lengths, &mut text);
-    input::write_to_output(&text, n);
+    streams::write_to_output(&text, n);
 }
 
 fn next_part(reader: Reader, floats: &mut [f32], lengths: &mut [u32]) -> Step {
     let mut buffer = io::large_buffer();
-    let filled = input::fill_from_input(&mut buffer);
+    let filled = streams::fill_from_input(&mut buffer);
     if filled.failed {
         return Step {
             more: false,
@@ -41,7 +41,7 @@ fn next_part(reader: Reader, floats: &mut [f32], lengths: &mut [u32]) -> Step {
 
 // A proved loop has to end, and nothing says that the input does: so the turns are counted, to a number that no run reaches.
 fn main() {
-    if !input::no_argument(b"route") {
+    if !streams::no_argument(b"route") {
         return;
     }
     let mut floats = [0.0f32; NUMBERS];

@@ -57,7 +57,8 @@ module _ (size : ℕ) (answer : Run → List ℕ) where
   last s p can short = rw (lt-ltb (length p) size short) (refl, refl)
 
   more : (s : Run) (p rest : List ℕ) → Can s (p ++ rest) → length p ≡ size
-      → (isLast size answer s p ≡ false) × (tellBy size answer s p ++ answer (runOver (runOver s p) rest) ≡ answer (runOver s (p ++ rest))) × Can (runOver s p) rest
+      → (isLast size answer s p ≡ false) × (tellBy size answer s p ++ answer (runOver (runOver s p) rest) ≡ answer (runOver s (p ++ rest)))
+      × Can (runOver s p) rest
   more s p rest can full = rw (le-ltb (length p) size (omega (arith, full)), read-in-two-parts s p rest) (refl, refl, tt)
 
   steps : TextSteps runOver (isLast size answer) (tellBy size answer) partRoom (λ s b. answer (runOver s b)) Can

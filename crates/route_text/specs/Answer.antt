@@ -11,10 +11,10 @@ use Rattle.model.specs.Support.{point}
 use Rattle.model.specs.Sheet.{letterOf}
 use Rattle.model.specs.Text.{decimal, hexFloat, line}
 use Rattle.text.specs.Put.{number, whereRoom}
-use Rattle.legs.specs.declared.Stop.{Stop}
-use Rattle.legs.specs.declared.RouteAnswer.{RouteAnswer}
-use Rattle.legs.specs.declared.RouteAnswer.the-variants.{Clear, Ended, Refused, Wrong}
-use Rattle.legs.specs.Route.{route}
+use Rattle.route_legs.specs.declared.Stop.{Stop}
+use Rattle.route_legs.specs.declared.RouteAnswer.{RouteAnswer}
+use Rattle.route_legs.specs.declared.RouteAnswer.the-variants.{Clear, Ended, Refused, Wrong}
+use Rattle.route_legs.specs.Route.{route}
 use Rattle.route_read.specs.declared.Kept.{Kept}
 use Rattle.route_read.specs.declared.Reader.{Reader}
 use Rattle.route_line.specs.Line.{isRoute}

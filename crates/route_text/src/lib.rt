@@ -1,8 +1,8 @@
 // The answer of a route that was read as text, as a line.
-use legs::RouteAnswer;
-use legs::Stop;
 use model::Contact;
 use model::Status;
+use route_legs::RouteAnswer;
+use route_legs::Stop;
 use route_read::Kept;
 use route_read::Reader;
 ghost use mathlib.Core.Path.{_≡_};
@@ -43,7 +43,7 @@ fn route_of(kept: Kept, floats: &[f32], lengths: &[u32]) -> RouteAnswer
     let n = least(kept.outlines, lengths.len());
     let whole = whole_end(cart, ways);
     let first = outline::point(floats, 0);
-    legs::route(
+    route_legs::route(
         &floats[start..cart],
         &floats[cart..whole],
         &floats[ways..used],
@@ -104,7 +104,8 @@ fn put_answer(out: &mut [u8], answer: RouteAnswer) -> usize
 
 // The line of what was read, at the start of out, and its length; nothing where out has fewer bytes than the longest.
 pub fn write_answer(reader: Reader, floats: &[f32], lengths: &[u32], out: &mut [u8]) -> usize
-    ensures { λ r. ⌜ Put (now (out .entry)) 0 (Answer.textFor reader (now (floats .entry)) (now (lengths .entry)) (length (now (out .entry)))) (now (out .exit)) r ⌝ }
+    ensures { λ r. ⌜ Put (now (out .entry)) 0 (Answer.textFor reader (now (floats .entry)) (now (lengths .entry)) (length (now (out .entry))))
+        (now (out .exit)) r ⌝ }
 {
     if out.len() < LONGEST_LINE {
         return 0;

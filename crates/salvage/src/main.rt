@@ -29,10 +29,10 @@ fn write_part(name: &[u8], fd: i32, buffer: &mut [u8], count: usize, walk: Walk)
     if !salvaged.done {
         return failed(walk);
     }
-    if !input::write_to(fd, name, &file, salvaged.file) {
+    if !streams::write_to(fd, name, &file, salvaged.file) {
         return failed(walk);
     }
-    if !input::write_to_output(&text, salvaged.text) {
+    if !streams::write_to_output(&text, salvaged.text) {
         return failed(walk);
     }
     Turn {
@@ -47,7 +47,7 @@ fn next_part(name: &[u8], fd: i32, buffer: &mut [u8], left: usize, walk: Walk) -
     if left > buffer.len() {
         return failed(walk);
     }
-    let filled = input::fill_from_input(&mut buffer[left..]);
+    let filled = streams::fill_from_input(&mut buffer[left..]);
     if filled.failed {
         return failed(walk);
     }
@@ -78,13 +78,13 @@ fn walk_all(name: &[u8], fd: i32) -> Turn {
 fn tell_last_run(left: usize, walk: Walk) -> bool {
     let mut text = io::buffer();
     let n = salvaging::tell_last_run(left, walk, &mut text);
-    input::write_to_output(&text, n)
+    streams::write_to_output(&text, n)
 }
 
 fn tell_total(left: usize, walk: Walk) -> bool {
     let mut text = io::buffer();
     let n = salvaging::tell_total(left, walk, &mut text);
-    input::write_to_output(&text, n)
+    streams::write_to_output(&text, n)
 }
 
 // Collects what is to be written and tells the runs. The totals come when all is written, and then the file takes its place.
@@ -112,7 +112,7 @@ fn replace(name: &[u8], beside: &mut [u8]) {
 }
 
 fn run(name: &[u8]) {
-    if !input::streams_open() {
+    if !streams::streams_open() {
         return;
     }
     if !outfile::may_be_replaced(name) {

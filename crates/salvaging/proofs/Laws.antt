@@ -227,7 +227,8 @@ module _ (b : List ℕ) (w : Walk) (file₀ text₀ : List ℕ) where
           so-far = before .so-far ∙ ap (λ (l : List Step). before .done ++ l) (first-step 512 (omega arith) here whole)
               ∙ ap (λ (l : List ℕ). before .done ++ (s ∷ stepsIn l)) on ∙ sym (append-assoc (before .done) (s ∷ []) (stepsIn (drop at' b)));
           place = e ∙ ap (λ (k : ℕ). k + length (bytesOf s)) (before .place) ∙ sym (length-append (allBytes (before .done)) (bytesOf s))
-              ∙ ap (λ (l : List ℕ). length (allBytes (before .done) ++ l)) (sym (append-nil (bytesOf s))) ∙ ap length (sym (bytes-append (before .done) (s ∷ [])));
+              ∙ ap (λ (l : List ℕ). length (allBytes (before .done) ++ l)) (sym (append-nil (bytesOf s)))
+              ∙ ap length (sym (bytes-append (before .done) (s ∷ [])));
           inside = omega (arith, e, goes here (omega (arith, whole)) .inside, length-drop at b);
           walk = f ∙ ap (λ (v : Walk). next v s) (before .walk) ∙ sym (after-append w (before .done) (s ∷ []));
           kept = rw (kept-append, append-nil (keptBy s)) (put-then (omega arith) (before .kept) p);
@@ -250,7 +251,8 @@ module _ (b : List ℕ) (w : Walk) (file₀ text₀ : List ℕ) where
       × ((Put file₀ 0 (keptBytes (stepsIn b)) file fileAt × Put text₀ 0 (runLines w (stepsIn b)) text textAt) × ((at ≤ length b) × (length b < at + 512)))
   finished at now file fileAt text textAt so few =
       let all : stepsIn b ≡ so .done =
-      so .so-far ∙ ap (λ (l : List Step). so .done ++ l) (none-left 512 (omega arith) (length (drop at b)) (drop at b) (omega (arith, few, length-drop at b))) ∙ append-nil (so .done) in
+      so .so-far ∙ ap (λ (l : List Step). so .done ++ l) (none-left 512 (omega arith) (length (drop at b)) (drop at b) (omega (arith, few, length-drop at b)))
+      ∙ append-nil (so .done) in
       rw all ((so .place, so .walk), ((so .kept, so .told), (so .inside, few)))
 
 -- ---- a part

@@ -57,7 +57,8 @@ module _ (b : List ℕ) (at : ℕ) (inside : at + 512 ≤ length b) where
 pub none-among-zeros : (x r : List ℕ) (s : ℕ) → passes x ≡ true → 360 ≤ s → s ≤ 504 → passes (take 512 (drop s (x ++ r))) ≡ false
 unfolding word
 none-among-zeros x r s e low high =
-    refused (take 512 (drop s (x ++ r))) (λ o. false-true (sym (fields (take 512 (drop s (x ++ r))) o .job) ∙ eq-eqb (jobOf (take 512 (drop s (x ++ r)))) 0 job))
+    refused (take 512 (drop s (x ++ r)))
+    (λ o. false-true (sym (fields (take 512 (drop s (x ++ r))) o .job) ∙ eq-eqb (jobOf (take 512 (drop s (x ++ r)))) 0 job))
   where
     size : length x ≡ 512
     size = whole-if-passes x e

@@ -13,25 +13,10 @@ use Rattle.runs.proofs.Whole.{run-makes-whole, text-steps}
 use Rattle.salvaging.specs.declared.Walk.{Walk}
 use Rattle.salvaging.specs.Walk.{Step, bytesOf, stepAt, stepsBy, steps, keptBytes, next, after, runLines, lastLines, atStart, fileOf, textOf}
 use Rattle.salvaging.specs.Walk.Step.{kept, skipped}
-use Rattle.salvaging.specs.Part.{
-  stepsIn,
-  allBytes,
-  restOf,
-  placeLimit,
-  countable,
-  fits,
-  skippedOn,
-  Stand,
-  stand,
-  partRoom,
-  nextStand,
-  isOver,
-  writeBy,
-  tellBy,
-  fileBy,
-  textBy,
-}
-use Rattle.salvaging.proofs.Steps.{Kind, keeps, skips, kind, behind, whole-inside, first-step, over, walked-by-parts, kept-append, after-append, lines-append}
+use Rattle.salvaging.specs.Part.{stepsIn, allBytes, restOf, placeLimit, countable, fits, skippedOn, Stand, stand, partRoom, nextStand, isOver, writeBy}
+use Rattle.salvaging.specs.Part.{tellBy, fileBy, textBy}
+use Rattle.salvaging.proofs.Steps.{Kind, keeps, skips, kind, behind, whole-inside, first-step, over, walked-by-parts, kept-append, after-append}
+use Rattle.salvaging.proofs.Steps.{lines-append}
 use Rattle.salvaging.proofs.Laws.{counted}
 
 -- the place after all that was walked
@@ -170,7 +155,8 @@ module _ (room textRoom : ℕ) (block : 512 ≤ room) (lines : 42 * (room / 512)
 
       last-text : (isOver room textRoom s p ≡ true) × (tellBy room textRoom s p ≡ textFrom s p)
       last-text =
-          rw (roomy-last, not-full, counted-last, le-leb 42 textRoom (omega (arith, long)), le-leb 48 textRoom long, no-more-told s p, walk-ends s p) (refl, refl)
+          rw (roomy-last, not-full, counted-last, le-leb 42 textRoom (omega (arith, long)), le-leb 48 textRoom long, no-more-told s p, walk-ends s p)
+          (refl, refl)
 
     module _ (r : List ℕ) (can : Can s (p ++ r)) (full : length p ≡ partRoom room textRoom s) where
       roomy-full : fits (length (b s p)) room textRoom (s .walk) ≡ true

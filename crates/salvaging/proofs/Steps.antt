@@ -91,7 +91,8 @@ module _ (least : ℕ) (positive : 1 ≤ least) where
   first-step b h =
       let some : 1 ≤ length b = omega (arith, h, positive) in
       enough (length b) (suc (length b)) b (omega arith) (omega arith) ∙ one-step (length b) b h
-      ∙ ap (λ (l : List Step). stepAt b ∷ l) (enough (length b) (length (behind b)) (behind b) (omega (arith, length-drop (length (bytesOf (stepAt b))) b)) (omega arith))
+      ∙ ap (λ (l : List Step). stepAt b ∷ l)
+      (enough (length b) (length (behind b)) (behind b) (omega (arith, length-drop (length (bytesOf (stepAt b))) b)) (omega arith))
 
   -- ---- what is left behind them
   abbrev pub rest : List ℕ → List ℕ

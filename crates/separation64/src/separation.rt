@@ -65,7 +65,8 @@ fn of_points(
     index_a: u32,
     index_b: u32,
 ) -> SeparationFunction
-    ensures { λ r. ⌜ r ≡ Separation.ofPoints binary64 «sweep_a» «sweep_b» (now («points_a» .entry)) (now («points_b» .entry)) «xf_a» «xf_b» «index_a» «index_b» ⌝ }
+    ensures { λ r. ⌜ r ≡ Separation.ofPoints binary64 «sweep_a» «sweep_b» (now («points_a» .entry)) (now («points_b» .entry)) «xf_a» «xf_b» «index_a»
+        «index_b» ⌝ }
 {
     let point_a = transform_point(xf_a, point(points_a, index_a));
     let point_b = transform_point(xf_b, point(points_b, index_b));
@@ -92,7 +93,8 @@ fn of_face_a(
     index_a2: u32,
     index_b: u32,
 ) -> SeparationFunction
-    ensures { λ r. ⌜ r ≡ Separation.ofFaceA binary64 «sweep_a» «sweep_b» (now («points_a» .entry)) (now («points_b» .entry)) «xf_a» «xf_b» «index_a1» «index_a2» «index_b» ⌝ }
+    ensures { λ r. ⌜ r ≡ Separation.ofFaceA binary64 «sweep_a» «sweep_b» (now («points_a» .entry)) (now («points_b» .entry)) «xf_a» «xf_b» «index_a1»
+        «index_a2» «index_b» ⌝ }
 {
     let local_point1 = point(points_a, index_a1);
     let local_point2 = point(points_a, index_a2);
@@ -125,7 +127,8 @@ fn of_face_b(
     index_b1: u32,
     index_b2: u32,
 ) -> SeparationFunction
-    ensures { λ r. ⌜ r ≡ Separation.ofFaceB binary64 «sweep_a» «sweep_b» (now («points_a» .entry)) (now («points_b» .entry)) «xf_a» «xf_b» «index_a» «index_b1» «index_b2» ⌝ }
+    ensures { λ r. ⌜ r ≡ Separation.ofFaceB binary64 «sweep_a» «sweep_b» (now («points_a» .entry)) (now («points_b» .entry)) «xf_a» «xf_b» «index_a»
+        «index_b1» «index_b2» ⌝ }
 {
     let local_point1 = point(points_b, index_b1);
     let local_point2 = point(points_b, index_b2);

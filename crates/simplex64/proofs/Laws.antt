@@ -9,7 +9,8 @@ use Rattle.model64.specs.declared.SimplexVertex.{SimplexVertex}
 use Rattle.model64.specs.Ground.{one, negate, origin}
 use Rattle.model64.specs.Ground as Ground
 use Rattle.model.specs.Simplex.{Region, at1, at2, at3, on12, on13, on23, inside}
-use Rattle.model64.specs.Simplex.{slot, weigh, moved, solved, near, far, opposite, offEdge, region2, region3, kept}
+use Rattle.model64.specs.Simplex.{slot, weigh, moved, solved, near, far, opposite, offEdge, region2, region3}
+use Rattle.model64.specs.Simplex.{kept}
 
 -- ---- two vertices
 module _ (f : Format) (w1 w2 : Vector) (x y : Float) (ex : x ≡ near f w1 w2) (ey : y ≡ far f w1 w2) where

@@ -67,6 +67,7 @@ unfolding transformAt root add sub neg mul div lt ofBits toBits
 transform-rotations-exchanged = refl
 
 -- the axis (0, 1) of an edge through (0, 0) is turned toward a point below it
-pub normal-turned-away : both (toward binary32 (pose (rotation n1 n0) (vector n0 n0)) (vector n0 n0) (vector n0 -n1) (vector n0 n1)) ≡ (0x8000_0000 ∷ 0xbf80_0000 ∷ [])
+pub normal-turned-away : both (toward binary32 (pose (rotation n1 n0) (vector n0 n0)) (vector n0 n0) (vector n0 -n1) (vector n0 n1))
+    ≡ (0x8000_0000 ∷ 0xbf80_0000 ∷ [])
 unfolding add sub neg mul lt ofBits toBits
 normal-turned-away = refl

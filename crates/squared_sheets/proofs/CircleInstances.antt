@@ -72,7 +72,8 @@ module _ (s : Sheet) where
   whole = roundsOf binary32 (drawn binary32 (s .a)) (drawn binary32 (s .b)) (drawnPose binary32 s) 20 (at 0)
 
 pub falling-on : On falling 0 × On falling 1 × On falling 2 × (whole falling .ending ≡ Settled) × (whole falling .iterations ≡ 4)
-unfolding roundsFrom startSimplex vertex held solve solveSimplex2 solveSimplex3 region2 region3 kept supportFrom allBelow ofBits ofInt round add sub mul div neg lt le eq
+unfolding roundsFrom startSimplex vertex held solve solveSimplex2 solveSimplex3 region2 region3 kept supportFrom allBelow ofBits ofInt round add sub mul div
+    neg lt le eq
 falling-on = (record { apart = refl; new = refl }, record { apart = refl; new = refl }, record { apart = refl; new = refl }, refl, refl)
 
 -- ---- the lengths
@@ -98,8 +99,10 @@ module _ (s : Sheet) where
   by-weights n r weight some behind is =
       (record { weight = weight; some = some; least = λ other h. least-by-level (solvedAt n .count) (placeOf n) weight behind other }, is)
 
-pub falling-lengths : Length falling 0 (fraction 25 1) × Length falling 1 (fraction 45 2) × Length falling 2 (fraction 361 17) × Length falling 3 (fraction 98 5)
-unfolding roundsFrom startSimplex vertex held solve solveSimplex2 solveSimplex3 region2 region3 kept supportFrom allBelow ofBits ofInt round add sub mul div neg lt le eq _⊠_
+pub falling-lengths : Length falling 0 (fraction 25 1) × Length falling 1 (fraction 45 2) × Length falling 2 (fraction 361 17)
+    × Length falling 3 (fraction 98 5)
+unfolding roundsFrom startSimplex vertex held solve solveSimplex2 solveSimplex3 region2 region3 kept supportFrom allBelow ofBits ofInt round add sub mul div
+    neg lt le eq _⊠_
 falling-lengths = (
   by-weights falling 0 (fraction 25 1) (λ i. 1) (lit< tt) (below1 _ (lit≤ tt)) refl,
   by-weights falling 1 (fraction 45 2) (two 1 1) (lit< tt) (below2 _ (lit≤ tt) (lit≤ tt)) refl,
@@ -109,11 +112,13 @@ falling-lengths = (
 
 -- ---- it stays, and settles
 pub staying-on : On staying 0 × On staying 1 × (whole staying .ending ≡ Settled) × (whole staying .iterations ≡ 3)
-unfolding roundsFrom startSimplex vertex held solve solveSimplex2 solveSimplex3 region2 region3 kept supportFrom allBelow ofBits ofInt round add sub mul div neg lt le eq
+unfolding roundsFrom startSimplex vertex held solve solveSimplex2 solveSimplex3 region2 region3 kept supportFrom allBelow ofBits ofInt round add sub mul div
+    neg lt le eq
 staying-on = (record { apart = refl; new = refl }, record { apart = refl; new = refl }, refl, refl)
 
 pub staying-lengths : Length staying 0 (fraction 40 1) × Length staying 1 (fraction 10 1) × Length staying 2 (fraction 10 1)
-unfolding roundsFrom startSimplex vertex held solve solveSimplex2 solveSimplex3 region2 region3 kept supportFrom allBelow ofBits ofInt round add sub mul div neg lt le eq _⊠_
+unfolding roundsFrom startSimplex vertex held solve solveSimplex2 solveSimplex3 region2 region3 kept supportFrom allBelow ofBits ofInt round add sub mul div
+    neg lt le eq _⊠_
 staying-lengths = (
   by-weights staying 0 (fraction 40 1) (λ i. 1) (lit< tt) (below1 _ (lit≤ tt)) refl,
   by-weights staying 1 (fraction 10 1) (λ i. 1) (lit< tt) (below1 _ (lit≤ tt)) refl,

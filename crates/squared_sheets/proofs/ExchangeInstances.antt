@@ -99,7 +99,8 @@ pub record Computed : Type 0 where
   pub joinedBackEnds : endings (call joinedBack none .answer) ≡ (Touching ∷ [])
 
 pub computed : Computed
-unfolding proxyDistance measure roundsFrom startSimplex vertex held solve solveSimplex2 solveSimplex3 region2 region3 kept supportFrom witnessPoints allBelow replaced badParts abs ofBits ofInt round add sub mul div neg lt le eq root
+unfolding proxyDistance measure roundsFrom startSimplex vertex held solve solveSimplex2 solveSimplex3 region2 region3 kept supportFrom witnessPoints allBelow
+    replaced badParts abs ofBits ofInt round add sub mul div neg lt le eq root
 computed = record { slantedEnds = refl; slantedBackEnds = refl; slantedMovedEnds = refl; joinedEnds = refl; joinedBackEnds = refl }
 
 -- ---- the nearest differences: (-21/5, -7/5), seen from the other side (7/5, -21/5), and moved the same as at first
@@ -162,21 +163,24 @@ none-is-cache : IsCache none
 none-is-cache = record { a = refl; b = refl }
 
 pub slanted-exchanged : Exchanged paperSlanted Settled Settled (call slanted none .cache) (call slantedBack none .cache)
-unfolding proxyDistance measure roundsFrom startSimplex vertex held solve solveSimplex2 solveSimplex3 region2 region3 kept supportFrom witnessPoints allBelow replaced badParts abs ofBits ofInt round add sub mul div neg lt le eq root
+unfolding proxyDistance measure roundsFrom startSimplex vertex held solve solveSimplex2 solveSimplex3 region2 region3 kept supportFrom witnessPoints allBelow
+    replaced badParts abs ofBits ofInt round add sub mul div neg lt le eq root
 slanted-exchanged =
     exchange-on-squared-paper binary32 (drawnPose binary32 slanted) (drawnPose binary32 slantedBack) (drawn binary32 (slanted .a)) (Ground.zero binary32)
     (drawn binary32 (slanted .b)) (Ground.zero binary32) false false ours ours none none paperSlanted _ _ slanted-inverse none-is-cache none-is-cache refl refl
     settled-is-not-limit settled-is-not-limit
 
 pub slanted-alike : Alike paperSlanted by (drawn binary32 (slantedMoved .b)) Settled Settled (call slanted none .cache) (call slantedMoved none .cache)
-unfolding proxyDistance measure roundsFrom startSimplex vertex held solve solveSimplex2 solveSimplex3 region2 region3 kept supportFrom witnessPoints allBelow replaced badParts abs ofBits ofInt round add sub mul div neg lt le eq root
+unfolding proxyDistance measure roundsFrom startSimplex vertex held solve solveSimplex2 solveSimplex3 region2 region3 kept supportFrom witnessPoints allBelow
+    replaced badParts abs ofBits ofInt round add sub mul div neg lt le eq root
 slanted-alike =
     shift-on-squared-paper binary32 (drawnPose binary32 slanted) (drawnPose binary32 slantedMoved) (drawn binary32 (slanted .a)) (Ground.zero binary32)
     (drawn binary32 (slanted .b)) (drawn binary32 (slantedMoved .b)) (Ground.zero binary32) false false ours ours none none paperSlanted by _ _ slanted-shifted
     none-is-cache none-is-cache refl refl settled-is-not-limit settled-is-not-limit
 
 pub joined-exchanged : Exchanged paperJoined Touching Touching (call joined none .cache) (call joinedBack none .cache)
-unfolding proxyDistance measure roundsFrom startSimplex vertex held solve solveSimplex2 solveSimplex3 region2 region3 kept supportFrom witnessPoints allBelow replaced badParts abs ofBits ofInt round add sub mul div neg lt le eq root
+unfolding proxyDistance measure roundsFrom startSimplex vertex held solve solveSimplex2 solveSimplex3 region2 region3 kept supportFrom witnessPoints allBelow
+    replaced badParts abs ofBits ofInt round add sub mul div neg lt le eq root
 joined-exchanged =
     exchange-on-squared-paper binary32 (drawnPose binary32 joined) (drawnPose binary32 joinedBack) (drawn binary32 (joined .a)) (Ground.zero binary32)
     (drawn binary32 (joined .b)) (Ground.zero binary32) false false ours ours none none paperJoined _ _ joined-inverse none-is-cache none-is-cache refl refl

@@ -82,7 +82,8 @@ abbrev pub turning : Distance
 turning =
     let points : List ℕ → List Float = map (ofBits binary32) in
     proxyDistance binary32 (Ground.pose (Ground.rotation (Ground.one binary32) (Ground.zero binary32)) (Ground.origin binary32))
-    (points (0xc5ac_70da ∷ 0xc604_2da4 ∷ 0x445d_2f0c ∷ 0xc306_bbe0 ∷ 0x445d_302e ∷ 0xc306_b385 ∷ 0xc56b_a61c ∷ 0xc5c2_c875 ∷ 0xc56b_a615 ∷ 0xc5c2_c873 ∷ 0x445d_2f6c ∷ 0xc306_b9ff ∷ [])) (Ground.zero binary32)
+    (points (0xc5ac_70da ∷ 0xc604_2da4 ∷ 0x445d_2f0c ∷ 0xc306_bbe0 ∷ 0x445d_302e ∷ 0xc306_b385 ∷ 0xc56b_a61c ∷ 0xc5c2_c875 ∷ 0xc56b_a615 ∷ 0xc5c2_c873 ∷
+    0x445d_2f6c ∷ 0xc306_b9ff ∷ [])) (Ground.zero binary32)
     (points (0x445d_2f4e ∷ 0xc306_bc0f ∷ [])) (Ground.zero binary32) false ours none
 
 -- ---- the calls, computed: apart, from no cache, from a stale one and from the same filed under another pair, and joined. The edge from (2, 2) to
@@ -106,7 +107,8 @@ pub record ComputedAt (f : Format) : Type 0 where
   pub misfiledRefused : callAt f apart misfiled ≡ record { answer = Refused 12; cache = misfiled }
 
 pub computed-at : (f : Format) → ComputedAt f
-unfolding proxyDistance measure roundsFrom startSimplex vertex held solve solveSimplex2 solveSimplex3 region2 region3 kept supportFrom witnessPoints allBelow replaced badParts abs ofBits ofInt round add sub mul div neg lt le eq root
+unfolding proxyDistance measure roundsFrom startSimplex vertex held solve solveSimplex2 solveSimplex3 region2 region3 kept supportFrom witnessPoints allBelow
+    replaced badParts abs ofBits ofInt round add sub mul div neg lt le eq root
 computed-at binary32 = record { staleEnds = refl; staleCache = refl; misfiledRefused = refl }
 computed-at binary64 = record { staleEnds = refl; staleCache = refl; misfiledRefused = refl }
 
@@ -118,7 +120,8 @@ pub record Computed : Type 0 where
   pub turningEnds : endings (turning .answer) ≡ (RoundLimit ∷ [])
 
 pub computed : Computed
-unfolding proxyDistance measure roundsFrom startSimplex vertex held solve solveSimplex2 solveSimplex3 region2 region3 kept supportFrom witnessPoints allBelow replaced badParts abs ofBits ofInt round add sub mul div neg lt le eq root
+unfolding proxyDistance measure roundsFrom startSimplex vertex held solve solveSimplex2 solveSimplex3 region2 region3 kept supportFrom witnessPoints allBelow
+    replaced badParts abs ofBits ofInt round add sub mul div neg lt le eq root
 computed = record { apartEnds = refl; apartCache = refl; joinedEnds = refl; joinedCache = refl; turningEnds = refl }
 
 -- what the theorem says of a computed call

@@ -72,7 +72,8 @@ pub record Computed : Type 0 where
   pub limit : endings (call .answer) ≡ (RoundLimit ∷ [])
 
 pub computed : Computed
-unfolding proxyDistance measure roundsFrom startSimplex vertex held solve solveSimplex2 solveSimplex3 region2 region3 kept supportFrom witnessPoints allBelow replaced badParts abs ofBits ofInt round add sub mul div neg lt le eq root
+unfolding proxyDistance measure roundsFrom startSimplex vertex held solve solveSimplex2 solveSimplex3 region2 region3 kept supportFrom witnessPoints allBelow
+    replaced badParts abs ofBits ofInt round add sub mul div neg lt le eq root
 computed = record { eight = refl; ninth = refl; limit = refl }
 
 -- what the theorem says of the one

@@ -33,7 +33,8 @@ every-one : (n : ℕ) (t : ℕ → Bool) → T (every n t) → (i : ℕ) → i <
 unfolding every
 every-one zero t h i l = absurd (not-suc-le-zero l)
 every-one (suc n) t h i l =
-    elim (eq-or-lt-of-le (le-of-suc-le-suc l)) [ inl e ↦ subst (λ (k : ℕ). T (t k)) (sym e) (and-r (every n t) (t n) h) | inr r ↦ every-one n t (and-l (every n t) (t n) h) i r ]
+    elim (eq-or-lt-of-le (le-of-suc-le-suc l))
+    [ inl e ↦ subst (λ (k : ℕ). T (t k)) (sym e) (and-r (every n t) (t n) h) | inr r ↦ every-one n t (and-l (every n t) (t n) h) i r ]
 
 is-within : (n : ℕ) (z : Int) → T (within n z) → Within n z
 is-within n z h = record {
@@ -42,7 +43,11 @@ is-within n z h = record {
 }
 
 is-near : (n : ℕ) (z : Point) → T (nearPoint n z) → Near n z
-is-near n z h = record { x = is-within n (z .x) (and-l (within n (z .x)) (within n (z .y)) h); y = is-within n (z .y) (and-r (within n (z .x)) (within n (z .y)) h) }
+is-near n z h = record {
+  x = is-within n (z .x) (and-l (within n (z .x)) (within n (z .y)) h);
+  y = is-within n (z .y)
+      (and-r (within n (z .x)) (within n (z .y)) h);
+}
 
 zero-is : (z : Int) → T (isZero (z ⊟ ofNat 1)) → z ≃ ofNat 1
 zero-is z h = omega (arith, eqb→eq ((z ⊟ ofNat 1) .plus) ((z ⊟ ofNat 1) .minus) h)
@@ -103,11 +108,14 @@ module _ (f : Format) where
         wholeSine = number-is (s .sine) (widen (unit-root q (omega (arith, ⊠-square c))));
         quarterTurn = turn;
         wholeShift = record { x = number-is (s .shiftX) (moved .x); y = number-is (s .shiftY) (moved .y) };
-        near = λ i j k l. is-near bound _ (every-one (length (s .b) / 2) (λ j. within-all i j) (every-one (length (s .a) / 2) (λ i. every (length (s .b) / 2) (λ j. within-all i j)) (h .near) i (omega arith)) j (omega arith));
+        near = λ i j k l. is-near bound _
+            (every-one (length (s .b) / 2) (λ j. within-all i j)
+            (every-one (length (s .a) / 2) (λ i. every (length (s .b) / 2) (λ j. within-all i j)) (h .near) i (omega arith)) j (omega arith));
       }
 
   -- the vertices of a call on it, by the sheet's own corners
-  pub place-drawn : (s : Sheet) (bound : ℕ) (h : OnPaper s bound) (v : SimplexVertex) → place (on-squared-paper s bound h) v ≡ difference (cornerOf (s .a) (v .«index_a»)) (posedCorner s (v .«index_b»))
+  pub place-drawn : (s : Sheet) (bound : ℕ) (h : OnPaper s bound) (v : SimplexVertex) → place (on-squared-paper s bound h) v
+      ≡ difference (cornerOf (s .a) (v .«index_a»)) (posedCorner s (v .«index_b»))
   unfolding on-squared-paper
   place-drawn s bound h v = refl
 
@@ -118,7 +126,8 @@ module _ (f : Format) where
   abbrev pub sheetB : Sheet → Outline
   sheetB s = record { count = length (drawn f (s .b)) / 2; corner = posedCorner s }
 
-  pub outlines-drawn : (s : Sheet) (bound : ℕ) (h : OnPaper s bound) → (outlineA (on-squared-paper s bound h) ≡ sheetA s) × (posedB (on-squared-paper s bound h) ≡ sheetB s)
+  pub outlines-drawn : (s : Sheet) (bound : ℕ) (h : OnPaper s bound) → (outlineA (on-squared-paper s bound h) ≡ sheetA s)
+      × (posedB (on-squared-paper s bound h) ≡ sheetB s)
   unfolding on-squared-paper
   outlines-drawn s bound h = (refl, refl)
 
@@ -141,7 +150,8 @@ module _ (f : Format) where
     pub shifted-drawn : (by : Point) → length (drawn f (s' .b)) ≡ length (drawn f (s .b)) → int (s' .cosine) ≃ int (s .cosine) → int (s' .sine) ≃ int (s .sine)
         → let off = difference (shift s) (turned (int (s .cosine)) (int (s .sine)) by) in
         int (s' .shiftX) ≃ off .x → int (s' .shiftY) ≃ off .y
-        → ((j : ℕ) → j < length (drawn f (s' .b)) / 2 → (cornerOf (s' .b) j .x ≃ cornerOf (s .b) j .x ⊞ by .x) × (cornerOf (s' .b) j .y ≃ cornerOf (s .b) j .y ⊞ by .y))
+        → ((j : ℕ) → j < length (drawn f (s' .b)) / 2 → (cornerOf (s' .b) j .x ≃ cornerOf (s .b) j .x ⊞ by .x)
+        × (cornerOf (s' .b) j .y ≃ cornerOf (s .b) j .y ⊞ by .y))
         → IsShifted (on-squared-paper s bound h) by (drawnPose f s') (drawn f (s' .b))
     unfolding on-squared-paper
     shifted-drawn by el ec es ex ey moved = record {

@@ -1,4 +1,4 @@
-// Written by tests/wide.py from sweep_numbers, in f64.
+// Written by tests/written/wide.py from sweep_numbers, in f64.
 // A sweep by numbers: the moves and the sweep that they ask for, and what its answer comes to. For blocks, routes and lists from C alike.
 use model::Corners;
 use model::Counts;

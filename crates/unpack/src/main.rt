@@ -13,12 +13,12 @@ struct Step {
 // The rest of fewer bytes than a block that the input ends in, where it does.
 fn end(rest: usize, blocks: u64, err: &mut [u8]) {
     let told = unpacking::tell_rest(rest, blocks, err);
-    input::write_to_error(err, told);
+    streams::write_to_error(err, told);
 }
 
 fn next_part(before: u64, out: &mut [u8], err: &mut [u8]) -> Step {
     let mut buffer = [0u8; PART_SIZE];
-    let filled = input::fill_from_input(&mut buffer);
+    let filled = streams::fill_from_input(&mut buffer);
     let n = filled.count;
     if filled.failed {
         return Step {
@@ -28,7 +28,7 @@ fn next_part(before: u64, out: &mut [u8], err: &mut [u8]) -> Step {
     }
     let unpacked = unpacking::unpack_part(&buffer[..n], before, out, err);
     let blocks = unpacked.blocks;
-    if !input::write_both(out, unpacked.at, err, unpacked.told) {
+    if !streams::write_both(out, unpacked.at, err, unpacked.told) {
         return Step {
             more: false,
             blocks,
@@ -46,7 +46,7 @@ fn next_part(before: u64, out: &mut [u8], err: &mut [u8]) -> Step {
 
 // A proved loop has to end, and nothing says that the input does: so the turns are counted, to a number that no run reaches.
 fn main() {
-    if !input::no_argument(b"unpack") {
+    if !streams::no_argument(b"unpack") {
         return;
     }
     let mut out = io::large_buffer();

@@ -1,4 +1,4 @@
-// Written by tests/wide.py from work, in f64.
+// Written by tests/written/wide.py from work, in f64.
 // From a block to its answer: its floats, and what the sweep that they ask for comes to.
 use model::Block;
 use model::CheckedBlock;

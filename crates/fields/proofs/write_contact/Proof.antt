@@ -30,7 +30,8 @@ same-length c = search needs
 returns-3 : tie.Need-returns-3
 returns-3 c =
     let a = c .before .before .before .before .before .before .before .args in
-    let roomy : a .at + contactRoom ≤ length (a .out .now) = omega (arith, c .before .before .before .before .if2 .left, c .before .before .before .before .before .if1 .left) in
+    let roomy : a .at + contactRoom ≤ length (a .out .now) = omega
+    (arith, c .before .before .before .before .if2 .left, c .before .before .before .before .before .if1 .left) in
     rw (le-ltb _ _ roomy) (c .before .before .put-contact .ensures)
 
 pub write-contact-spec : {M : Type 1} → statement M

@@ -18,7 +18,12 @@ count-in-word-requires c κs = search needs
 
 returns : tie.Need-returns
 unfolding inWord
-returns c = simp (c .count-in-word .ensures, c .before .next-value .ensures, c .before .before .place-in-word .ensures, c .before .before .before .hex-digit .ensures)
+returns c = simp (
+  c .count-in-word .ensures,
+  c .before .next-value .ensures,
+  c .before .before .place-in-word .ensures,
+  c .before .before .before .hex-digit .ensures,
+)
 
 pub in-word-spec : {M : Type 1} → statement M
 in-word-spec = tie.close (tie.spec hex-digit-requires place-in-word-requires next-value-requires count-in-word-requires returns)

@@ -20,7 +20,13 @@ place-if-requires-2 : tie.Need-place-if-requires-2
 place-if-requires-2 c κs = search needs
 
 returns-2 : tie.Need-returns-2
-returns-2 c = simp (c .place-if2 .ensures, c .before .is-whole .ensures, ne-eqb _ _ (c .before .before .before .if1 .left), eq-eqb _ _ (c .before .before .if2 .taken))
+returns-2 c = simp (
+  c .place-if2 .ensures,
+  c .before .is-whole .ensures,
+  ne-eqb _ _ (c .before .before .before .if1 .left),
+  eq-eqb _ _
+      (c .before .before .if2 .taken),
+)
 
 returns-3 : tie.Need-returns-3
 returns-3 c = simp (ne-eqb _ _ (c .before .if1 .left), ne-eqb _ _ (c .if2 .left))

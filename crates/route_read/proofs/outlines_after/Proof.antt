@@ -13,7 +13,8 @@ same-length : tie.Need-same-length
 same-length c = search needs
 
 returns : tie.Need-returns
-returns c = rw (← c .before .before .before .before .before .is-still .ensures, c .before .before .before .before .if1 .taken) (c .before .before .keep-length .ensures)
+returns c = rw (← c .before .before .before .before .before .is-still .ensures, c .before .before .before .before .if1 .taken)
+    (c .before .before .keep-length .ensures)
 
 returns-2 : tie.Need-returns-2
 returns-2 c = search needs

@@ -54,4 +54,5 @@ returns : tie.Need-returns Inv-loop μ-loop
 returns c = let l = c .before .loop in read-whole _ _ _ _ _ _ (l .inv .0) (c .loop-test .left) (l .inv .3)
 
 pub read-part-spec : {M : Type 1} → statement M
-read-part-spec = tie.close (tie.spec Inv-loop μ-loop loop-holds shared-slice-read-read-byte read-byte-requires add-i loop-less loop-again same-length same-length-2 returns)
+read-part-spec = tie.close (tie.spec Inv-loop μ-loop loop-holds shared-slice-read-read-byte read-byte-requires add-i loop-less loop-again same-length
+    same-length-2 returns)

@@ -14,7 +14,8 @@ same-length : tie.Need-same-length
 same-length c = search needs
 
 returns : tie.Need-returns
-returns c = rw (c .before .before .before .before .before .if1 .taken, ← c .before .before .before .before .from-bits .ensures) (c .before .before .keep-number .ensures)
+returns c = rw (c .before .before .before .before .before .if1 .taken, ← c .before .before .before .before .from-bits .ensures)
+    (c .before .before .keep-number .ensures)
 
 returns-2 : tie.Need-returns-2
 returns-2 c = rw (c .if1 .left) (refl, refl)

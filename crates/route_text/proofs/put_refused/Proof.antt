@@ -28,7 +28,8 @@ same-length : tie.Need-same-length
 same-length c = search needs
 
 returns : tie.Need-returns
-returns c = rw refused-is (put-then (omega arith) (c .before .before .before .before .before .before .before .before .put-pair .ensures) (c .before .before .put-pair2 .ensures))
+returns c = rw refused-is (put-then (omega arith) (c .before .before .before .before .before .before .before .before .put-pair .ensures)
+    (c .before .before .put-pair2 .ensures))
 
 pub put-refused-spec : {M : Type 1} → statement M
 put-refused-spec =

@@ -72,7 +72,8 @@ route-requires c κs = search needs
 returns : tie.Need-returns
 returns c =
     let l = c .before .before .before .before .before .before .before in
-    route-kept _ _ _ (l .before .before .before .before .least .ensures .0) (l .before .before .before .least2 .ensures .0) (l .before .before .least3 .ensures .0)
+    route-kept _ _ _ (l .before .before .before .before .least .ensures .0) (l .before .before .before .least2 .ensures .0)
+    (l .before .before .least3 .ensures .0)
     (l .before .least4 .ensures .0) (l .least5 .ensures .0)
     (c .before .before .before .before .before .before .whole-end .ensures .0) (c .before .before .before .before .before .point .ensures) (c .route .ensures)
 

@@ -38,7 +38,8 @@ returns-3 c =
     let z = c .before .before .before in
     let start = z .before .before .before .before .before .before in
     let fine = came-out (z .before .before .before .countable .ensures) (z .before .before .if2 .left) in
-    rw (fine, le-leb 42 (length (start .args .text .now)) (z .before .before .before .before .if1 .left), ← z .skipped-on .ensures) (c .before .before .put-run .ensures)
+    rw (fine, le-leb 42 (length (start .args .text .now)) (z .before .before .before .before .if1 .left), ← z .skipped-on .ensures)
+    (c .before .before .put-run .ensures)
 
 pub tell-last-run-spec : {M : Type 1} → statement M
 tell-last-run-spec =

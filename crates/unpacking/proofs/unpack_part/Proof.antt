@@ -64,14 +64,16 @@ part-put-block-end c =
 add-put-block : tie.Need-add-put-block Inv-loop μ-loop
 add-put-block c =
     let a = c .before .before .before .before .before .before .before .args in
-    let u = used-fits (length (a .part .now) / 512) (length (a .out .now) / 855) (length (a .err .now)) (a .before) (c .before .before .before .used-of .ensures) in
+    let u = used-fits (length (a .part .now) / 512) (length (a .out .now) / 855) (length (a .err .now)) (a .before)
+    (c .before .before .before .used-of .ensures) in
     let countable = u .countable (omega (arith, c .before .loop-test .taken)) in
     search needs
 
 add-put-block-2 : tie.Need-add-put-block-2 Inv-loop μ-loop
 add-put-block-2 c =
     let a = c .before .before .before .before .before .before .before .args in
-    let u = used-fits (length (a .part .now) / 512) (length (a .out .now) / 855) (length (a .err .now)) (a .before) (c .before .before .before .used-of .ensures) in
+    let u = used-fits (length (a .part .now) / 512) (length (a .out .now) / 855) (length (a .err .now)) (a .before)
+    (c .before .before .before .used-of .ensures) in
     let countable = u .countable (omega (arith, c .before .loop-test .taken)) in
     search needs
 

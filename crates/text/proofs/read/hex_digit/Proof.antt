@@ -21,11 +21,23 @@ sub-result-2 c = search needs
 
 returns-4 : tie.Need-returns-4
 returns-4 c =
-    simp (le-ltb _ _ (c .before .before .before .if1 .left), le-ltb _ _ (c .before .before .if2 .left), le-ltb _ _ (c .before .if3 .left), lt-ltb _ _ (c .if4 .taken))
+    simp (
+      le-ltb _ _ (c .before .before .before .if1 .left),
+      le-ltb _ _ (c .before .before .if2 .left),
+      le-ltb _ _ (c .before .if3 .left),
+      lt-ltb _ _
+          (c .if4 .taken),
+    )
 
 returns-5 : tie.Need-returns-5
 returns-5 c =
-    simp (le-ltb _ _ (c .before .before .before .if1 .left), le-ltb _ _ (c .before .before .if2 .left), le-ltb _ _ (c .before .if3 .left), le-ltb _ _ (c .if4 .left))
+    simp (
+      le-ltb _ _ (c .before .before .before .if1 .left),
+      le-ltb _ _ (c .before .before .if2 .left),
+      le-ltb _ _ (c .before .if3 .left),
+      le-ltb _ _
+          (c .if4 .left),
+    )
 
 pub hex-digit-spec : {M : Type 1} → statement M
 hex-digit-spec = tie.close (tie.spec returns sub-result returns-2 returns-3 sub-result-2 returns-4 returns-5)
