@@ -1,6 +1,6 @@
 // Reads jobs, one a line, from standard input and writes their blocks to standard output; a line that is no job is told on standard error, by its
 // number and 14. A read or a write that fails is told there too, and ends the run.
-use packing::Held;
+use pack_lines::Held;
 
 // So many bytes are read at a time: were each of them to end a line, there is room for all that they come to.
 const PART_SIZE: usize = 128;
@@ -12,7 +12,7 @@ struct Step {
 }
 
 fn pack_part(part: &[u8], held: Held, out: &mut [u8], err: &mut [u8]) -> Step {
-    let packed = packing::pack_part(part, held, out, err);
+    let packed = pack_lines::pack_part(part, held, out, err);
     let line = packed.held;
     let written = streams::write_both(out, packed.at, err, packed.told);
     Step {
@@ -23,7 +23,7 @@ fn pack_part(part: &[u8], held: Held, out: &mut [u8], err: &mut [u8]) -> Step {
 
 // The line without its newline that the input ends in, where it does.
 fn end(held: Held, err: &mut [u8]) {
-    let told = packing::tell_last(held, err);
+    let told = pack_lines::tell_last(held, err);
     streams::write_to_error(err, told);
 }
 
@@ -58,7 +58,7 @@ fn main() {
     }
     let mut out = io::large_buffer();
     let mut err = io::large_buffer();
-    let mut held = packing::no_line();
+    let mut held = pack_lines::no_line();
     for turn in 0..u64::MAX {
         let step = next_part(held, &mut out, &mut err);
         let line = step.held;

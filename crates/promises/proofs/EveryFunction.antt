@@ -45,8 +45,8 @@ use Rattle.any_contact_search.proofs as any_contact_search
 use Rattle.forms.proofs as forms
 use Rattle.salvaging.proofs as salvaging
 use Rattle.job_text.proofs as job_text
-use Rattle.packing.proofs as packing
-use Rattle.unpacking.proofs as unpacking
+use Rattle.pack_lines.proofs as pack_lines
+use Rattle.unpack_blocks.proofs as unpack_blocks
 use Rattle.report_counts.proofs as report_counts
 use Rattle.report_lines.proofs as report_lines
 use Rattle.report_batches.proofs as report_batches
@@ -63,8 +63,8 @@ use Rattle.sheet_lines64.specs.declared.part.Written.{Written as Written64}
 use Rattle.forms.specs.declared.Converted.{Converted}
 use Rattle.salvaging.specs.declared.Salvaged.{Salvaged}
 use Rattle.job_text.specs.declared.job.Built.{Built}
-use Rattle.packing.specs.declared.Packed.{Packed}
-use Rattle.unpacking.specs.declared.Unpacked.{Unpacked}
+use Rattle.pack_lines.specs.declared.Packed.{Packed}
+use Rattle.unpack_blocks.specs.declared.Unpacked.{Unpacked}
 
 -- `ToiProxy`, where a contract tells its parts
 toi-proxy-by-parts : {x y : ToiProxy} → x .points ≡ y .points → x .radius ≡ y .radius → x ≡ y
@@ -1255,41 +1255,41 @@ module _ {M : Type 1} (𝓤 : URA M) (H : Heap 𝓤) (A : Atoms 𝓤) (mem : Mem
     once = λ κs a g r r' v v'. told 𝓤 (λ p q. (search same-value, refl));
   }
 
-  -- ---- packing
-  pub packing-no-line : OneResult 𝓤 H A packing.no_line.ended (packing.no_line.spec 𝓤 H A mem run)
-  packing-no-line = record {
-    clauses = packing.no_line.clauses 𝓤 H A mem run;
+  -- ---- pack_lines
+  pub pack-lines-no-line : OneResult 𝓤 H A pack_lines.no_line.ended (pack_lines.no_line.spec 𝓤 H A mem run)
+  pack-lines-no-line = record {
+    clauses = pack_lines.no_line.clauses 𝓤 H A mem run;
     of-contract = refl;
     once = λ κs a g r r' v v'. told 𝓤 (λ p q. (search same-value, refl));
   }
 
-  pub packing-pack-part : OneResult 𝓤 H A packing.pack_part.ended (packing.pack_part.spec 𝓤 H A mem run)
-  packing-pack-part = record {
-    clauses = packing.pack_part.clauses 𝓤 H A mem run;
+  pub pack-lines-pack-part : OneResult 𝓤 H A pack_lines.pack_part.ended (pack_lines.pack_part.spec 𝓤 H A mem run)
+  pack-lines-pack-part = record {
+    clauses = pack_lines.pack_part.clauses 𝓤 H A mem run;
     of-contract = refl;
-    once = λ κs a g r r' v v'. told-in-two 𝓤 (λ p q. (search (same-value, packed-by-parts), each-list packing.pack_part.ended κs a v v' (search same-value depth 12)));
+    once = λ κs a g r r' v v'. told-in-two 𝓤 (λ p q. (search (same-value, packed-by-parts), each-list pack_lines.pack_part.ended κs a v v' (search same-value depth 12)));
   }
 
-  pub packing-tell-last : OneResult 𝓤 H A packing.tell_last.ended (packing.tell_last.spec 𝓤 H A mem run)
-  packing-tell-last = record {
-    clauses = packing.tell_last.clauses 𝓤 H A mem run;
+  pub pack-lines-tell-last : OneResult 𝓤 H A pack_lines.tell_last.ended (pack_lines.tell_last.spec 𝓤 H A mem run)
+  pack-lines-tell-last = record {
+    clauses = pack_lines.tell_last.clauses 𝓤 H A mem run;
     of-contract = refl;
-    once = λ κs a g r r' v v'. told 𝓤 (λ p q. (search same-value, each-list packing.tell_last.ended κs a v v' (search same-value depth 12)));
+    once = λ κs a g r r' v v'. told 𝓤 (λ p q. (search same-value, each-list pack_lines.tell_last.ended κs a v v' (search same-value depth 12)));
   }
 
-  -- ---- unpacking
-  pub unpacking-tell-rest : OneResult 𝓤 H A unpacking.tell_rest.ended (unpacking.tell_rest.spec 𝓤 H A mem run)
-  unpacking-tell-rest = record {
-    clauses = unpacking.tell_rest.clauses 𝓤 H A mem run;
+  -- ---- unpack_blocks
+  pub unpack-blocks-tell-rest : OneResult 𝓤 H A unpack_blocks.tell_rest.ended (unpack_blocks.tell_rest.spec 𝓤 H A mem run)
+  unpack-blocks-tell-rest = record {
+    clauses = unpack_blocks.tell_rest.clauses 𝓤 H A mem run;
     of-contract = refl;
-    once = λ κs a g r r' v v'. told 𝓤 (λ p q. (search same-value, each-list unpacking.tell_rest.ended κs a v v' (search same-value depth 12)));
+    once = λ κs a g r r' v v'. told 𝓤 (λ p q. (search same-value, each-list unpack_blocks.tell_rest.ended κs a v v' (search same-value depth 12)));
   }
 
-  pub unpacking-unpack-part : OneResult 𝓤 H A unpacking.unpack_part.ended (unpacking.unpack_part.spec 𝓤 H A mem run)
-  unpacking-unpack-part = record {
-    clauses = unpacking.unpack_part.clauses 𝓤 H A mem run;
+  pub unpack-blocks-unpack-part : OneResult 𝓤 H A unpack_blocks.unpack_part.ended (unpack_blocks.unpack_part.spec 𝓤 H A mem run)
+  unpack-blocks-unpack-part = record {
+    clauses = unpack_blocks.unpack_part.clauses 𝓤 H A mem run;
     of-contract = refl;
-    once = λ κs a g r r' v v'. told-in-two 𝓤 (λ p q. (search (same-value, unpacked-by-parts), each-list unpacking.unpack_part.ended κs a v v' (search same-value depth 12)));
+    once = λ κs a g r r' v v'. told-in-two 𝓤 (λ p q. (search (same-value, unpacked-by-parts), each-list unpack_blocks.unpack_part.ended κs a v v' (search same-value depth 12)));
   }
 
   -- ---- report_counts

@@ -12,7 +12,7 @@ struct Step {
 
 // The rest of fewer bytes than a block that the input ends in, where it does.
 fn end(rest: usize, blocks: u64, err: &mut [u8]) {
-    let told = unpacking::tell_rest(rest, blocks, err);
+    let told = unpack_blocks::tell_rest(rest, blocks, err);
     streams::write_to_error(err, told);
 }
 
@@ -26,7 +26,7 @@ fn next_part(before: u64, out: &mut [u8], err: &mut [u8]) -> Step {
             blocks: before,
         };
     }
-    let unpacked = unpacking::unpack_part(&buffer[..n], before, out, err);
+    let unpacked = unpack_blocks::unpack_part(&buffer[..n], before, out, err);
     let blocks = unpacked.blocks;
     if !streams::write_both(out, unpacked.at, err, unpacked.told) {
         return Step {
