@@ -29,10 +29,7 @@ use Rattle.model.proofs.Repeats.{FixedCall, calls-repeat, call-corners-stay}
 use Rattle.separation.specs.ByPoses.{newSeparationBy}
 use Rattle.separation.proofs.Laws.{Keeps, moves-are-kept, new-at}
 use Rattle.sweep_toi.specs.declared.moment.Moment.{Moment}
-use Rattle.sweep_toi.specs.declared.push_back.PushKind.{PushKind}
-use Rattle.sweep_toi.specs.declared.push_back.PushKind.the-variants.{Separated, Failed, Hit, Landed, Held}
-use Rattle.sweep_toi.specs.declared.push_back.Pushed.{Pushed}
-use Rattle.sweep_toi.specs.Rounds.{momentAt, closestIn, pushBy, isOver, isHeld, endBy}
+use Rattle.sweep_toi.specs.Rounds.{momentAt, closestIn, PushKind, Separated, Failed, Hit, Landed, Held, Pushed, pushBy, isOver, isHeld, endBy}
 use Rattle.sweep_toi.proofs.Rounds.{clash, closest-in, toldAs, PushedAs, push-is, Grown, round-grows}
 use Rattle.sweep_toi.proofs.Steps.{both-true}
 
