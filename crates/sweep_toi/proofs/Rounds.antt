@@ -30,7 +30,7 @@ use Rattle.separation.proofs.Laws.{evaluate-at, search-at}
 use Rattle.sweep_toi.specs.declared.moment.Moment.{Moment}
 use Rattle.sweep_toi.specs.declared.bracket.Bracket.{Bracket}
 use Rattle.sweep_toi.specs.Rounds.{momentAt, closestIn, narrowed, between-them, Root, root, rootBy}
-use Rattle.sweep_toi.specs.Rounds.{PushKind, Separated, Failed, Hit, Landed, Held, Pushed, pushed, pushBy, isHeld}
+use Rattle.sweep_toi.specs.Rounds.{PushKind, Separated, Failed, Hit, Landed, Held, Pushed, pushed, pushBy}
 
 pub closest-in : (f : Format) (w : SweepTask) (a b : List Float) (t : Float) (c : SimplexCache) →
     closestIn f w a b (momentAt f w t) c ≡ closestAt f w a b t c
@@ -92,6 +92,13 @@ toldAs f w t1 x Failed m n = ended (failed f t1 n)
 toldAs f w t1 x Hit m n = ended (hit t1 x n)
 toldAs f w t1 x Landed m n = moved (m .t) n
 toldAs f w t1 x Held m n = moved t1 n
+
+abbrev isHeld : PushKind → Bool
+isHeld Separated = false
+isHeld Failed = false
+isHeld Hit = false
+isHeld Landed = false
+isHeld Held = true
 
 pub record PushedAs (f : Format) (w : SweepTask) (t1 : Float) (x : Closest) (p : Pushed) (e : PushEnd) (made : List Corners) : Type 0 where
   pub same : e ≡ toldAs f w t1 x (p .kind) (p .at) (p .counts)

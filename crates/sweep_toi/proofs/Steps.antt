@@ -1,6 +1,6 @@
 -- What a root step and a push-back meet: what is left at the head of each gives the whole; here is one law for each way that it goes on.
 -- Assumes nothing.
-use Prim.Native.Nat.{ℕ, zero, suc, _+_, _-_, _<_, _≤_}
+use Prim.Native.Nat.{ℕ, zero, suc, _+_, _*_, _-_, _<_, _≤_}
 use native.Mathlib.Omega.{arith}
 use mathlib.Core.Bool.{Bool, true, false, _&&_, _||_, cond}
 use mathlib.Core.List.{List, [], _∷_}
@@ -123,6 +123,11 @@ neither false t h = h
 -- a push-back follows only where one is left
 pub one-more : (s : Bool) (k : ℕ) → (s || eqb k 0) ≡ false → 1 ≤ k
 one-more s k h = let d = eqb-false k 0 (neither s (eqb k 0) h) in omega (arith, d)
+
+-- the counts have room for the push-backs that are left after a root search of k steps
+pub room-left : (n : Counts) (l k : ℕ) {o p : Counts} → o ≡ searched n → p ≡ stepped o k → k ≤ 50 → 1 ≤ l → n .searches + l ≤ 160 → n .«root_steps» + 50 * l ≤ 8000 →
+    (p .searches + (l - 1) ≤ 160) × (p .«root_steps» + 50 * (l - 1) ≤ 8000)
+room-left n l k eo ep few some searches steps = rw (ep, eo) (omega (arith, some, searches), omega (arith, few, some, steps))
 
 no-more : (o : Counts) (k : ℕ) (d : Counts) → k ≡ 0 → o ≡ further o k d
 no-more o k d z = rw z (same-counts (omega arith) (omega arith) (omega arith))

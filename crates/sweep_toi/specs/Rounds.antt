@@ -1,7 +1,7 @@
 -- The rounds of a sweep as the code does them: each pose and each point worked out once.
 -- proofs/Rounds.antt shows that they are those of `model`.
 use Prim.Native.Nat.{ℕ, zero, suc, _+_}
-use mathlib.Core.Bool.{Bool, true, false, cond}
+use mathlib.Core.Bool.{false, cond}
 use mathlib.Core.List.{List}
 use lib.Dec.{eqb}
 use lib.Ieee.{Float, Format, sub, lt, le}
@@ -12,12 +12,11 @@ use Rattle.model.specs.declared.SweepTask.{SweepTask}
 use Rattle.model.specs.declared.Closest.{Closest}
 use Rattle.model.specs.declared.Counts.{Counts}
 use Rattle.model.specs.declared.Corners.{Corners}
-use Rattle.model.specs.declared.Swept.{Swept}
 use Rattle.model.specs.Ground.{abs, inverseTimes}
 use Rattle.model.specs.Distance.{measure}
 use Rattle.model.specs.Sweep.{transformAt}
-use Rattle.model.specs.SweepToi.{maxRootIterations, counts, searched, stepped, hit, separated, failed, failedAt, sweepPair, closestBy, tried, low, high}
-use Rattle.model.specs.Corners.{noSearch, swept}
+use Rattle.model.specs.SweepToi.{maxRootIterations, searched, stepped, sweepPair, closestBy, tried, low, high}
+use Rattle.model.specs.Corners.{noSearch}
 use Rattle.separation.specs.ByPoses.{searchBy, endA, endB, between}
 use Rattle.sweep_toi.specs.declared.moment.Moment.{Moment}
 use Rattle.sweep_toi.specs.declared.bracket.Bracket.{Bracket}
@@ -93,26 +92,3 @@ module _ (f : Format) (task : SweepTask) (a b : List Float) (g : SeparationFunct
       (cond (lt s1 (low f task)) (pushed Failed m1 (searched n) (x .corners))
       (cond (le s1 (high f task)) (pushed Hit m1 (searched n) (x .corners))
       (cond (eqb k 0) (pushed Held m1 o (x .corners)) (pushBy k (r .at) o)))))
-
--- ---- how a round ends
-abbrev pub isOver : PushKind → Bool
-isOver Separated = true
-isOver Failed = true
-isOver Hit = true
-isOver Landed = false
-isOver Held = false
-
-abbrev pub isHeld : PushKind → Bool
-isHeld Separated = false
-isHeld Failed = false
-isHeld Hit = false
-isHeld Landed = false
-isHeld Held = true
-
--- the answer where it is over, or no call is left
-abbrev pub endBy : Format → SweepTask → Float → Closest → PushKind → Moment → Counts → Corners → Swept
-endBy f task t1 x Separated m n c = swept (separated f (task .«t_max») n) c
-endBy f task t1 x Failed m n c = swept (failed f t1 n) c
-endBy f task t1 x Hit m n c = swept (hit t1 x n) c
-endBy f task t1 x Landed m n c = swept (failedAt (m .t) x n) c
-endBy f task t1 x Held m n c = swept (failedAt (m .t) x n) c
