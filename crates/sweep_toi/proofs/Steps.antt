@@ -125,7 +125,8 @@ pub one-more : (s : Bool) (k : ℕ) → (s || eqb k 0) ≡ false → 1 ≤ k
 one-more s k h = let d = eqb-false k 0 (neither s (eqb k 0) h) in omega (arith, d)
 
 -- the counts have room for the push-backs that are left after a root search of k steps
-pub room-left : (n : Counts) (l k : ℕ) {o p : Counts} → o ≡ searched n → p ≡ stepped o k → k ≤ 50 → 1 ≤ l → n .searches + l ≤ 160 → n .«root_steps» + 50 * l ≤ 8000 →
+pub room-left : (n : Counts) (l k : ℕ) {o p : Counts} → o ≡ searched n → p ≡ stepped o k → k ≤ 50 → 1 ≤ l →
+    n .searches + l ≤ 160 → n .«root_steps» + 50 * l ≤ 8000 →
     (p .searches + (l - 1) ≤ 160) × (p .«root_steps» + 50 * (l - 1) ≤ 8000)
 room-left n l k eo ep few some searches steps = rw (ep, eo) (omega (arith, some, searches), omega (arith, few, some, steps))
 
