@@ -57,7 +57,7 @@ struct Reached {
     corners: Corners,
 }
 
-// What the push-backs carry: the end of the interval, the counts so far, and how many may follow with this one.
+// What the push-backs carry: the end of the interval, the counts so far, and how many are left with this one.
 struct Push {
     m2: Moment,
     counts: Counts,
@@ -263,6 +263,7 @@ pub fn advance(task: SweepTask, points_a: &[f32], points_b: &[f32]) -> Swept
                 at_high: s2,
                 steps: 0,
             };
+            // the new t2: where a step lands within the tolerance; where none does, t2 as it was
             let m2 = loop {
                 let m = at_time(task, tried(task, bracket));
                 let s = evaluate(fcn, a, b, m.xf_a, m.xf_b);
