@@ -18,7 +18,7 @@ use Rattle.model.specs.declared.Swept.{Swept}
 use Rattle.model.specs.Ground as Ground
 use Rattle.model.specs.Sweep.{transformAt}
 use Rattle.model.specs.Separation.{function, newSeparation}
-use Rattle.model.specs.SweepToi.{called, overlapped, hit, separated, failed, failedAt, PushEnd, moved, onward}
+use Rattle.model.specs.SweepToi.{called, overlapped, hit, separated, failed, failedAt, PushEnd, onward}
 use Rattle.model.specs.Corners.{noSearch, lastOf, afterwards, pushSearches, searchesBy, searchesFrom, swept, advanced}
 use Rattle.model.specs.SweepToi.{noCorners, noCounts, closestAt, high, pushFrom, advanceBy, advanceFrom}
 use Rattle.model.specs.Repeats.{since, further}

@@ -21,7 +21,7 @@ use Rattle.model.specs.Repeats.{further}
 use Rattle.separation.specs.ByPoses.{searchBy, endA, endB, between}
 use Rattle.sweep_toi.specs.declared.moment.Moment.{Moment}
 use Rattle.sweep_toi.specs.declared.bracket.Bracket.{Bracket}
-use Rattle.sweep_toi.specs.Rounds.{momentAt, narrowed, between-them, Root, root, rootBy}
+use Rattle.sweep_toi.specs.Rounds.{momentAt, narrowed, bracket, Root, root, rootBy}
 use Rattle.sweep_toi.specs.Rounds.{Separated, Failed, Hit, Landed, Held, Pushed, pushed, pushBy}
 use Rattle.sweep_toi.proofs.Rounds.{clash, same-counts}
 
@@ -72,7 +72,7 @@ pub record Turned (f : Format) (w : SweepTask) (a b : List Float) (g : Separatio
 module _ {f : Format} {w : SweepTask} {a b : List Float} {g : SeparationFunction} {m1 m2 : Moment} {n : Counts} {l k : ℕ} {whole : Pushed}
     {x : Search} {o : Counts} (made : Turned f w a b g m1 m2 n l k whole x o) where
   abbrev started : Vector → Vector → Float → Root
-  started u v s1 = rootBy f w g u v m2 50 (between-them (m1 .t) (m2 .t) s1 (x .least .separation))
+  started u v s1 = rootBy f w g u v m2 50 (bracket (m1 .t) (m2 .t) s1 (x .least .separation))
 
   module _ (u v : Vector) (s1 : Float) (r : Root) (eu : u ≡ endA f a g (g .ty) (x .least .«index_a»)) (ev : v ≡ endB f b g (g .ty) (x .least .«index_b»))
       (es : s1 ≡ between f u v (g .axis) (m1 .«xf_a») (m1 .«xf_b») (g .ty)) (er : r ≡ started u v s1) where
@@ -114,7 +114,7 @@ pub record Searching (f : Format) (w : SweepTask) (a b : List Float) (g : Separa
   pub value : s1 ≡ between f u v (g .axis) (m1 .«xf_a») (m1 .«xf_b») (g .ty)
   pub over : lt s1 (low f w) ≡ false
   pub above : le s1 (high f w) ≡ false
-  pub root : r ≡ rootBy f w g u v m2 50 (between-them (m1 .t) (m2 .t) s1 (x .least .separation))
+  pub root : r ≡ rootBy f w g u v m2 50 (bracket (m1 .t) (m2 .t) s1 (x .least .separation))
 
 neither : (s t : Bool) → (s || t) ≡ false → t ≡ false
 neither true t h = absurd (clash (sym h))

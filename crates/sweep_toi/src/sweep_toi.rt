@@ -36,7 +36,6 @@ use separation::evaluate;
 use separation::find_min_separation;
 use separation::new_separation;
 use separation::shifted;
-ghost use Prim.Native.Nat.{_<_, _≤_, _+_};
 ghost use mathlib.Core.Path.{_≡_};
 ghost use mathlib.Core.Bool.{true};
 ghost use lib.Ieee.{binary32};

@@ -19,7 +19,7 @@ use Rattle.model64.specs.Ground as Ground
 use Rattle.model64.specs.Sweep.{transformAt}
 use Rattle.model64.specs.Separation.{function, newSeparation}
 use Rattle.model.specs.SweepToi.{called}
-use Rattle.model64.specs.SweepToi.{overlapped, hit, separated, failed, failedAt, PushEnd, moved, onward}
+use Rattle.model64.specs.SweepToi.{overlapped, hit, separated, failed, failedAt, PushEnd, onward}
 use Rattle.model.specs.Corners.{lastOf}
 use Rattle.model64.specs.Corners.{noSearch, afterwards, pushSearches, searchesBy, searchesFrom, swept, advanced}
 use Rattle.model.specs.SweepToi.{noCorners, noCounts}

@@ -31,7 +31,7 @@ use Rattle.separation64.specs.ByPoses.{searchBy, endA, endB, between}
 use Rattle.separation64.proofs.Laws.{evaluate-at, search-at}
 use Rattle.sweep_toi64.specs.declared.moment.Moment.{Moment}
 use Rattle.sweep_toi64.specs.declared.bracket.Bracket.{Bracket}
-use Rattle.sweep_toi64.specs.Rounds.{momentAt, closestIn, narrowed, between-them, Root, root, rootBy}
+use Rattle.sweep_toi64.specs.Rounds.{momentAt, closestIn, narrowed, bracket, Root, root, rootBy}
 use Rattle.sweep_toi64.specs.Rounds.{PushKind, Separated, Failed, Hit, Landed, Held, Pushed, pushed, pushBy}
 
 pub closest-in : (f : Format) (w : SweepTask) (a b : List Float) (t : Float) (c : SimplexCache) →
@@ -222,7 +222,7 @@ module _ (f : Format) (w : SweepTask) (a b : List Float) (l z : Vector) (ty : Se
       s1 = between f (endA f a along ty (m .«index_a»)) (endB f b along ty (m .«index_b»)) z (m1 .«xf_a») (m1 .«xf_b») ty
 
       start : Bracket
-      start = between-them t1 t2 s1 (m .separation)
+      start = bracket t1 t2 s1 (m .separation)
 
       rt : Root
       rt = rootBy f w along (endA f a along ty (m .«index_a»)) (endB f b along ty (m .«index_b»)) m2 50 start
@@ -315,7 +315,7 @@ module _ (f : Format) (w : SweepTask) (a b : List Float) (g : SeparationFunction
       s1 = between f u v (g .axis) (m1 .«xf_a») (m1 .«xf_b») (g .ty)
 
       start : Bracket
-      start = between-them (m1 .t) (m2 .t) s1 (x .least .separation)
+      start = bracket (m1 .t) (m2 .t) s1 (x .least .separation)
 
       r : Root
       r = rootBy f w g u v m2 50 start

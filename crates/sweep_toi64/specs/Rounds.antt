@@ -45,8 +45,8 @@ narrowed task x t s =
     }
 
 -- from the times t1 and t2, with the separations s1 and s2
-abbrev pub between-them : Float → Float → Float → Float → Bracket
-between-them t1 t2 s1 s2 = record { low = t1; high = t2; «at_low» = s1; «at_high» = s2; steps = 0 }
+abbrev pub bracket : Float → Float → Float → Float → Bracket
+bracket t1 t2 s1 s2 = record { low = t1; high = t2; «at_low» = s1; «at_high» = s2; steps = 0 }
 
 -- where a search ends, after how many steps
 pub record Root : Type 0 where
@@ -87,7 +87,7 @@ module _ (f : Format) (task : SweepTask) (a b : List Float) (g : SeparationFunct
       let u = endA f a g (g .ty) (x .least .«index_a») in
       let v = endB f b g (g .ty) (x .least .«index_b») in
       let s1 = between f u v (g .axis) (m1 .«xf_a») (m1 .«xf_b») (g .ty) in
-      let r = rootBy f task g u v m2 maxRootIterations (between-them (m1 .t) (m2 .t) s1 (x .least .separation)) in
+      let r = rootBy f task g u v m2 maxRootIterations (bracket (m1 .t) (m2 .t) s1 (x .least .separation)) in
       let o = stepped (searched n) (r .steps) in
       cond (lt (task .tolerance) (sub f (x .least .separation) (task .target))) (pushed Separated m1 (searched n) (x .corners))
       (cond (le (low f task) (x .least .separation)) (pushed Landed m2 (searched n) (x .corners))

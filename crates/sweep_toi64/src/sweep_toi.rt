@@ -36,7 +36,6 @@ use separation64::evaluate;
 use separation64::find_min_separation;
 use separation64::new_separation;
 use separation64::shifted;
-ghost use Prim.Native.Nat.{_<_, _≤_, _+_};
 ghost use mathlib.Core.Path.{_≡_};
 ghost use mathlib.Core.Bool.{true};
 ghost use lib.Ieee.{binary64};

@@ -9,7 +9,7 @@ use lib.Ieee.{Float, binary64}
 use Rattle.model64.specs.declared.SweepTask.{SweepTask}
 use Rattle.model64.specs.Corners.{advanced}
 use Rattle.sweep_toi64.specs.declared.moment.Moment.{Moment}
-use Rattle.sweep_toi64.specs.Rounds.{momentAt, between-them, Root, root, rootBy, Held, Pushed, pushed, pushBy}
+use Rattle.sweep_toi64.specs.Rounds.{momentAt, bracket, Root, root, rootBy, Held, Pushed, pushed, pushBy}
 use Rattle.sweep_toi64.proofs.Steps.{Stepped, steps-counted, root-lands, root-goes-on, root-runs-out}
 use Rattle.sweep_toi64.proofs.Steps.{Turned, room-left, push-separates, push-lands, push-fails, push-hits, Searching, one-more, push-goes-on, push-holds}
 use Rattle.sweep_toi64.proofs.Laws.{calling, at-the-start, Called, call-overlaps, call-hits, at-moment, same-moment, closest-there, told-as, grown-so}
@@ -170,7 +170,7 @@ rooted c =
     let d = call-of n in
     rootBy binary64 (task d) (n .new-separation .result)
     (c .before .before .before .before .end-a .result) (c .before .before .before .end-b .result) (m2 s) 50
-    (between-them (m1 d .t) (m2 s .t) (c .before .before .evaluate .result) (s .before .before .find-min-separation .result .least .separation))
+    (bracket (m1 d .t) (m2 s .t) (c .before .before .evaluate .result) (s .before .before .find-min-separation .result .least .separation))
 
 searching : (c : Search) (r : Root) → r ≡ rooted c →
     let s = push-of c in
