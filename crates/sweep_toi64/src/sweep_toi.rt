@@ -263,7 +263,7 @@ pub fn advance(task: SweepTask, points_a: &[f64], points_b: &[f64]) -> Swept
                 steps: 0,
             };
             // the new t2: where a step lands within the tolerance; where none does, t2 as it was
-            let m2 = loop {
+            let next = loop {
                 let m = at_time(task, tried(task, bracket));
                 let s = evaluate(fcn, a, b, m.xf_a, m.xf_b);
                 bracket = narrowed(task, bracket, m.t, s);
@@ -276,7 +276,7 @@ pub fn advance(task: SweepTask, points_a: &[f64], points_b: &[f64]) -> Swept
             };
             let counts = stepped(counts, bracket.steps);
             let left = push.left - 1;
-            if same_time(m2.t, push.m2.t) | (left == 0) {
+            if same_time(next.t, m2.t) | (left == 0) {
                 break 'push_back Round {
                     at: m1,
                     counts: pushed_on(counts, left, bracket.steps),
@@ -284,7 +284,11 @@ pub fn advance(task: SweepTask, points_a: &[f64], points_b: &[f64]) -> Swept
                     held: true,
                 };
             }
-            push = Push { m2, counts, left };
+            push = Push {
+                m2: next,
+                counts,
+                left,
+            };
         };
         let at = round.at;
         let counts = round.counts;

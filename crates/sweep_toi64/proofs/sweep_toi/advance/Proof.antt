@@ -212,14 +212,14 @@ step c =
     }
 
 -- ---- where the root search is left: it yields its end, a moment of the sweep, after at most fifty steps
-yields : (c : Yielded) → root (c .if7 .m2) (c .before .before .narrowed .result .steps) ≡ rooted (search-of (c .before))
+yields : (c : Yielded) → root (c .if7 .next) (c .before .before .narrowed .result .steps) ≡ rooted (search-of (c .before))
 yields c =
     ⊎-elim
     (λ w. rw (w .1) (root-lands (step (c .before)) (w .0 .taken)))
     (λ w. rw (w .3) (root-runs-out (step (c .before)) (w .0 .left) (w .2 .taken)))
     (c .if7 .came)
 
-there : (c : Yielded) → c .if7 .m2 ≡ momentAt binary64 (task (call-of (axis-of (around (c .before))))) (c .if7 .m2 .t)
+there : (c : Yielded) → c .if7 .next ≡ momentAt binary64 (task (call-of (axis-of (around (c .before))))) (c .if7 .next .t)
 there c =
     let m = c .before .before .before .before .at-time3 in
     ⊎-elim
@@ -249,7 +249,7 @@ holds c =
     let t = c .before .before in
     let j = t .before .before .before in
     let s = around (j .before) in
-    let again = same-moment binary64 (task (call-of (axis-of s))) (j .if7 .m2) (m2 s) (there j) (push-back-of s .push-back .inv .4) in
+    let again = same-moment binary64 (task (call-of (axis-of s))) (j .if7 .next) (m2 s) (there j) (push-back-of s .push-back .inv .4) in
     rw (c .pushed-on .ensures, t .before .before .stepped .ensures)
     (push-holds (searching (search-of (j .before)) _ (yields j)) (turned s) (t .same-time .result) (λ e. again (t .same-time .ensures e))
     (c .before .if9 .taken))
