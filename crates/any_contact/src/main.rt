@@ -1,5 +1,5 @@
 // Prints the number of the first block of the batch on standard input whose status is H or O, or `none`. It reads in parts of 64 KiB, none behind
-// the one that decides. A read that fails is told on standard error, and then neither is printed.
+// the one that decides. A read that fails is told on standard error, and then neither is printed; so is that no whole block came, behind `none`.
 
 // Whether the search goes on, and how many blocks it has passed.
 struct Step {
@@ -18,6 +18,9 @@ fn search_part(part: &[u8], before: u64) -> Step {
     let searched = contacts::search_part(part, before);
     if searched.over {
         tell(searched.found);
+        if searched.blocks == 0 {
+            input::write_to_error(b"standard input: no block came\n", 30);
+        }
     }
     Step {
         more: !searched.over,
