@@ -332,10 +332,10 @@ fn table(rows: &[Row], titles: &[Title], out: &mut String) {
             }
         };
         let class = if row.look.warns() { " class=\"red\"" } else { "" };
-        let name = if named { format!("<td>{}</td>", titles[i].name) } else { String::new() };
+        let name = if named { format!("<td class=\"words\">{}</td>", titles[i].name) } else { String::new() };
         let _ = writeln!(
             out,
-            "<tr{class}><td>{0}</td><td><a href=\"#block{0}\">{1}</a></td>{name}<td>{2}</td><td>{3}</td><td>{least}</td><td>{clearance}</td></tr>",
+            "<tr{class}><td>{0}</td><td><a href=\"#block{0}\">{1}</a></td>{name}<td>{2}</td><td class=\"words\">{3}</td><td>{least}</td><td>{clearance}</td></tr>",
             i + 1,
             row.answer.job,
             letter(&row.answer),
@@ -593,8 +593,11 @@ impl Worked<'_> {
 
     fn facts(&self, moments: &Moments, places: usize, gap_places: usize, out: &mut String) {
         let (job, verdict, sampled) = (self.job, self.verdict, self.sampled);
+        // what a printed card has no room for
+        let more = ["point", "normal", "last search", "work", "rounded"];
         let mut row = |name: &str, said: String| {
-            let _ = writeln!(out, "<tr><th>{name}</th><td>{said}</td></tr>");
+            let class = if more.contains(&name) { " class=\"more\"" } else { "" };
+            let _ = writeln!(out, "<tr{class}><th>{name}</th><td>{said}</td></tr>");
         };
         let pair = |[x, y]: [f32; 2]| format!("x {} y {}", rounded(f64::from(x), places), rounded(f64::from(y), places));
         let angle = |body: usize, t: f32| degrees(job, body, t).map_or("no number".to_string(), |angle| format!("{}°", rounded(angle, 1)));
@@ -661,9 +664,6 @@ impl Worked<'_> {
         }
         if let Some((k, gap)) = self.row.before {
             row("before the hit", format!("least sampled gap {}", told(gap, k)));
-        }
-        if !self.unit.is_empty() {
-            row("unit", escaped(self.unit));
         }
         if (places, gap_places) != (2, 4) {
             row("rounded", format!("coordinates to {places} places, gaps to {gap_places}"));
