@@ -50,7 +50,7 @@ fn every_status_is_said_plainly() {
     assert!(overlap.contains("Touching or overlapping where the search stood."));
     // a half turn cannot be typed: 179.9999999 degrees is one in 32 bits
     let gave_up = card(&format!("a plate: 5 5\n{WALL}a turned: 0 179.9999999\n"));
-    assert!(gave_up.contains("No verdict: treat as not cleared. The search gave up, and stood at "), "{gave_up}");
+    assert!(gave_up.contains("No verdict: treat as not cleared. The search gave up where it stood, at "), "{gave_up}");
     assert!(gave_up.contains("<tr><th>search stood at</th><td>"), "{gave_up}");
     assert!(gave_up.contains("A makes a half turn, which has no direction and no pose halfway: cut it into steps"));
     let turning = card(&format!("a plate: 5 5\n{WALL}a turned: 10 20\n"));
@@ -177,7 +177,7 @@ fn s_that_turns_needs_a_look() {
     assert!(page.contains("<b>1 S of a move that turns, which S does not clear: look at its gap:</b> <a href=\"#block2\">2</a>"));
     assert!(page.contains("<td>S</td><td class=\"words\">S, but it turns by 90.0°: look</td>") && page.contains("<td>S</td><td class=\"words\">S, and nothing turns</td>"));
     let words = page.to_lowercase();
-    for untrue in ["clear by the search", "safe up to", "last safe"] {
+    for untrue in ["clear by the search", "is clear", "safe"] {
         assert!(!words.contains(untrue), "{untrue}");
     }
 }
@@ -219,7 +219,7 @@ fn f_is_red_where_samples_touch() {
     let red = "<p class=\"red\">the search gave up at 0.59, and at 0.34 of the move the outlines touch or overlap: do not clear</p>";
     assert!(page.contains(red), "{page}");
     assert!(page.contains("class=\"card warned\"") && page.contains("<td class=\"words\">no verdict, and sampled contact: do not clear</td>"));
-    assert!(page.contains("The search gave up, and stood at 0.5868 of the move; that is no safe part of it."));
+    assert!(page.contains("The search gave up where it stood, at 0.5868 of the move; they may overlap before that."));
 }
 
 #[test]

@@ -187,19 +187,6 @@ fn name_of_old(name: &[u8], old: &mut [u8]) -> usize
     text::put_text(old, at, b".old")
 }
 
-// Whether a name is taken, by a link too: only what is not there has no text to read and is not found.
-fn is_taken(name: &[u8]) -> bool {
-    if name.len() >= PATH_MAX {
-        return true;
-    }
-    let path = ended(name);
-    let mut text = [0u8; 1];
-    if libc::readlink(&path, &mut text) >= 0 {
-        return true;
-    }
-    os::errno() != libc::ENOENT
-}
-
 // Whether the file has bytes; also where that cannot be seen, so that they are kept.
 fn has_bytes(name: &[u8]) -> bool {
     let fd = os::open_update(name);
@@ -224,15 +211,35 @@ fn tell_taken(name: &[u8], old: &[u8]) {
     tell(old, b" is there already: nothing is replaced\n");
 }
 
+// Whether nothing, be it a link to nothing, has the name old; else that is told.
+fn is_free(name: &[u8], old: &[u8]) -> bool {
+    if old.len() >= PATH_MAX {
+        tell(old, b": File name too long\n");
+        return false;
+    }
+    let path = ended(old);
+    let mut text = [0u8; 1];
+    if libc::readlink(&path, &mut text) >= 0 {
+        tell_taken(name, old);
+        return false;
+    }
+    let error = os::errno();
+    if error == libc::ENOENT {
+        return true;
+    }
+    if error == libc::EINVAL {
+        tell_taken(name, old);
+    } else {
+        os::fail(old);
+    }
+    false
+}
+
 // Whether NAME.old can take what the file holds; else that is told.
 fn old_is_free(name: &[u8]) -> bool {
     let mut old = io::buffer();
     let n = name_of_old(name, &mut old);
-    let taken = is_taken(&old[..n]);
-    if taken {
-        tell_taken(name, &old[..n]);
-    }
-    !taken
+    is_free(name, &old[..n])
 }
 
 // Writes what was collected under the name beside. Told where that fails, or where the file would become empty and its bytes could not be kept; then

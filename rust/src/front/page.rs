@@ -515,7 +515,7 @@ impl Worked<'_> {
             Status::Overlapped => {
                 "Touching or overlapping where the search stood. (Its fraction is printed as 0, although the search may have got further.)".to_string()
             }
-            Status::Failed => format!("No verdict: treat as not cleared. The search gave up, and stood at {t} of the move; that is no safe part of it."),
+            Status::Failed => format!("No verdict: treat as not cleared. The search gave up where it stood, at {t} of the move; they may overlap before that."),
         }
     }
 
