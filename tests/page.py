@@ -142,7 +142,7 @@ def gaps(block):
 
 
 # ---- cards
-def check_card(card, line, block):
+def check_card(card, line, block, measured):
     fields = line.split(" ")
     assert card.get("id") == f"block{fields[0]}"
     title = said(card.find(f"{HTML}h3"))
@@ -174,7 +174,7 @@ def check_card(card, line, block):
     facts = {said(row[0]): said(row[1]) for row in card.iter(f"{HTML}tr")}
     check_words(status, t, fields, facts, spoken, block, line)
     assert facts["work"] == "distance calls {}, searches {}, root steps {}".format(*fields[9:12]), (facts["work"], line)
-    return check_gap(status, t, facts, spoken, block, line)
+    return check_gap(status, t, facts, spoken, block, line, measured)
 
 
 def number(text):
@@ -209,9 +209,9 @@ def check_words(status, t, fields, facts, spoken, block, line):
         assert not re.search(r"(?i)clear by|is clear|\bsafe", text), (text, line)
 
 
-def check_gap(status, t, facts, spoken, block, line):
+def check_gap(status, t, facts, spoken, block, line, measured):
     reds = [text for text in spoken if text.startswith("the search ")]
-    ours = gaps(block)
+    ours = gaps(block) if measured else None
     if ours is None:
         return bool(reds)
     least = facts["least sampled gap"]
@@ -243,7 +243,9 @@ def main(page, batch, sheet):
     root = ET.fromstring(raw)
     cards = list(root.iter(f"{HTML}section"))
     assert len(cards) == len(lines) == int(total[0]), (len(cards), len(lines), total)
-    reds = [check_card(card, line, blocks[512 * i : 512 * i + 512]) for i, (card, line) in enumerate(zip(cards, lines))]
+    # of a long batch only some gaps are worked out here
+    every = 1 + len(lines) // 1000 * 10
+    reds = [check_card(card, line, blocks[512 * i : 512 * i + 512], i % every == 0) for i, (card, line) in enumerate(zip(cards, lines))]
     shown = [int(said(cell)) for cell in next(row for row in root.iter(f"{HTML}tr") if row.get("id") == "totals")]
     assert [shown[0], sum(shown[1:4]), *shown[4:]] == list(map(int, total)), (shown, total)
     letters = [line.split(" ")[3] if line.split(" ")[2] == "0" else "" for line in lines]
