@@ -139,7 +139,7 @@ $run target/bin/sheet64 < /dev/null 2>&1 > /dev/null | grep -q '^standard input:
 for i in $(seq 667); do cat examples/shift.batch; done | head -c 5120000 > "$work/long"
 TIMEFORMAT="10000 blocks in %R s, %U s of the processor"; time page "$work/long" "$sheet" 2> "$work/told" || wrong "a long batch"
 echo "a page of $(($(stat -c %s "$sheet") / 1000000)) MB; told $(grep -c '^page: .* of 10000 blocks$' "$work/told") times"
-[ "$(grep -c 'class="paper' "$sheet")" = 667 ] || wrong "not all red ones are drawn: $(grep -c 'class="paper' "$sheet")"
-page --drawings 5 "$work/long" "$sheet" 2> /dev/null; [ "$(grep -c 'class="paper' "$sheet")" = 5 ] || wrong "not 5 drawings"
+[ "$(grep -c 'class="paper"' "$sheet")" = 667 ] || wrong "not all red ones are drawn: $(grep -c 'class="paper"' "$sheet")"
+page --drawings 5 "$work/long" "$sheet" 2> /dev/null; [ "$(grep -c 'class="paper"' "$sheet")" = 5 ] || wrong "not 5 drawings"
 tests/page-picture.sh "$work/page.png" "$run target/link/page" || wrong "the picture"
 exit $bad

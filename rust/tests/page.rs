@@ -107,7 +107,7 @@ fn drawings_stop_where_asked_and_words_do_not() {
     let bytes = batch("job: 1\na: 0 0\nb: 1 1\n").repeat(7);
     let (some, totals) = page(&bytes, 3);
     assert_eq!((totals.blocks, totals.separated), (7, 7));
-    assert_eq!(some.matches("class=\"paper").count(), 3);
+    assert_eq!(some.matches("class=\"paper\"").count(), 3);
     assert_eq!(some.matches(S).count(), 7);
     assert!(some.contains("Drawings: 3 of 7 worked blocks"));
     assert!(!page(&bytes, 7).0.contains("Drawings: 7 of"));
@@ -156,14 +156,14 @@ fn drawings_go_first_to_what_needs_a_look() {
     let bytes = batch(&format!("job: 1\n{still}\njob: 2\n{turning}\njob: 3\n{still}\njob: 4\n{swing}\njob: 5\n{still}"));
     let drawn = |most: usize| {
         let (page, _) = page(&bytes, most);
-        let cards: Vec<bool> = page.split("<section").skip(1).map(|card| card.contains("class=\"paper")).collect();
+        let cards: Vec<bool> = page.split("<section").skip(1).map(|card| card.contains("class=\"paper\"")).collect();
         (1..=5).filter(|i| cards[i - 1]).collect::<Vec<usize>>()
     };
     assert_eq!([drawn(0), drawn(1), drawn(2), drawn(3)], [vec![], vec![4], vec![2, 4], vec![1, 2, 4]]);
     let many = batch(&format!("job: 1\n{still}\njob: 2\n{swing}")).repeat(600);
     let (page, totals) = page_of(&Source { name: "x", bytes: &many, ..Source::default() }, Drawings::Usual);
-    assert_eq!((totals.blocks, totals.touching, page.matches("class=\"paper").count()), (1200, 600, 600));
-    assert_eq!(page.split("<section class=\"card warned\"").skip(1).filter(|card| !card.contains("class=\"paper")).count(), 0);
+    assert_eq!((totals.blocks, totals.touching, page.matches("class=\"paper\"").count()), (1200, 600, 600));
+    assert_eq!(page.split("<section class=\"card warned\"").skip(1).filter(|card| !card.contains("class=\"paper\"")).count(), 0);
 }
 
 /// Turning S is listed and counted apart from the others, and what is told red is in no box of S that needs no look.

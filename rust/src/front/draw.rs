@@ -224,9 +224,9 @@ pub fn outlines(job: &Job, verdict: &Verdict, moments: &Moments, name: &str) -> 
     }
     let paper = Paper::around(low, high);
     let tall = rounded(paper.high(), 2);
-    // a drawing that print makes smaller, since it is high, gets larger letters there
-    let class = if paper.high() > 0.7 * WIDE { "paper tall" } else { "paper" };
-    let mut out = opened(class, &rounded(WIDE, 0), &tall, name);
+    // print makes a high drawing smaller, and its letters larger
+    let letters = rounded((0.041 * paper.high()).max(12.0), 1);
+    let mut out = opened(&format!("paper\" style=\"--letters:{letters}px"), &rounded(WIDE, 0), &tall, name);
     let _ = write!(out, r#"<rect class="rim" width="{WIDE}" height="{tall}"/>"#);
     grid(&paper, &mut out);
     for class in ["told", "start", "end", "missed"] {
