@@ -9,7 +9,9 @@ for tool in chromium pdftoppm; do
   command -v $tool > /dev/null || { echo "the picture: left out, since there is no $tool"; exit 0; }
 done
 work="$(mktemp -d)"; trap 'rm -r "$work"' EXIT
-browser() { chromium --headless=new --no-sandbox --disable-gpu --hide-scrollbars --force-device-scale-factor=1 --user-data-dir="$work/profile" "$@" > /dev/null 2>&1; }
+browser() {
+  chromium --headless=new --no-sandbox --disable-gpu --hide-scrollbars --force-device-scale-factor=1 --user-data-dir="$work/profile" "$@" > /dev/null 2>&1
+}
 $page --text examples/shift.txt examples/shift.batch "$work/shift.html" 2> /dev/null
 browser --no-pdf-header-footer --print-to-pdf="$work/shift.pdf" "file://$work/shift.html"
 pdftotext -layout "$work/shift.pdf" "$work/shift.text"

@@ -13,6 +13,8 @@ page() { $run target/link/page "$@"; }
 jobs_of() { $run target/link/jobtext "$@"; }
 route_of() { $run target/link/routetext "$@"; }
 
+tests/front.sh || wrong "the tests of rust/src/front"
+
 compare() { # compare NAME: the page of the batch in the work folder
   $run target/bin/sheet < "$work/batch" > "$work/sheet"
   page "$work/batch" "$work/page.html" 2> "$work/told" || wrong "$1: $(cat "$work/told")"
@@ -121,7 +123,8 @@ for reader in jobs_of route_of; do
   refused "$reader, closed output" 1 "standard output: it is closed" shut
   shut() { $reader - <&-; }
   refused "$reader, closed input" 1 "standard input: it is closed" shut
-  $reader --help > "$work/help" 2> "$work/told" && [ ! -s "$work/told" ] && grep -q '^usage: ' "$work/help" && [ "$(wc -l < "$work/help")" -gt 15 ] || wrong "$reader --help"
+  $reader --help > "$work/help" 2> "$work/told" && [ ! -s "$work/told" ] && grep -q '^usage: ' "$work/help" || wrong "$reader --help"
+  [ "$(wc -l < "$work/help")" -gt 15 ] || wrong "$reader --help explains little"
   $reader - < $text 2> /dev/null | cmp - <($reader $text 2> /dev/null) || wrong "$reader, standard input"
   (printf '\357\273\277'; cat $text) | $reader - 2> /dev/null | cmp - <($reader $text 2> /dev/null) || wrong "$reader, a byte order mark"
 done
@@ -139,7 +142,7 @@ $run target/bin/sheet64 < /dev/null 2>&1 > /dev/null | grep -q '^standard input:
 for i in $(seq 667); do cat examples/shift.batch; done | head -c 5120000 > "$work/long"
 TIMEFORMAT="10000 blocks in %R s, %U s of the processor"; time page "$work/long" "$sheet" 2> "$work/told" || wrong "a long batch"
 echo "a page of $(($(stat -c %s "$sheet") / 1000000)) MB; told $(grep -c '^page: .* of 10000 blocks$' "$work/told") times"
-[ "$(grep -c 'class="paper"' "$sheet")" = 667 ] || wrong "not all red ones are drawn: $(grep -c 'class="paper"' "$sheet")"
+[ "$(grep -c 'class="paper"' "$sheet")" = 666 ] || wrong "not all red ones are drawn: $(grep -c 'class="paper"' "$sheet")"
 page --drawings 5 "$work/long" "$sheet" 2> /dev/null; [ "$(grep -c 'class="paper"' "$sheet")" = 5 ] || wrong "not 5 drawings"
 tests/page-picture.sh "$work/page.png" "$run target/link/page" || wrong "the picture"
 exit $bad

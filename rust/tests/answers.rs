@@ -1,5 +1,7 @@
 //! The safe face against answers worked out by hand or listed in README.md.
-use foldflake::{bar, distance, gap, line, placed_bar, placed_plate, plate, pose, root, route, sweep, Cache, Ending, Move, Pose, Refusal, Route, Stop, Sweep, Waypoint};
+use foldflake::{
+    bar, distance, gap, line, placed_bar, placed_plate, plate, pose, root, route, sweep, Cache, Ending, Move, Pose, Refusal, Route, Stop, Sweep, Waypoint,
+};
 
 const SQUARE: [f32; 8] = [-1.0, -1.0, 1.0, -1.0, 1.0, 1.0, -1.0, 1.0];
 const POINT: [f32; 2] = [0.0, 0.0];

@@ -53,7 +53,8 @@ fn outlines_are_the_librarys() {
     let job = &job_text::read(b"job: 7\na bar: 0.1 -0.7 3 4\nb: 0 0\n").unwrap().jobs[0];
     assert_eq!(job.words[26..30], bits(bar([0.1, -0.7], [3.0, 4.0], &mut list).unwrap())[..]);
     for degrees in [0.0f64, 90.0, 33.3, -120.0, 271.5] {
-        let text = format!("cart: 0 0\n\nat: 0 0\n\nat: 9 0\n\nstill plate: 1.3 0.7\nat: 4.1 -2.2\nturned: {degrees}\n\nstill bar: 0 0  3 1\nat: 4.1 -2.2\nturned: {degrees}\n");
+        let placed = format!("at: 4.1 -2.2\nturned: {degrees}\n\n");
+        let text = format!("cart: 0 0\n\nat: 0 0\n\nat: 9 0\n\nstill plate: 1.3 0.7\n{placed}still bar: 0 0  3 1\n{placed}");
         let route = route_text::read(text.as_bytes()).unwrap();
         let (sine, cosine) = degrees.to_radians().sin_cos();
         let turned = if degrees % 90.0 == 0.0 { [cosine.round() as f32, sine.round() as f32] } else { [cosine as f32, sine as f32] };

@@ -175,7 +175,10 @@ fn s_that_turns_needs_a_look() {
     assert_eq!((totals.separated, totals.turning, totals.red_separated()), (3, 1, 1));
     assert!(page.contains("<tr id=\"totals\"><td>3</td><td>1</td><td>1</td><td>1</td><td>0</td><td>0</td><td>0</td></tr>"), "{page}");
     assert!(page.contains("<b>1 S of a move that turns, which S does not clear: look at its gap:</b> <a href=\"#block2\">2</a>"));
-    assert!(page.contains("<td>S</td><td class=\"words\">S, but it turns by 90.0°: look</td>") && page.contains("<td>S</td><td class=\"words\">S, and nothing turns</td>"));
+    assert!(
+        page.contains("<td>S</td><td class=\"words\">S, but it turns by 90.0°: look</td>")
+            && page.contains("<td>S</td><td class=\"words\">S, and nothing turns</td>")
+    );
     let words = page.to_lowercase();
     for untrue in ["clear by the search", "is clear", "safe"] {
         assert!(!words.contains(untrue), "{untrue}");

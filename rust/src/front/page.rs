@@ -110,13 +110,7 @@ struct Row {
 }
 
 /// Writes the page of a batch; `progress` is told how many of how many blocks are worked.
-pub fn write(
-    library: &dyn Answers,
-    source: &Source,
-    drawings: Drawings,
-    out: &mut impl Write,
-    progress: &mut dyn FnMut(usize, usize),
-) -> io::Result<Totals> {
+pub fn write(library: &dyn Answers, source: &Source, drawings: Drawings, out: &mut impl Write, progress: &mut dyn FnMut(usize, usize)) -> io::Result<Totals> {
     let count = (source.bytes.len() + BLOCK - 1) / BLOCK;
     let mut rows = Vec::with_capacity(count);
     let mut totals = Totals { blocks: count, ..Totals::default() };
@@ -267,7 +261,8 @@ fn head(source: &Source, rows: &[Row], titles: &[Title], totals: &Totals, drawn:
     let straight = separated - turning - red;
     let _ = writeln!(
         out,
-        "<tr id=\"totals\"><td>{blocks}</td><td>{straight}</td><td>{turning}</td><td>{red}</td><td>{contact}</td><td>{undecided}</td><td>{refused}</td></tr>\n</table>"
+        "<tr id=\"totals\"><td>{blocks}</td><td>{straight}</td><td>{turning}</td><td>{red}</td><td>{contact}</td><td>{undecided}</td>\
+         <td>{refused}</td></tr>\n</table>"
     );
     out.push_str("<h2>Which jobs need a look</h2>\n<ul class=\"looks\">\n");
     let mut none = true;
@@ -527,9 +522,10 @@ impl Worked<'_> {
             }
         };
         let told = rounded(f64::from(self.verdict.floats[0]), 2);
-        let run = self.sampled.touching.map_or(String::new(), |[from, to]| {
-            format!("Sampled gap 0 from {} to {} of the move. {SAMPLED}", self.at(from, 4), self.at(to, 4))
-        });
+        let run = self
+            .sampled
+            .touching
+            .map_or(String::new(), |[from, to]| format!("Sampled gap 0 from {} to {} of the move. {SAMPLED}", self.at(from, 4), self.at(to, 4)));
         let first = self.sampled.first_touching.map_or(String::new(), |k| self.at(k, 2));
         match self.row.look {
             Look::Touching => {
@@ -540,7 +536,9 @@ impl Worked<'_> {
                 if self.sampled.gap < self.job.target() {
                     let [gap, target] = [self.sampled.gap, self.job.target()].map(|x| length(f64::from(x), gap_places));
                     let at = self.at(self.sampled.least, 2);
-                    let said = format!("the search says S, but at {at} of the move the outlines are only {gap} apart, less than the target {target}: look before clearing");
+                    let said = format!(
+                        "the search says S, but at {at} of the move the outlines are only {gap} apart, less than the target {target}: look before clearing"
+                    );
                     red(said, "Sampled, not proved.".to_string());
                 }
                 if self.sampled.unknown > 0 {

@@ -352,7 +352,10 @@ mod tests {
         assert_eq!(decoded(b"\xef\xbb\xbfjob: 7"), Ok("job: 7"));
         let faults = decoded(b"job: 7\nname: K\xe4fig\nb: \xff\n").unwrap_err();
         let told: Vec<String> = faults.iter().map(Told::to_string).collect();
-        assert_eq!(told, ["line 2: byte 8 of the line, E4, is no UTF-8: save the text as UTF-8", "line 3: byte 4 of the line, FF, is no UTF-8: save the text as UTF-8"]);
+        assert_eq!(
+            told,
+            ["line 2: byte 8 of the line, E4, is no UTF-8: save the text as UTF-8", "line 3: byte 4 of the line, FF, is no UTF-8: save the text as UTF-8"]
+        );
         assert_eq!(decoded(b"\xff\xfej\0").unwrap_err()[0].to_string(), "line 1: this is UTF-16: save the text as UTF-8");
     }
 

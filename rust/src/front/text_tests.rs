@@ -233,7 +233,9 @@ fn turns_get_a_warning() {
 
 #[test]
 fn names_and_the_unit_are_kept() {
-    let jobs = read(b"# a shift\nunit: 100 mm\n\njob: 7\nname: cart at press 2\na: 0 0\nb: 1 1\n\njob: 8\na: 0 0\nb: 1 1\na turned: 0 20\nturn by: 10\nname: swing\n").unwrap();
+    let jobs =
+        read(b"# a shift\nunit: 100 mm\n\njob: 7\nname: cart at press 2\na: 0 0\nb: 1 1\n\njob: 8\na: 0 0\nb: 1 1\na turned: 0 20\nturn by: 10\nname: swing\n")
+            .unwrap();
     assert_eq!(jobs.unit, "100 mm");
     let titles: Vec<String> = jobs.jobs.iter().map(|job| job.title()).collect();
     assert_eq!(titles, ["cart at press 2", "swing, step 1 of 2", "swing, step 2 of 2"]);
@@ -274,7 +276,12 @@ fn a_route_comes_to_the_lines_of_route() {
     let first_still = [4.5f32, 2.5, 3.5, 2.5, 4.5, 1.5, 3.5, 1.5];
     assert_eq!(hall.stills[0], first_still);
     let told: Vec<String> = hall.notes.iter().map(Told::to_string).collect();
-    for said in ["line 14: cut into 3 steps, legs 2 to 4", "line 15: waypoint 5 is between the columns", "line 22: outline 1 is column 1", "line 4: the cart is die cart"] {
+    for said in [
+        "line 14: cut into 3 steps, legs 2 to 4",
+        "line 15: waypoint 5 is between the columns",
+        "line 22: outline 1 is column 1",
+        "line 4: the cart is die cart",
+    ] {
         assert!(told.iter().any(|told| told == said), "{said}: {told:?}");
     }
     assert!(told.iter().any(|told| told.contains("warning: the cart turns by 30 degrees in one step")), "{told:?}");
