@@ -1,9 +1,9 @@
 #!/usr/bin/env python3
-"""random_moves.py TURNING COUNT [SIZE [SLOP [SEED]]]: a batch of COUNT random moves of two plates on standard output, COUNT a whole number of jobs from 1.
+"""random_moves.py SWINGS COUNT [SIZE [SLOP [SEED]]]: a batch of COUNT random moves of two plates on standard output, job numbers from 1.
 
-Of each 5,000 jobs TURNING are a square that turns a quarter beside a wall that its corners reach, which the sheet calls S; the others are plates of half
-sizes up to SIZE (1), at places within three times that, half of them turning by up to 170 degrees. `oracle sheet` or `sheet` answers them; docs/TURNS.md has
-what was counted by SIZE and SLOP (0.005) with TURNING 0."""
+Of 5,000 jobs some SWINGS are a square that turns a quarter beside a wall that its corners reach, which the sheet calls S; the others are plates of half
+sizes up to SIZE (1), at places within three times that, every second one turning by up to 170 degrees, all of them where SWINGS is 0. `sheet` answers them;
+docs/TURNS.md has what was counted by SIZE and SLOP (0.005) with 0 swings."""
 import math
 import random
 import struct
@@ -45,14 +45,14 @@ def crossing(rng, job, size, slop, turning):
     return block(job, plate(u(0.1, 1) * size, u(0.1, 1) * size), plate(u(0.1, 1) * size, u(0.1, 1) * size), moves, slop)
 
 
-def main(turning, count, size="1", slop="0.005", seed="1"):
-    rng = random.Random(" ".join((turning, size, slop, seed)))
+def main(swings, count, size="1", slop="0.005", seed="1"):
+    rng = random.Random(" ".join((swings, size, slop, seed)))
     size, slop = float(size), float(slop)
     for job in range(1, int(count) + 1):
-        if rng.randrange(5000) < int(turning):
+        if rng.randrange(5000) < int(swings):
             data = swing(rng, job, size, slop)
         else:
-            data = crossing(rng, job, size, slop, int(turning) == 0 or job % 2 == 0)
+            data = crossing(rng, job, size, slop, int(swings) == 0 or job % 2 == 0)
         sys.stdout.buffer.write(data)
 
 
