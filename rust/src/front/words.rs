@@ -33,6 +33,18 @@ pub fn length(x: f64, places: usize) -> String {
     }
 }
 
+/// A length that may be below 0, as what radii leave of a gap.
+pub fn signed(x: f64, places: usize) -> String {
+    if x < 0.0 {
+        match length(-x, places).strip_prefix("below ") {
+            Some(last) => format!("above -{last}"),
+            None => format!("-{}", length(-x, places)),
+        }
+    } else {
+        length(x, places)
+    }
+}
+
 /// Text for a page: what XML takes for its own is spelt out.
 pub fn escaped(text: &str) -> String {
     let mut out = String::with_capacity(text.len());
@@ -71,6 +83,7 @@ mod tests {
         assert_eq!(rounded(0.59994, 4), "0.5999");
         assert_eq!(length(0.00001, 4), "below 0.0001");
         assert_eq!([length(0.0, 4), length(0.5, 4)], ["0", "0.5000"]);
+        assert_eq!([signed(-0.5, 2), signed(-1e-9, 2), signed(0.0, 2), signed(0.25, 2)], ["-0.50", "above -0.01", "0", "0.25"]);
         assert_eq!(escaped("a<b>&\"\u{1}"), "a&lt;b&gt;&amp;&quot;\u{fffd}");
     }
 }

@@ -2,20 +2,19 @@
 //!
 //! ```
 //! use foldflake::batch::{answer, parts, Part};
+//! use foldflake::Library;
 //! let bytes = [0u8; 700];
 //! let found: Vec<Part> = parts(&bytes).collect();
 //! assert_eq!(found.len(), 2);
-//! assert_eq!(answer(1, &found[0]).told, Err(10));
-//! assert_eq!(answer(2, &found[1]).told, Err(9));
+//! assert_eq!(answer(&Library, 1, &found[0]).told, Err(10));
+//! assert_eq!(answer(&Library, 2, &found[1]).told, Err(9));
 //! ```
-use crate::words::shortest;
-use crate::{line, Move};
+use super::text::LIMIT;
+use super::words::shortest;
+use super::{Answers, Move};
 
 /// How many bytes a block has.
 pub const BLOCK: usize = 512;
-
-/// The largest coordinate, radius or slop of the domain.
-const LIMIT: f32 = 1_048_576.0;
 
 /// A piece of a batch.
 #[derive(Clone, Copy, Debug)]
@@ -139,9 +138,9 @@ pub struct Answer {
 }
 
 /// The answer of a piece as block `number` of its file, counted from 1, read off the proved line. A rest is refused by 9.
-pub fn answer(number: u64, part: &Part) -> Answer {
+pub fn answer(library: &dyn Answers, number: u64, part: &Part) -> Answer {
     let line = match part {
-        Part::Block(block) => line(number, block).expect("a file has fewer than 2^63 blocks"),
+        Part::Block(block) => library.line(number, block),
         Part::Rest(_) => format!("{number} 0 9\n"),
     };
     read(line.trim_end().to_string())

@@ -1,6 +1,6 @@
 //! The gap over the move: sampled, not proved.
-use crate::batch::Job;
-use crate::gap;
+use super::batch::Job;
+use super::Answers;
 
 /// How many equal pieces the planned part of a move is cut into; one sample more than that.
 pub const PIECES: usize = 256;
@@ -11,9 +11,8 @@ pub fn fraction(job: &Job, k: usize) -> f32 {
 }
 
 /// The distance of the outlines without radii at each sample; NaN where no number is worked out.
-pub fn samples(job: &Job) -> Vec<f32> {
-    let [a, b] = &job.points;
-    let at = |k| gap(a, &job.moves[0], b, &job.moves[1], fraction(job, k)).unwrap_or(f32::NAN);
+pub fn samples(library: &dyn Answers, job: &Job) -> Vec<f32> {
+    let at = |k| library.gap(job, fraction(job, k));
     if job.stands(0) && job.stands(1) {
         return vec![at(0); PIECES + 1];
     }

@@ -1,8 +1,8 @@
 //! The drawings of a card, as SVG: the outlines on squared paper, and the gap over the move.
-use crate::batch::{Job, Status, Verdict};
-use crate::gaps::{fraction, Sampled, PIECES};
-use crate::words::{escaped, length, rounded};
-use crate::{pose, Pose};
+use super::batch::{Job, Status, Verdict};
+use super::gaps::{fraction, Sampled, PIECES};
+use super::moves::Placed;
+use super::words::{escaped, length, rounded};
 use std::fmt::Write;
 
 /// How wide a drawing is, in its own units.
@@ -15,7 +15,7 @@ type Place = [f64; 2];
 /// One body at one moment.
 struct Standing {
     class: &'static str,
-    pose: Pose,
+    pose: Placed,
 }
 
 /// The moments at which a card shows the bodies.
@@ -26,12 +26,6 @@ pub struct Moments {
     pub told: f32,
     /// A sampled fraction at which the outlines touch although the search says otherwise.
     pub missed: Option<f32>,
-}
-
-fn moved(pose: &Pose, p: Place) -> Place {
-    let [c, s] = pose.rotation.map(f64::from);
-    let [x, y] = pose.translation.map(f64::from);
-    [c * p[0] - s * p[1] + x, s * p[0] + c * p[1] + y]
 }
 
 fn corners(points: &[f32]) -> Vec<Place> {
@@ -198,17 +192,17 @@ pub fn outlines(job: &Job, verdict: &Verdict, moments: &Moments, name: &str) -> 
     let mut bodies: Vec<Vec<Standing>> = Vec::new();
     for body in 0..2 {
         let mut list = Vec::new();
-        let mut show = |class, t: f32| pose(&job.moves[body], t).map(|pose| list.push(Standing { class, pose }));
+        let mut show = |class, t: f32| job.moves[body].placed(t).map(|pose| list.push(Standing { class, pose }));
         if !job.stands(body) {
-            show("start", 0.0).ok()?;
+            show("start", 0.0)?;
             if moments.told != moments.end && moments.end > 0.0 {
-                show("end", moments.end).ok()?;
+                show("end", moments.end)?;
             }
             if let Some(t) = moments.missed {
-                show("missed", t).ok()?;
+                show("missed", t)?;
             }
         }
-        show("told", moments.told).ok()?;
+        show("told", moments.told)?;
         bodies.push(list);
     }
     // every place that has to be on the paper
@@ -222,7 +216,7 @@ pub fn outlines(job: &Job, verdict: &Verdict, moments: &Moments, name: &str) -> 
     let local: Vec<Vec<Place>> = job.points.iter().map(|points| corners(points)).collect();
     for body in 0..2 {
         for standing in &bodies[body] {
-            local[body].iter().for_each(|p| keep(moved(&standing.pose, *p), f64::from(job.radius[body])));
+            local[body].iter().for_each(|p| keep(standing.pose.place(*p), f64::from(job.radius[body])));
         }
         if !job.stands(body) {
             way(job, body, moments.end).iter().for_each(|p| keep(*p, 0.0));
@@ -230,13 +224,15 @@ pub fn outlines(job: &Job, verdict: &Verdict, moments: &Moments, name: &str) -> 
     }
     let paper = Paper::around(low, high);
     let tall = rounded(paper.high(), 2);
-    let mut out = opened("paper", &rounded(WIDE, 0), &tall, name);
+    // print makes a high drawing smaller, and its letters larger
+    let letters = rounded((0.041 * paper.high()).max(12.0), 1);
+    let mut out = opened(&format!("paper\" style=\"--letters:{letters}px"), &rounded(WIDE, 0), &tall, name);
     let _ = write!(out, r#"<rect class="rim" width="{WIDE}" height="{tall}"/>"#);
     grid(&paper, &mut out);
     for class in ["told", "start", "end", "missed"] {
         for body in [1, 0] {
             for standing in bodies[body].iter().filter(|standing| standing.class == class) {
-                let shape = hull(&local[body].iter().map(|p| moved(&standing.pose, *p)).collect::<Vec<_>>());
+                let shape = hull(&local[body].iter().map(|p| standing.pose.place(*p)).collect::<Vec<_>>());
                 let side = ["a", "b"][body];
                 let path = round(&shape, f64::from(job.radius[body]), &paper);
                 let _ = write!(out, r#"<path class="{side} {class}" d="{path}"/>"#);
@@ -256,7 +252,7 @@ pub fn outlines(job: &Job, verdict: &Verdict, moments: &Moments, name: &str) -> 
     }
     for body in 0..2 {
         let standing = bodies[body].iter().find(|standing| standing.class == "told")?;
-        let places: Vec<Place> = local[body].iter().map(|p| paper.at(moved(&standing.pose, *p))).collect();
+        let places: Vec<Place> = local[body].iter().map(|p| paper.at(standing.pose.place(*p))).collect();
         numbers(&places, ["A", "B"][body], ["na", "nb"][body], &mut out);
     }
     if matches!(verdict.status, Status::Hit | Status::Failed) && verdict.floats[3..] != [0.0, 0.0] {
