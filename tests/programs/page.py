@@ -142,7 +142,7 @@ def gaps(block):
 
 
 # ---- cards
-def check_card(card, line, block):
+def check_card(card, line, block, measured):
     fields = line.split(" ")
     assert card.get("id") == f"block{fields[0]}"
     title = said(card.find(f"{HTML}h3"))
@@ -163,7 +163,7 @@ def check_card(card, line, block):
     for name, (shown, shortest) in numbers.items():
         assert shortest == "NaN" or bits(float(shortest)) == int(shown, 16), name
     t, x, y = map(single, told[:3])
-    start = {"S": "Clear by the search.", "O": "Touching or overlapping", "F": "No verdict: treat as not cleared."}
+    start = {"S": "S: separated along one axis", "O": "Touching or overlapping", "F": "No verdict: treat as not cleared."}
     start["H"] = f"Hit at {t:.4f} of the move, at x "
     assert spoken[0].startswith(start[status]), (spoken[0], line)
     if status == "H":
@@ -172,13 +172,46 @@ def check_card(card, line, block):
             places = len(shown.split(".")[1])
             assert places >= 2 and float(shown) == float(f"{value:.{places}f}"), (shown, value)
     facts = {said(row[0]): said(row[1]) for row in card.iter(f"{HTML}tr")}
+    check_words(status, t, fields, facts, spoken, block, line)
     assert facts["work"] == "distance calls {}, searches {}, root steps {}".format(*fields[9:12]), (facts["work"], line)
-    return check_gap(status, t, facts, spoken, block, line)
+    return check_gap(status, t, facts, spoken, block, line, measured)
 
 
-def check_gap(status, t, facts, spoken, block, line):
+def number(text):
+    """The first number of a text, `below` and `above` taken off."""
+    return float(re.search(r"-?[\d.]+", text).group(0))
+
+
+def check_words(status, t, fields, facts, spoken, block, line):
+    """What the card says in words of the sheet's fraction and corners, of ways, clearances and turns."""
+    floats = struct.unpack("<88f", block[8:360])
+    corners, moves = fields[12:16], [floats[4:14], floats[14:24]]
+    pads = [text for text in spoken if text.startswith("To pad: ")]
+    told = {corner for corner in corners if corner != "-"}
+    assert bool(pads) == (status == "H" and bool(told)), (pads, line)
+    assert not pads or {n for n in re.findall(r"\d+", pads[0])} == told, (pads, line)
+    ways = [math.hypot(m[4] - m[2], m[5] - m[3]) for m in moves]
+    if status == "H" and any(ways):
+        shown = {body: (float(gone), float(whole)) for body, gone, whole in re.findall(r"([AB]) ([\d.]+) of ([\d.]+)", facts["way travelled"])}
+        for body, way in zip("AB", ways):
+            if way:
+                gone, whole = shown[body]
+                assert abs(gone - way * t) <= 0.006 + 1e-6 * way and abs(whole - way * floats[2]) <= 0.006 + 1e-6 * way, (shown, way, t, line)
+    if facts["least sampled gap"] != "no number":
+        clearance = number(facts["clearance there"])
+        assert abs(clearance - (number(facts["least sampled gap"]) - floats[0] - floats[1])) < 3e-4 + 1e-6 * abs(clearance), (facts, line)
+    turning = any(m[6:8] != m[8:10] for m in moves)
+    looks = [text for text in spoken if text.startswith("It turns by ")]
+    reds = [text for text in spoken if text.startswith("the search ") or "makes a half turn" in text]
+    assert bool(looks) == (status == "S" and turning and not reds), (spoken, line)
+    assert status != "F" or facts["search stood at"] == f"{t:.4f} of the move", (facts, line)
+    for text in [*spoken, *facts.values()]:
+        assert not re.search(r"(?i)clear by|is clear|\bsafe", text), (text, line)
+
+
+def check_gap(status, t, facts, spoken, block, line, measured):
     reds = [text for text in spoken if text.startswith("the search ")]
-    ours = gaps(block)
+    ours = gaps(block) if measured else None
     if ours is None:
         return bool(reds)
     least = facts["least sampled gap"]
@@ -187,6 +220,9 @@ def check_gap(status, t, facts, spoken, block, line):
     near = 1e-4 + 2e-6 * size
     assert abs(value - min(ours)) <= near, (least, min(ours), line)
     compared.append(line)
+    if status == "F":
+        # every sample of the card is looked at, wherever the search stood
+        assert min(ours) > near or any("touch or overlap: do not clear" in text for text in reds), (spoken, line)
     if status != "S":
         return bool(reds)
     floor = max(struct.unpack("<f", block[20:24])[0], sum(struct.unpack("<2f", block[8:16])) - struct.unpack("<f", block[20:24])[0])
@@ -207,15 +243,29 @@ def main(page, batch, sheet):
     root = ET.fromstring(raw)
     cards = list(root.iter(f"{HTML}section"))
     assert len(cards) == len(lines) == int(total[0]), (len(cards), len(lines), total)
-    reds = [check_card(card, line, blocks[512 * i : 512 * i + 512]) for i, (card, line) in enumerate(zip(cards, lines))]
-    shown = [said(cell) for cell in next(row for row in root.iter(f"{HTML}tr") if row.get("id") == "totals")]
-    assert shown == total, (shown, total)
+    # of a long batch only some gaps are worked out here
+    every = 1 + len(lines) // 1000 * 10
+    reds = [check_card(card, line, blocks[512 * i : 512 * i + 512], i % every == 0) for i, (card, line) in enumerate(zip(cards, lines))]
+    shown = [int(said(cell)) for cell in next(row for row in root.iter(f"{HTML}tr") if row.get("id") == "totals")]
+    assert [shown[0], sum(shown[1:4]), *shown[4:]] == list(map(int, total)), (shown, total)
+    letters = [line.split(" ")[3] if line.split(" ")[2] == "0" else "" for line in lines]
+    warned = [card.get("class") == "card warned" for card in cards]
+    # no box of S that need no look counts one that is told red
+    assert shown[3] == sum(letter == "S" and red for letter, red in zip(letters, warned)), (shown, total)
+    assert shown[2] == sum("It turns by " in said(card) for card in cards), (shown, total)
     assert hashlib.sha256(blocks).hexdigest() in [said(cell) for cell in root.iter(f"{HTML}td")]
     drawings = [svg for svg in root.iter(f"{SVG}svg") if svg.get("class") != "defs"]
     for svg in drawings:
         check_drawing(svg)
-    drawn = sum(red is not None for red in reds[:500])
-    assert len(drawings) == 2 * drawn, (len(drawings), drawn)
+    has = [len([svg for svg in card.iter(f"{SVG}svg")]) for card in cards]
+    worked = [red is not None for red in reds]
+    assert len(drawings) == sum(has) == 2 * min(sum(worked), max(500, sum(warned))), (len(drawings), sum(worked))
+    # red cards have theirs; another has one only where every card that needs a look has
+    assert all(n == 2 for n, red in zip(has, warned) if red)
+    listed = {a.get("href") for ul in root.iter(f"{HTML}ul") if ul.get("class") == "looks" for a in ul.iter(f"{HTML}a")}
+    plain = [not red and letter == "S" and "It turns by " not in said(card) for card, red, letter in zip(cards, warned, letters)]
+    assert not any(n for n, is_plain in zip(has, plain) if is_plain) or all(n for n, is_plain, w in zip(has, plain, worked) if w and not is_plain)
+    assert not listed & {f"#block{i + 1}" for i, is_plain in enumerate(plain) if is_plain}
     ids = [element.get("id") for element in root.iter() if element.get("id")]
     assert len(ids) == len(set(ids))
     for element in root.iter():
@@ -225,8 +275,11 @@ def main(page, batch, sheet):
             assert element.get("href")[:1] == "#" and element.get("href")[1:] in ids, element.get("href")
         assert not element.tag.endswith("}script")
     assert not re.search(r"@import|url\((?!#hatch\))|https?://(?!www\.w3\.org/(?:1999/xhtml|2000/svg)\")", raw)
-    rows = [row for table in root.iter(f"{HTML}table") if table.get("class") == "jobs" for row in table][1:]
+    rows = [row for table in root.iter(f"{HTML}table") if table.get("class") == "jobs" for row in table.find(f"{HTML}tbody")]
     assert [[said(row[0]), said(row[1])] for row in rows] == [line.split(" ")[:2] for line in lines]
+    for row, line in zip(rows, lines):
+        refusal = line.split(" ")[2]
+        assert refusal == "0" or re.search(rf"refused by {refusal}: \w", said(row)), (said(row), line)
     print(f"{page}: {len(cards)} cards, {len(drawings)} drawings, {sum(map(bool, reds))} cards red: as the sheet says; {len(compared)} gaps worked out here too")
 
 

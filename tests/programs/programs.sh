@@ -26,12 +26,15 @@ wrote() {
   fi
 }
 
-# answers CASE TEXT: the batch in the file `batch` has that answer, and its sheet says the same: the first line with H or O has the number, and
-# contact in TOTAL is above 0 just where there is one
+# answers CASE TEXT [TOLD]: the batch in the file `batch` has that answer, and its sheet says the same: the first line with H or O has the number, and
+# contact in TOTAL is above 0 just where there is one. TOLD is what goes to standard error, of the sheet where the batch has no byte
 answers() {
   timeout 60 $run "$bin/any_contact" < "$work/batch" > "$work/out" 2> "$work/err"; ended=$?
-  wrote "$1" 0 "$2"$'\n' ""
+  wrote "$1" 0 "$2"$'\n' "${3:-}"
   timeout 60 $run "$bin/sheet" < "$work/batch" > "$work/sheet" 2> "$work/err"
+  if [ ! -s "$work/batch" ]; then
+    cp "$work/sheet" "$work/out"; wrote "$1, the sheet" 0 $'TOTAL 0 0 0 0 0\n' "${3:-}"; : > "$work/err"
+  fi
   first="$(awk '$4 ~ /^[HO]$/ { print $1; exit }' "$work/sheet")"
   contact="$(awk '$1 == "TOTAL" { print $4 }' "$work/sheet")"
   if [ "${first:-none}" != "$2" ] || [ -s "$work/err" ] || { [ "$contact" -gt 0 ] && [ "$2" = none ]; } || { [ "$contact" = 0 ] && [ "$2" != none ]; }; then
@@ -39,8 +42,9 @@ answers() {
   fi
 }
 
-: > "$work/batch";                                          answers "no input" none
-block S 100 > "$work/batch";                                answers "a short block alone" none
+nothing=$'standard input: no block came\n'
+: > "$work/batch";                                          answers "no input" none "$nothing"
+block S 100 > "$work/batch";                                answers "a short block alone" none "$nothing"
 for s in S F 8 10 11; do block $s; done > "$work/batch";    answers "none: S, F and refused blocks" none
 { block H; many 3 S; } > "$work/batch";                     answers "the first, H" 1
 { block O; many 3 H; } > "$work/batch";                     answers "the first, O" 1
@@ -107,10 +111,11 @@ did() {
 fresh() { rm -rf "${folder:?}"; mkdir "$folder"; }
 old() { fresh; cp "$work/before" "$folder/file"; }
 
-# replaces GOOD SAID MADE LOUD LARGE PIPED: what $program does to files that were there, and where something fails. It prints SAID and makes MADE of
-# GOOD, prints something of LOUD, makes more than 1 KiB of LARGE, and prints more than once of PIPED
+# replaces GOOD SAID MADE LOUD LARGE PIPED NONE ITSELF: what $program does to files that were there, and where something fails. It prints SAID and makes MADE of
+# GOOD, prints something of LOUD, makes more than 1 KiB of LARGE, prints more than once of PIPED, and prints NONE of no input
+# and ITSELF of the seven bytes in `before`
 replaces() {
-  good="$1"; said="$2"; made="$3"; loud="$4"; large="$5"; piped="$6"
+  good="$1"; said="$2"; made="$3"; loud="$4"; large="$5"; piped="$6"; none="$7"; itself="$8"
   old; makes "$good" file;                         did "over a file that was there" "$said" "" file "$made"
   fresh; mkdir "$folder/sub"; makes "$good" sub/file; mv "$folder/sub/file" "$work/sub"; rmdir "$folder/sub"
   did "in another folder" "$said" "" "" ""; cmp -s "$work/sub" "$made" || { echo "$program, in another folder: WRONG bytes"; bad=1; }
@@ -119,6 +124,33 @@ replaces() {
     did "with umask $mask" "$said" "" file "$made"
     [ "$(stat -c %a "$folder/file")" = "$(printf %o $((0666 & ~0$mask)))" ] || { echo "$program, with umask $mask: WRONG mode"; bad=1; }
   done
+
+  # nothing to write: what the file held is kept as file.old, and where that name is taken nothing is replaced
+  kept=$'file: is empty now; what it held is kept as file.old\n'
+  taken=$'file: would become empty, and file.old is there already: nothing is replaced\n'
+  held() { # held CASE BYTES: file.old has those bytes, and goes
+    cmp -s "$folder/file.old" "$2" || { echo "$program, $1: WRONG: file.old has other bytes"; bad=1; }
+    rm -f "$folder/file.old"
+  }
+  old; makes "$work/no" file; held "nothing to write" "$work/before"; did "nothing to write" "$none" "$kept" file "$work/no"
+  makes "$work/no" file;                           did "nothing to write, over an empty file" "$none" "" file "$work/no"
+  fresh; makes "$work/no" file;                    did "nothing to write, no file" "$none" "" file "$work/no"
+  old; makes "$folder/file" file; held "a text over itself" "$work/before"; did "a text over itself" "$itself" "$kept" file "$work/no"
+  old; cp "$made" "$folder/file.old"; makes "$work/no" file; held "nothing to write, file.old is there" "$made"
+  did "nothing to write, file.old is there" "$work/no" "$taken" file "$work/before"
+  old; ln -s nowhere "$folder/file.old"; makes "$work/no" file; rm "$folder/file.old"
+  did "nothing to write, file.old is a link to nothing" "$work/no" "$taken" file "$work/before"
+  old; mkdir "$folder/file.old"; makes "$work/no" file; rmdir "$folder/file.old"
+  did "nothing to write, file.old is a folder" "$work/no" "$taken" file "$work/before"
+  old; cp "$made" "$folder/file.old"; makes "$good" file; held "something to write, file.old is there" "$made"
+  did "something to write, file.old is there" "$said" "" file "$made"
+  long="$(printf 'n%.0s' $(seq 255))"; fresh; cp "$work/before" "$folder/$long"; makes "$work/no" "$long"
+  did "nothing to write, no room for .old in the name" "$work/no" "$long.old"$': File name too long\n' "$long" "$work/before"
+  for name in --help -h -x -; do
+    fresh; makes "$good" "$name"
+    did "the name $name" "$work/no" "$program: $name: a name that begins with - is not taken; ./$name names such a file"$'\n' "" ""
+  done
+  fresh; makes "$good" ./-x;                       did "the name ./-x" "$said" "" -x "$made"
 
   # faults: the file is as it was, or there is none, and nothing is beside it
   asks="$program"$': one argument is taken, the name of the file to write\n'
@@ -156,7 +188,8 @@ for name in $(python3 tests/cases/convert_cases.py "$cases"); do
   fresh; makes "$cases/$name.in" file;             did "$name" "$cases/$name.out" "" file "$cases/$name.file"
   makes "$folder/file" file;                       did "$name, its file over itself" "$work/no" "" file "$cases/$name.kept"
 done
-replaces "$cases"/both-forms.in "$work/no" "$cases"/both-forms.file "$cases"/wrong-check.in "$cases"/form-1.in "$cases"/refused-throughout.in
+echo 1 > "$work/one"
+replaces "$cases"/both-forms.in "$work/no" "$cases"/both-forms.file "$cases"/wrong-check.in "$cases"/form-1.in "$cases"/refused-throughout.in "$work/no" "$work/one"
 
 # what was salvaged is salvaged whole; reads of other sizes, from a pipe, change nothing
 program=salvage; cases="$work/salvage"; mkdir "$cases"
@@ -167,7 +200,9 @@ for name in $(python3 tests/cases/salvage_cases.py "$cases"); do
   fresh; mkfifo "$work/reads"; dd if="$cases/$name.in" of="$work/reads" bs=709 2> /dev/null & makes "$work/reads" file; wait; rm "$work/reads"
   did "$name, from a pipe" "$cases/$name.out" "" file "$cases/$name.file"
 done
-replaces "$cases"/both-forms.in "$cases"/both-forms.out "$cases"/both-forms.file "$cases"/both-forms.in "$cases"/no-damage.in "$cases"/lost-in-every-block.in
+echo "TOTAL 0 0" > "$work/total"; printf '0 7\nTOTAL 0 7\n' > "$work/seven"
+replaces "$cases"/both-forms.in "$cases"/both-forms.out "$cases"/both-forms.file "$cases"/both-forms.in "$cases"/no-damage.in "$cases"/lost-in-every-block.in \
+  "$work/total" "$work/seven"
 
 # a read that fails after some parts: their runs are told, in order, no TOTAL follows, and the file is as it was
 old; input="$cases/lost-in-every-block.in"; fails="$PWD/tests/programs/failing_input.py"

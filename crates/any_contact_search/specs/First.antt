@@ -12,7 +12,7 @@ use Rattle.model.specs.Text.{decimal}
 use Rattle.model.specs.Sheet.{answers}
 use Rattle.model.specs.Counted.{printedLetter}
 
--- H and O are contact; S is clear, and F is no verdict
+-- H and O are contact; S counts as clear, and F is no verdict
 abbrev pub touches : Status → Bool
 touches Overlapped = true
 touches Hit = true

@@ -24,7 +24,7 @@ pub struct Searched {
     pub over: bool,
 }
 
-// H and O are contact; S is clear, and F is no verdict.
+// H and O are contact; S counts as clear, and F is no verdict.
 fn touching(status: Status) -> bool
     ensures { λ r. ⌜ r ≡ touches status ⌝ }
 {

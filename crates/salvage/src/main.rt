@@ -105,7 +105,7 @@ fn replace(name: &[u8], beside: &mut [u8]) {
         return;
     }
     if tell_total(turned.left, walk) {
-        outfile::put_in_place(name, beside);
+        outfile::put_in_place(name, beside, fd);
     } else {
         outfile::abandon(beside);
     }
