@@ -239,7 +239,7 @@ class Gen:
 
     # ---- files
     def model(self):
-        src = ['// Written by tests/written/wide.py from model: the records that hold floats, in f64. The others are model\'s.']
+        src = ['// The records of model that hold floats, in f64. The others are model\'s.']
         used = set()
         body = []
         for n, (text, ws) in self.decls.items():
@@ -282,8 +282,6 @@ class Gen:
                 for k, v in PATTERNS.items():
                     text = text.replace(k, v)
             text = self.rt(text, name) if f.suffix == '.rt' else self.antt(text, name)
-            if str(rel) == 'src/lib.rt':
-                text = f'// Written by tests/written/wide.py from {name}, in f64.\n' + text
             self.write(f'{name}64/{rel}', text)
 
     def write(self, rel, text):
@@ -297,7 +295,8 @@ class Gen:
             if f == rel:
                 assert text.count(old) == 1, (f, old)
                 text = text.replace(old, new)
-        self.out[rel] = text
+        name = rel.split('64/')[0]
+        self.out[rel] = f"{'--' if rel.endswith('.antt') else '//'} Written by tests/written/wide.py from {name}, in f64.\n" + text
 
     def run(self):
         for c in CRATES:

@@ -45,13 +45,13 @@ fn next_part(before: u64) -> Step {
     search_part(&buffer[..n], before)
 }
 
-// A proved loop has to end, and nothing says that the input does: so the turns are counted, to a number that no run reaches.
+// A proved loop has to end, and nothing says that the input does: so the reads are counted, to a number that no run reaches.
 fn main() {
     if !streams::no_argument(b"any_contact") {
         return;
     }
     let mut before = 0u64;
-    for turn in 0..u64::MAX {
+    for reads in 0..u64::MAX {
         let step = next_part(before);
         before = step.blocks;
         if !step.more {

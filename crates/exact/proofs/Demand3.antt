@@ -17,7 +17,7 @@ use Rattle.model.specs.declared.ProxyDistanceOutput.{ProxyDistanceOutput}
 use Rattle.model.specs.declared.DistanceAnswer.the-variants.{Measured, Refused}
 use Rattle.model.specs.declared.WitnessPoints.{WitnessPoints}
 use Rattle.model.specs.Distance.{cache, replaced, written, measuredBy, cacheBy, measure, rounds, witnessPoints, distanceBy, distanceRefusal, proxyDistance}
-use Rattle.plane.specs.Outline.{SpansNearestPlace}
+use Rattle.exact.specs.Shared.{SpansNearestPlace}
 use Rattle.exact.specs.SquaredPaper.{SquaredPaper, outlineA, posedB, IsCache, Room, boundOf, Exact, Demand3, Answered}
 use Rattle.exact.proofs.Below.{below1, below2, below3}
 use Rattle.exact.proofs.Paper.{InDomain}

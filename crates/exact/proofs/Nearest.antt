@@ -9,7 +9,8 @@ use Rattle.integers.specs.Polynomial.{var, _:+_, _:-_, _:*_, negated}
 use Rattle.integers.proofs.Signed.{⊠-neg, ⊠-zero, ⊠-nonneg, ⊠-cong, ⊠-cong-r, ⊠-square, ⊠-pos, ⊠-nonneg-back, ⊠-pos-back}
 use Rattle.integers.proofs.Ring.{ring}
 use Rattle.plane.specs.Plane.{Point, difference, opposite, scaled, dot, total, sumBelow, weightedSum}
-use Rattle.plane.specs.Outline.{Outline, PointOf, divisor, dividend, SharesPoint, gap, NoneNearer}
+use Rattle.plane.specs.Outline.{Outline, PointOf, divisor, dividend, gap}
+use Rattle.exact.specs.Shared.{SharesPoint, NoneNearer}
 use Rattle.exact.proofs.Kept.{Kept, Covered, dot-cong}
 use Rattle.plane.proofs.Weights.{⊠-mono, dot-of-sum, sum-at-most, sum-at-least, sum-of-differences, onCorners, moved-to-corners}
 

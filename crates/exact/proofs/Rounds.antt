@@ -28,7 +28,7 @@ use Rattle.model.specs.Simplex.{slot, solved, solve}
 use Rattle.model.specs.Distance.{cache, allBelow, held, blank, vertex, cached, fromCache, startSimplex, startCount, supportA, supportB, ended, touches}
 use Rattle.model.specs.Distance.{extended, roundsFrom, rounds}
 use Rattle.plane.specs.Plane.{Point, dot, total}
-use Rattle.plane.specs.Outline.{SharesPoint, NoneNearer}
+use Rattle.exact.specs.Shared.{SharesPoint, NoneNearer}
 use Rattle.exact.specs.SquaredPaper.{SquaredPaper, Room, outlineA, posedB}
 use Rattle.exact.proofs.Below.{below1, below2, below3}
 use Rattle.exact.proofs.Vectors.{SizedPoint}

@@ -17,7 +17,8 @@ use Rattle.model.specs.declared.Ending.the-variants.{Touching, Settled, RoundLi
 use Rattle.model.specs.Distance.{allBelow}
 use Rattle.plane.specs.Plane.{dot, total}
 use Rattle.plane.specs.Fraction.{Place, _≈_}
-use Rattle.plane.specs.Outline.{Outline, PointOf, divisor, SharesPoint, SpansNearestPlace}
+use Rattle.plane.specs.Outline.{Outline, PointOf, divisor}
+use Rattle.exact.specs.Shared.{SharesPoint, SpansNearestPlace}
 use Rattle.exact.specs.SquaredPaper.{Exact}
 use Rattle.exchange.specs.Exchange.{differenceOf, NearestDifference, spanned, originPlace, Tells}
 use Rattle.plane.proofs.Weights.{onCorners, moved-to-corners}

@@ -1,3 +1,4 @@
+-- Written by tests/written/wide.py from fields, in f64.
 -- How long the floats of a contact get. Assumes nothing.
 use Prim.Native.Nat.{_≤_}
 use native.Mathlib.Omega.{arith}

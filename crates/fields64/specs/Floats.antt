@@ -1,3 +1,4 @@
+-- Written by tests/written/wide.py from fields, in f64.
 -- The floats of a contact as text.
 use Prim.Native.Nat.{ℕ}
 use mathlib.Core.List.{List, [], _∷_, _++_}

@@ -1,3 +1,4 @@
+-- Written by tests/written/wide.py from list_calls, in f64.
 -- What the sweep and the distance call over lists answer, and what they leave in the lists that they were lent. A list of the wrong length is told by 255, and nothing is written.
 use mathlib.Core.Path.{_≡_}
 use Prim.Native.Nat.{ℕ, _+_, _*_}

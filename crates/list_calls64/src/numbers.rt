@@ -1,3 +1,4 @@
+// Written by tests/written/wide.py from list_calls, in f64.
 // The records that lists of numbers stand for, and the distance call on them.
 use model::SimplexCache;
 use model64::Distance;

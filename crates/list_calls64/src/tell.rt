@@ -1,3 +1,4 @@
+// Written by tests/written/wide.py from list_calls, in f64.
 // Answers, told by a number and by what is written into lent lists.
 use model::Corners;
 use model::Counts;

@@ -1,3 +1,4 @@
+-- Written by tests/written/wide.py from model, in f64.
 -- What a distance call does with its cache, and how long it takes. P below says of a vertex what no weight changes. Assumes nothing.
 use Prim.Native.Nat.{ℕ, zero, suc, _+_, _/_, _%_, _≤_, _<_}
 use native.Mathlib.Omega.{arith}

@@ -1,3 +1,4 @@
+-- Written by tests/written/wide.py from model, in f64.
 -- The corners that a sweep tells are those of the last search that its count of searches counts, and nothing else of its answer moves: the searches are
 -- as many as the answer counts, and of each the first corners are those of the least separation. Assumes nothing.
 use Prim.Native.Nat.{ℕ, zero, suc, _+_, _-_}

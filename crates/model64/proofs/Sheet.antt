@@ -1,3 +1,4 @@
+-- Written by tests/written/wide.py from model, in f64.
 -- The whole run, block by block and part by part: each line comes from its own number and its own 512 bytes, a file worked in parts has the text
 -- of the whole, and every block is clear, contact, undecided or refused. Assumes nothing.
 use mathlib.Core.Path.{_≡_, refl, sym, ap, _∙_}

@@ -1,3 +1,4 @@
+-- Written by tests/written/wide.py from model, in f64.
 -- What a solve keeps: of the vertices that it was given one, two or three, each as it was but for its weight. Assumes nothing.
 use Prim.Native.Nat.{ℕ, _+_, _≤_, _<_}
 use native.Mathlib.Omega.{arith}

@@ -1,3 +1,4 @@
+-- Written by tests/written/wide.py from model, in f64.
 -- The printed sheet. A file's answers are one for each of its blocks; its lines and its totals are folds of that list, and the text is both.
 use Prim.Native.Nat.{ℕ, _+_}
 use mathlib.Core.Bool.{Bool, cond}

@@ -1,3 +1,4 @@
+-- Written by tests/written/wide.py from model, in f64.
 -- From a block to its answer: its floats, the sweep that they ask for, and what the sweep's answer comes to.
 use Prim.Native.Nat.{ℕ, zero, suc, _+_, _*_}
 use mathlib.Core.List.{List, [], _∷_}

@@ -1,4 +1,5 @@
-// Written by tests/written/wide.py from model: the records that hold floats, in f64. The others are model's.
+// Written by tests/written/wide.py from model, in f64.
+// The records of model that hold floats, in f64. The others are model's.
 use model::Corners;
 use model::Counts;
 use model::Ending;

@@ -51,7 +51,7 @@ fn next_part(held: Held, out: &mut [u8], err: &mut [u8]) -> Step {
     }
 }
 
-// A proved loop has to end, and nothing says that the input does: so the turns are counted, to a number that no run reaches.
+// A proved loop has to end, and nothing says that the input does: so the reads are counted, to a number that no run reaches.
 fn main() {
     if !streams::no_argument(b"pack") {
         return;
@@ -59,7 +59,7 @@ fn main() {
     let mut out = io::large_buffer();
     let mut err = io::large_buffer();
     let mut held = pack_lines::no_line();
-    for turn in 0..u64::MAX {
+    for reads in 0..u64::MAX {
         let step = next_part(held, &mut out, &mut err);
         let line = step.held;
         held = line;

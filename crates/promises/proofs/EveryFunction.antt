@@ -29,6 +29,21 @@ use Rattle.sweep_numbers.proofs as sweep_numbers
 use Rattle.work.proofs as work
 use Rattle.fields.proofs as fields
 use Rattle.sheet_lines.proofs as sheet_lines
+use Rattle.any_contact_search.proofs as any_contact_search
+use Rattle.convert_forms.proofs as convert_forms
+use Rattle.salvage_walk.proofs as salvage_walk
+use Rattle.job_text.proofs as job_text
+use Rattle.pack_lines.proofs as pack_lines
+use Rattle.unpack_blocks.proofs as unpack_blocks
+use Rattle.report_counts.proofs as report_counts
+use Rattle.report_lines.proofs as report_lines
+use Rattle.report_batches.proofs as report_batches
+use Rattle.route_legs.proofs as route_legs
+use Rattle.route_line.proofs as route_line
+use Rattle.route_read.proofs as route_read
+use Rattle.route_text.proofs as route_text
+use Rattle.list_calls.proofs as list_calls
+use Rattle.foldflake.proofs as foldflake
 use Rattle.root64.proofs as root64
 use Rattle.ground64.proofs as ground64
 use Rattle.domain64.proofs as domain64
@@ -41,30 +56,15 @@ use Rattle.sweep_numbers64.proofs as sweep_numbers64
 use Rattle.work64.proofs as work64
 use Rattle.fields64.proofs as fields64
 use Rattle.sheet_lines64.proofs as sheet_lines64
-use Rattle.any_contact_search.proofs as any_contact_search
-use Rattle.forms.proofs as forms
-use Rattle.salvaging.proofs as salvaging
-use Rattle.job_text.proofs as job_text
-use Rattle.pack_lines.proofs as pack_lines
-use Rattle.unpack_blocks.proofs as unpack_blocks
-use Rattle.report_counts.proofs as report_counts
-use Rattle.report_lines.proofs as report_lines
-use Rattle.report_batches.proofs as report_batches
-use Rattle.route_legs.proofs as route_legs
-use Rattle.route_line.proofs as route_line
-use Rattle.route_read.proofs as route_read
-use Rattle.route_text.proofs as route_text
-use Rattle.list_calls.proofs as list_calls
 use Rattle.list_calls64.proofs as list_calls64
-use Rattle.foldflake.proofs as foldflake
 use Rattle.toi_proxy.specs.declared.ToiProxy.{ToiProxy}
 use Rattle.sheet_lines.specs.declared.part.Written.{Written}
-use Rattle.sheet_lines64.specs.declared.part.Written.{Written as Written64}
-use Rattle.forms.specs.declared.Converted.{Converted}
-use Rattle.salvaging.specs.declared.Salvaged.{Salvaged}
+use Rattle.convert_forms.specs.declared.Converted.{Converted}
+use Rattle.salvage_walk.specs.declared.Salvaged.{Salvaged}
 use Rattle.job_text.specs.declared.job.Built.{Built}
 use Rattle.pack_lines.specs.declared.Packed.{Packed}
 use Rattle.unpack_blocks.specs.declared.Unpacked.{Unpacked}
+use Rattle.sheet_lines64.specs.declared.part.Written.{Written as Written64}
 
 -- `ToiProxy`, where a contract tells its parts
 toi-proxy-by-parts : {x y : ToiProxy} → x .points ≡ y .points → x .radius ≡ y .radius → x ≡ y
@@ -73,10 +73,6 @@ toi-proxy-by-parts p0 p1 = λ i. record { points = p0 i; radius = p1 i }
 -- `Written`, where a contract tells its parts
 written-by-parts : {x y : Written} → x .at ≡ y .at → x .totals ≡ y .totals → x .last ≡ y .last → x ≡ y
 written-by-parts p0 p1 p2 = λ i. record { at = p0 i; totals = p1 i; last = p2 i }
-
--- `Written64`, where a contract tells its parts
-written64-by-parts : {x y : Written64} → x .at ≡ y .at → x .totals ≡ y .totals → x .last ≡ y .last → x ≡ y
-written64-by-parts p0 p1 p2 = λ i. record { at = p0 i; totals = p1 i; last = p2 i }
 
 -- `Converted`, where a contract tells its parts
 converted-by-parts : {x y : Converted} → x .file ≡ y .file → x .text ≡ y .text → x .blocks ≡ y .blocks → x .last ≡ y .last → x ≡ y
@@ -97,6 +93,10 @@ packed-by-parts p0 p1 p2 = λ i. record { held = p0 i; at = p1 i; told = p2 i }
 -- `Unpacked`, where a contract tells its parts
 unpacked-by-parts : {x y : Unpacked} → x .blocks ≡ y .blocks → x .at ≡ y .at → x .told ≡ y .told → x ≡ y
 unpacked-by-parts p0 p1 p2 = λ i. record { blocks = p0 i; at = p1 i; told = p2 i }
+
+-- `Written64`, where a contract tells its parts
+written64-by-parts : {x y : Written64} → x .at ≡ y .at → x .totals ≡ y .totals → x .last ≡ y .last → x ≡ y
+written64-by-parts p0 p1 p2 = λ i. record { at = p0 i; totals = p1 i; last = p2 i }
 
 module _ {M : Type 1} (𝓤 : URA M) (H : Heap 𝓤) (A : Atoms 𝓤) (mem : Memory → SProp 𝓤) (run : Routine → Fun 𝓤) where
   -- ---- root_list
@@ -735,6 +735,371 @@ module _ {M : Type 1} (𝓤 : URA M) (H : Heap 𝓤) (A : Atoms 𝓤) (mem : Mem
     once = λ κs a g r r' v v'. told-in-two 𝓤 (λ p q. (search (same-value, written-by-parts), each-list sheet_lines.write_part.ended κs a v v' (search same-value depth 12)));
   }
 
+  -- ---- any_contact_search
+  pub any-contact-search-search-part : OneResult 𝓤 H A any_contact_search.search_part.ended (any_contact_search.search_part.spec 𝓤 H A mem run)
+  any-contact-search-search-part = record {
+    clauses = any_contact_search.search_part.clauses 𝓤 H A mem run;
+    of-contract = refl;
+    once = λ κs a g r r' v v'. told 𝓤 (λ p q. (search same-value, refl));
+  }
+
+  pub any-contact-search-write-found : OneResult 𝓤 H A any_contact_search.write_found.ended (any_contact_search.write_found.spec 𝓤 H A mem run)
+  any-contact-search-write-found = record {
+    clauses = any_contact_search.write_found.clauses 𝓤 H A mem run;
+    of-contract = refl;
+    once = λ κs a g r r' v v'. told 𝓤 (λ p q. (search same-value, each-list any_contact_search.write_found.ended κs a v v' (search same-value depth 12)));
+  }
+
+  -- ---- convert_forms
+  pub convert-forms-convert-part : OneResult 𝓤 H A convert_forms.convert_part.ended (convert_forms.convert_part.spec 𝓤 H A mem run)
+  convert-forms-convert-part = record {
+    clauses = convert_forms.convert_part.clauses 𝓤 H A mem run;
+    of-contract = refl;
+    once = λ κs a g r r' v v'. told-in-two 𝓤 (λ p q. (search (same-value, converted-by-parts), each-list convert_forms.convert_part.ended κs a v v' (search same-value depth 12)));
+  }
+
+  -- ---- salvage_walk
+  pub salvage-walk-salvage-part : OneResult 𝓤 H A salvage_walk.salvage_part.ended (salvage_walk.salvage_part.spec 𝓤 H A mem run)
+  salvage-walk-salvage-part = record {
+    clauses = salvage_walk.salvage_part.clauses 𝓤 H A mem run;
+    of-contract = refl;
+    once = λ κs a g r r' v v'. told 𝓤 (λ p q. (search (same-value, salvaged-by-parts), each-list salvage_walk.salvage_part.ended κs a v v' (search same-value depth 12)));
+  }
+
+  pub salvage-walk-tell-last-run : OneResult 𝓤 H A salvage_walk.tell_last_run.ended (salvage_walk.tell_last_run.spec 𝓤 H A mem run)
+  salvage-walk-tell-last-run = record {
+    clauses = salvage_walk.tell_last_run.clauses 𝓤 H A mem run;
+    of-contract = refl;
+    once = λ κs a g r r' v v'. told 𝓤 (λ p q. (search same-value, each-list salvage_walk.tell_last_run.ended κs a v v' (search same-value depth 12)));
+  }
+
+  pub salvage-walk-tell-total : OneResult 𝓤 H A salvage_walk.tell_total.ended (salvage_walk.tell_total.spec 𝓤 H A mem run)
+  salvage-walk-tell-total = record {
+    clauses = salvage_walk.tell_total.clauses 𝓤 H A mem run;
+    of-contract = refl;
+    once = λ κs a g r r' v v'. told 𝓤 (λ p q. (search same-value, each-list salvage_walk.tell_total.ended κs a v v' (search same-value depth 12)));
+  }
+
+  -- ---- job_text
+  pub job-text-check-plain : OneResult 𝓤 H A job_text.check_plain.ended (job_text.check_plain.spec 𝓤 H A mem run)
+  job-text-check-plain = record {
+    clauses = job_text.check_plain.clauses 𝓤 H A mem run;
+    of-contract = refl;
+    once = λ κs a g r r' v v'. told 𝓤 (λ p q. (search same-value, refl));
+  }
+
+  pub job-text-job-block : OneResult 𝓤 H A job_text.job_block.ended (job_text.job_block.spec 𝓤 H A mem run)
+  job-text-job-block = record {
+    clauses = job_text.job_block.clauses 𝓤 H A mem run;
+    of-contract = refl;
+    once = λ κs a g r r' v v'. told 𝓤 (λ p q. (search (same-value, built-by-parts), refl));
+  }
+
+  pub job-text-least : OneResult 𝓤 H A job_text.least.ended (job_text.least.spec 𝓤 H A mem run)
+  job-text-least = record {
+    clauses = job_text.least.clauses 𝓤 H A mem run;
+    of-contract = refl;
+    once = λ κs a g r r' v v'. told 𝓤 (λ p q. (search same-value, refl));
+  }
+
+  pub job-text-put-job : OneResult 𝓤 H A job_text.put_job.ended (job_text.put_job.spec 𝓤 H A mem run)
+  job-text-put-job = record {
+    clauses = job_text.put_job.clauses 𝓤 H A mem run;
+    of-contract = refl;
+    once = λ κs a g r r' v v'. told 𝓤 (λ p q. (search same-value, each-list job_text.put_job.ended κs a v v' (search same-value depth 12)));
+  }
+
+  pub job-text-put-refusal : OneResult 𝓤 H A job_text.put_refusal.ended (job_text.put_refusal.spec 𝓤 H A mem run)
+  job-text-put-refusal = record {
+    clauses = job_text.put_refusal.clauses 𝓤 H A mem run;
+    of-contract = refl;
+    once = λ κs a g r r' v v'. told 𝓤 (λ p q. (search same-value, each-list job_text.put_refusal.ended κs a v v' (search same-value depth 12)));
+  }
+
+  pub job-text-tell-refusal : OneResult 𝓤 H A job_text.tell_refusal.ended (job_text.tell_refusal.spec 𝓤 H A mem run)
+  job-text-tell-refusal = record {
+    clauses = job_text.tell_refusal.clauses 𝓤 H A mem run;
+    of-contract = refl;
+    once = λ κs a g r r' v v'. told 𝓤 (λ p q. (search same-value, each-list job_text.tell_refusal.ended κs a v v' (search same-value depth 12)));
+  }
+
+  pub job-text-used-of : OneResult 𝓤 H A job_text.used_of.ended (job_text.used_of.spec 𝓤 H A mem run)
+  job-text-used-of = record {
+    clauses = job_text.used_of.clauses 𝓤 H A mem run;
+    of-contract = refl;
+    once = λ κs a g r r' v v'. told 𝓤 (λ p q. (search same-value, refl));
+  }
+
+  -- ---- pack_lines
+  pub pack-lines-no-line : OneResult 𝓤 H A pack_lines.no_line.ended (pack_lines.no_line.spec 𝓤 H A mem run)
+  pack-lines-no-line = record {
+    clauses = pack_lines.no_line.clauses 𝓤 H A mem run;
+    of-contract = refl;
+    once = λ κs a g r r' v v'. told 𝓤 (λ p q. (search same-value, refl));
+  }
+
+  pub pack-lines-pack-part : OneResult 𝓤 H A pack_lines.pack_part.ended (pack_lines.pack_part.spec 𝓤 H A mem run)
+  pack-lines-pack-part = record {
+    clauses = pack_lines.pack_part.clauses 𝓤 H A mem run;
+    of-contract = refl;
+    once = λ κs a g r r' v v'. told-in-two 𝓤 (λ p q. (search (same-value, packed-by-parts), each-list pack_lines.pack_part.ended κs a v v' (search same-value depth 12)));
+  }
+
+  pub pack-lines-tell-last : OneResult 𝓤 H A pack_lines.tell_last.ended (pack_lines.tell_last.spec 𝓤 H A mem run)
+  pack-lines-tell-last = record {
+    clauses = pack_lines.tell_last.clauses 𝓤 H A mem run;
+    of-contract = refl;
+    once = λ κs a g r r' v v'. told 𝓤 (λ p q. (search same-value, each-list pack_lines.tell_last.ended κs a v v' (search same-value depth 12)));
+  }
+
+  -- ---- unpack_blocks
+  pub unpack-blocks-tell-rest : OneResult 𝓤 H A unpack_blocks.tell_rest.ended (unpack_blocks.tell_rest.spec 𝓤 H A mem run)
+  unpack-blocks-tell-rest = record {
+    clauses = unpack_blocks.tell_rest.clauses 𝓤 H A mem run;
+    of-contract = refl;
+    once = λ κs a g r r' v v'. told 𝓤 (λ p q. (search same-value, each-list unpack_blocks.tell_rest.ended κs a v v' (search same-value depth 12)));
+  }
+
+  pub unpack-blocks-unpack-part : OneResult 𝓤 H A unpack_blocks.unpack_part.ended (unpack_blocks.unpack_part.spec 𝓤 H A mem run)
+  unpack-blocks-unpack-part = record {
+    clauses = unpack_blocks.unpack_part.clauses 𝓤 H A mem run;
+    of-contract = refl;
+    once = λ κs a g r r' v v'. told-in-two 𝓤 (λ p q. (search (same-value, unpacked-by-parts), each-list unpack_blocks.unpack_part.ended κs a v v' (search same-value depth 12)));
+  }
+
+  -- ---- report_counts
+  pub report-counts-counted : OneResult 𝓤 H A report_counts.counted.ended (report_counts.counted.spec 𝓤 H A mem run)
+  report-counts-counted = record {
+    clauses = report_counts.counted.clauses 𝓤 H A mem run;
+    of-contract = refl;
+    once = λ κs a g r r' v v'. told 𝓤 (λ p q. (search same-value, refl));
+  }
+
+  pub report-counts-empty : OneResult 𝓤 H A report_counts.empty.ended (report_counts.empty.spec 𝓤 H A mem run)
+  report-counts-empty = record {
+    clauses = report_counts.empty.clauses 𝓤 H A mem run;
+    of-contract = refl;
+    once = λ κs a g r r' v v'. told 𝓤 (λ p q. (search same-value, refl));
+  }
+
+  pub report-counts-merge : OneResult 𝓤 H A report_counts.merge.ended (report_counts.merge.spec 𝓤 H A mem run)
+  report-counts-merge = record {
+    clauses = report_counts.merge.clauses 𝓤 H A mem run;
+    of-contract = refl;
+    once = λ κs a g r r' v v'. told 𝓤 (λ p q. (search same-value, refl));
+  }
+
+  pub report-counts-opened : OneResult 𝓤 H A report_counts.opened.ended (report_counts.opened.spec 𝓤 H A mem run)
+  report-counts-opened = record {
+    clauses = report_counts.opened.clauses 𝓤 H A mem run;
+    of-contract = refl;
+    once = λ κs a g r r' v v'. told 𝓤 (λ p q. (search same-value, refl));
+  }
+
+  -- ---- report_lines
+  pub report-lines-write-report : OneResult 𝓤 H A report_lines.write_report.ended (report_lines.write_report.spec 𝓤 H A mem run)
+  report-lines-write-report = record {
+    clauses = report_lines.write_report.clauses 𝓤 H A mem run;
+    of-contract = refl;
+    once = λ κs a g r r' v v'. told 𝓤 (λ p q. (search same-value, each-list report_lines.write_report.ended κs a v v' (search same-value depth 12)));
+  }
+
+  -- ---- report_batches
+  pub report-batches-add-part : OneResult 𝓤 H A report_batches.add_part.ended (report_batches.add_part.spec 𝓤 H A mem run)
+  report-batches-add-part = record {
+    clauses = report_batches.add_part.clauses 𝓤 H A mem run;
+    of-contract = refl;
+    once = λ κs a g r r' v v'. told 𝓤 (λ p q. (search same-value, refl));
+  }
+
+  pub report-batches-report-batches : OneResult 𝓤 H A report_batches.report_batches.ended (report_batches.report_batches.spec 𝓤 H A mem run)
+  report-batches-report-batches = record {
+    clauses = report_batches.report_batches.clauses 𝓤 H A mem run;
+    of-contract = refl;
+    once = λ κs a g r r' v v'. told 𝓤 (λ p q. (search same-value, refl));
+  }
+
+  -- ---- route_legs
+  pub route-legs-route : OneResult 𝓤 H A route_legs.route.ended (route_legs.route.spec 𝓤 H A mem run)
+  route-legs-route = record {
+    clauses = route_legs.route.clauses 𝓤 H A mem run;
+    of-contract = refl;
+    once = λ κs a g r r' v v'. told 𝓤 (λ p q. (search same-value, refl));
+  }
+
+  -- ---- route_line
+  pub route-line-is-route : OneResult 𝓤 H A route_line.is_route.ended (route_line.is_route.spec 𝓤 H A mem run)
+  route-line-is-route = record {
+    clauses = route_line.is_route.clauses 𝓤 H A mem run;
+    of-contract = refl;
+    once = λ κs a g r r' v v'. told 𝓤 (λ p q. (search same-value, refl));
+  }
+
+  pub route-line-line-after : OneResult 𝓤 H A route_line.line_after.ended (route_line.line_after.spec 𝓤 H A mem run)
+  route-line-line-after = record {
+    clauses = route_line.line_after.clauses 𝓤 H A mem run;
+    of-contract = refl;
+    once = λ κs a g r r' v v'. told 𝓤 (λ p q. (search same-value, refl));
+  }
+
+  -- ---- route_read
+  pub route-read-next-line : OneResult 𝓤 H A route_read.next_line.ended (route_read.next_line.spec 𝓤 H A mem run)
+  route-read-next-line = record {
+    clauses = route_read.next_line.clauses 𝓤 H A mem run;
+    of-contract = refl;
+    once = λ κs a g r r' v v'. told 𝓤 (λ p q. (search same-value, refl));
+  }
+
+  pub route-read-no-text : OneResult 𝓤 H A route_read.no_text.ended (route_read.no_text.spec 𝓤 H A mem run)
+  route-read-no-text = record {
+    clauses = route_read.no_text.clauses 𝓤 H A mem run;
+    of-contract = refl;
+    once = λ κs a g r r' v v'. told 𝓤 (λ p q. (search same-value, refl));
+  }
+
+  pub route-read-read-part : OneResult 𝓤 H A route_read.read_part.ended (route_read.read_part.spec 𝓤 H A mem run)
+  route-read-read-part = record {
+    clauses = route_read.read_part.clauses 𝓤 H A mem run;
+    of-contract = refl;
+    once = λ κs a g r r' v v'. told 𝓤 (λ p q. (search same-value, each-list route_read.read_part.ended κs a v v' (search same-value depth 12)));
+  }
+
+  -- ---- route_text
+  pub route-text-write-answer : OneResult 𝓤 H A route_text.write_answer.ended (route_text.write_answer.spec 𝓤 H A mem run)
+  route-text-write-answer = record {
+    clauses = route_text.write_answer.clauses 𝓤 H A mem run;
+    of-contract = refl;
+    once = λ κs a g r r' v v'. told 𝓤 (λ p q. (search same-value, each-list route_text.write_answer.ended κs a v v' (search same-value depth 12)));
+  }
+
+  -- ---- list_calls
+  pub list-calls-distance-call : OneResult 𝓤 H A list_calls.distance_call.ended (list_calls.distance_call.spec 𝓤 H A mem run)
+  list-calls-distance-call = record {
+    clauses = list_calls.distance_call.clauses 𝓤 H A mem run;
+    of-contract = refl;
+    once = λ κs a g r r' v v'. told 𝓤 (λ p q. (search same-value, each-list list_calls.distance_call.ended κs a v v' (search same-value depth 12)));
+  }
+
+  pub list-calls-pose-of : OneResult 𝓤 H A list_calls.pose_of.ended (list_calls.pose_of.spec 𝓤 H A mem run)
+  list-calls-pose-of = record {
+    clauses = list_calls.pose_of.clauses 𝓤 H A mem run;
+    of-contract = refl;
+    once = λ κs a g r r' v v'. told 𝓤 (λ p q. (search same-value, refl));
+  }
+
+  pub list-calls-put-contact : OneResult 𝓤 H A list_calls.put_contact.ended (list_calls.put_contact.spec 𝓤 H A mem run)
+  list-calls-put-contact = record {
+    clauses = list_calls.put_contact.clauses 𝓤 H A mem run;
+    of-contract = refl;
+    once = λ κs a g r r' v v'. told 𝓤 (λ p q. (search same-value, each-list list_calls.put_contact.ended κs a v v' (search same-value depth 12)));
+  }
+
+  pub list-calls-sweep-call : OneResult 𝓤 H A list_calls.sweep_call.ended (list_calls.sweep_call.spec 𝓤 H A mem run)
+  list-calls-sweep-call = record {
+    clauses = list_calls.sweep_call.clauses 𝓤 H A mem run;
+    of-contract = refl;
+    once = λ κs a g r r' v v'. told 𝓤 (λ p q. (search same-value, each-list list_calls.sweep_call.ended κs a v v' (search same-value depth 12)));
+  }
+
+  -- ---- foldflake
+  pub foldflake-foldflake-bar : OneResult 𝓤 H A foldflake.foldflake_bar.ended (foldflake.foldflake_bar.spec 𝓤 H A mem run)
+  foldflake-foldflake-bar = record {
+    clauses = foldflake.foldflake_bar.clauses 𝓤 H A mem run;
+    of-contract = refl;
+    once = λ κs a g r r' v v'. told 𝓤 (λ p q. (search same-value, each-list foldflake.foldflake_bar.ended κs a v v' (search same-value depth 12)));
+  }
+
+  pub foldflake-foldflake-distance : OneResult 𝓤 H A foldflake.foldflake_distance.ended (foldflake.foldflake_distance.spec 𝓤 H A mem run)
+  foldflake-foldflake-distance = record {
+    clauses = foldflake.foldflake_distance.clauses 𝓤 H A mem run;
+    of-contract = refl;
+    once = λ κs a g r r' v v'. told 𝓤 (λ p q. (search same-value, each-list foldflake.foldflake_distance.ended κs a v v' (search same-value depth 12)));
+  }
+
+  pub foldflake-foldflake-distance64 : OneResult 𝓤 H A foldflake.foldflake_distance64.ended (foldflake.foldflake_distance64.spec 𝓤 H A mem run)
+  foldflake-foldflake-distance64 = record {
+    clauses = foldflake.foldflake_distance64.clauses 𝓤 H A mem run;
+    of-contract = refl;
+    once = λ κs a g r r' v v'. told 𝓤 (λ p q. (search same-value, each-list foldflake.foldflake_distance64.ended κs a v v' (search same-value depth 12)));
+  }
+
+  pub foldflake-foldflake-gap : OneResult 𝓤 H A foldflake.foldflake_gap.ended (foldflake.foldflake_gap.spec 𝓤 H A mem run)
+  foldflake-foldflake-gap = record {
+    clauses = foldflake.foldflake_gap.clauses 𝓤 H A mem run;
+    of-contract = refl;
+    once = λ κs a g r r' v v'. told 𝓤 (λ p q. (search same-value, each-list foldflake.foldflake_gap.ended κs a v v' (search same-value depth 12)));
+  }
+
+  pub foldflake-foldflake-line : OneResult 𝓤 H A foldflake.foldflake_line.ended (foldflake.foldflake_line.spec 𝓤 H A mem run)
+  foldflake-foldflake-line = record {
+    clauses = foldflake.foldflake_line.clauses 𝓤 H A mem run;
+    of-contract = refl;
+    once = λ κs a g r r' v v'. told 𝓤 (λ p q. (search same-value, each-list foldflake.foldflake_line.ended κs a v v' (search same-value depth 12)));
+  }
+
+  pub foldflake-foldflake-placed-bar : OneResult 𝓤 H A foldflake.foldflake_placed_bar.ended (foldflake.foldflake_placed_bar.spec 𝓤 H A mem run)
+  foldflake-foldflake-placed-bar = record {
+    clauses = foldflake.foldflake_placed_bar.clauses 𝓤 H A mem run;
+    of-contract = refl;
+    once = λ κs a g r r' v v'. told 𝓤 (λ p q. (search same-value, each-list foldflake.foldflake_placed_bar.ended κs a v v' (search same-value depth 12)));
+  }
+
+  pub foldflake-foldflake-placed-plate : OneResult 𝓤 H A foldflake.foldflake_placed_plate.ended (foldflake.foldflake_placed_plate.spec 𝓤 H A mem run)
+  foldflake-foldflake-placed-plate = record {
+    clauses = foldflake.foldflake_placed_plate.clauses 𝓤 H A mem run;
+    of-contract = refl;
+    once = λ κs a g r r' v v'. told 𝓤 (λ p q. (search same-value, each-list foldflake.foldflake_placed_plate.ended κs a v v' (search same-value depth 12)));
+  }
+
+  pub foldflake-foldflake-plate : OneResult 𝓤 H A foldflake.foldflake_plate.ended (foldflake.foldflake_plate.spec 𝓤 H A mem run)
+  foldflake-foldflake-plate = record {
+    clauses = foldflake.foldflake_plate.clauses 𝓤 H A mem run;
+    of-contract = refl;
+    once = λ κs a g r r' v v'. told 𝓤 (λ p q. (search same-value, each-list foldflake.foldflake_plate.ended κs a v v' (search same-value depth 12)));
+  }
+
+  pub foldflake-foldflake-pose : OneResult 𝓤 H A foldflake.foldflake_pose.ended (foldflake.foldflake_pose.spec 𝓤 H A mem run)
+  foldflake-foldflake-pose = record {
+    clauses = foldflake.foldflake_pose.clauses 𝓤 H A mem run;
+    of-contract = refl;
+    once = λ κs a g r r' v v'. told 𝓤 (λ p q. (search same-value, each-list foldflake.foldflake_pose.ended κs a v v' (search same-value depth 12)));
+  }
+
+  pub foldflake-foldflake-root : OneResult 𝓤 H A foldflake.foldflake_root.ended (foldflake.foldflake_root.spec 𝓤 H A mem run)
+  foldflake-foldflake-root = record {
+    clauses = foldflake.foldflake_root.clauses 𝓤 H A mem run;
+    of-contract = refl;
+    once = λ κs a g r r' v v'. told 𝓤 (λ p q. (search same-value, refl));
+  }
+
+  pub foldflake-foldflake-root64 : OneResult 𝓤 H A foldflake.foldflake_root64.ended (foldflake.foldflake_root64.spec 𝓤 H A mem run)
+  foldflake-foldflake-root64 = record {
+    clauses = foldflake.foldflake_root64.clauses 𝓤 H A mem run;
+    of-contract = refl;
+    once = λ κs a g r r' v v'. told 𝓤 (λ p q. (search same-value, refl));
+  }
+
+  pub foldflake-foldflake-route : OneResult 𝓤 H A foldflake.foldflake_route.ended (foldflake.foldflake_route.spec 𝓤 H A mem run)
+  foldflake-foldflake-route = record {
+    clauses = foldflake.foldflake_route.clauses 𝓤 H A mem run;
+    of-contract = refl;
+    once = λ κs a g r r' v v'. told 𝓤 (λ p q. (search same-value, each-list foldflake.foldflake_route.ended κs a v v' (search same-value depth 12)));
+  }
+
+  pub foldflake-foldflake-sweep : OneResult 𝓤 H A foldflake.foldflake_sweep.ended (foldflake.foldflake_sweep.spec 𝓤 H A mem run)
+  foldflake-foldflake-sweep = record {
+    clauses = foldflake.foldflake_sweep.clauses 𝓤 H A mem run;
+    of-contract = refl;
+    once = λ κs a g r r' v v'. told 𝓤 (λ p q. (search same-value, each-list foldflake.foldflake_sweep.ended κs a v v' (search same-value depth 12)));
+  }
+
+  pub foldflake-foldflake-sweep64 : OneResult 𝓤 H A foldflake.foldflake_sweep64.ended (foldflake.foldflake_sweep64.spec 𝓤 H A mem run)
+  foldflake-foldflake-sweep64 = record {
+    clauses = foldflake.foldflake_sweep64.clauses 𝓤 H A mem run;
+    of-contract = refl;
+    once = λ κs a g r r' v v'. told 𝓤 (λ p q. (search same-value, each-list foldflake.foldflake_sweep64.ended κs a v v' (search same-value depth 12)));
+  }
+
   -- ---- root64
   pub root64-root : OneResult 𝓤 H A root64.root.ended (root64.root.spec 𝓤 H A mem run)
   root64-root = record {
@@ -1160,272 +1525,6 @@ module _ {M : Type 1} (𝓤 : URA M) (H : Heap 𝓤) (A : Atoms 𝓤) (mem : Mem
     once = λ κs a g r r' v v'. told-in-two 𝓤 (λ p q. (search (same-value, written64-by-parts), each-list sheet_lines64.write_part.ended κs a v v' (search same-value depth 12)));
   }
 
-  -- ---- any_contact_search
-  pub any-contact-search-search-part : OneResult 𝓤 H A any_contact_search.search_part.ended (any_contact_search.search_part.spec 𝓤 H A mem run)
-  any-contact-search-search-part = record {
-    clauses = any_contact_search.search_part.clauses 𝓤 H A mem run;
-    of-contract = refl;
-    once = λ κs a g r r' v v'. told 𝓤 (λ p q. (search same-value, refl));
-  }
-
-  pub any-contact-search-write-found : OneResult 𝓤 H A any_contact_search.write_found.ended (any_contact_search.write_found.spec 𝓤 H A mem run)
-  any-contact-search-write-found = record {
-    clauses = any_contact_search.write_found.clauses 𝓤 H A mem run;
-    of-contract = refl;
-    once = λ κs a g r r' v v'. told 𝓤 (λ p q. (search same-value, each-list any_contact_search.write_found.ended κs a v v' (search same-value depth 12)));
-  }
-
-  -- ---- forms
-  pub forms-convert-part : OneResult 𝓤 H A forms.convert_part.ended (forms.convert_part.spec 𝓤 H A mem run)
-  forms-convert-part = record {
-    clauses = forms.convert_part.clauses 𝓤 H A mem run;
-    of-contract = refl;
-    once = λ κs a g r r' v v'. told-in-two 𝓤 (λ p q. (search (same-value, converted-by-parts), each-list forms.convert_part.ended κs a v v' (search same-value depth 12)));
-  }
-
-  -- ---- salvaging
-  pub salvaging-salvage-part : OneResult 𝓤 H A salvaging.salvage_part.ended (salvaging.salvage_part.spec 𝓤 H A mem run)
-  salvaging-salvage-part = record {
-    clauses = salvaging.salvage_part.clauses 𝓤 H A mem run;
-    of-contract = refl;
-    once = λ κs a g r r' v v'. told 𝓤 (λ p q. (search (same-value, salvaged-by-parts), each-list salvaging.salvage_part.ended κs a v v' (search same-value depth 12)));
-  }
-
-  pub salvaging-tell-last-run : OneResult 𝓤 H A salvaging.tell_last_run.ended (salvaging.tell_last_run.spec 𝓤 H A mem run)
-  salvaging-tell-last-run = record {
-    clauses = salvaging.tell_last_run.clauses 𝓤 H A mem run;
-    of-contract = refl;
-    once = λ κs a g r r' v v'. told 𝓤 (λ p q. (search same-value, each-list salvaging.tell_last_run.ended κs a v v' (search same-value depth 12)));
-  }
-
-  pub salvaging-tell-total : OneResult 𝓤 H A salvaging.tell_total.ended (salvaging.tell_total.spec 𝓤 H A mem run)
-  salvaging-tell-total = record {
-    clauses = salvaging.tell_total.clauses 𝓤 H A mem run;
-    of-contract = refl;
-    once = λ κs a g r r' v v'. told 𝓤 (λ p q. (search same-value, each-list salvaging.tell_total.ended κs a v v' (search same-value depth 12)));
-  }
-
-  -- ---- job_text
-  pub job-text-check-plain : OneResult 𝓤 H A job_text.check_plain.ended (job_text.check_plain.spec 𝓤 H A mem run)
-  job-text-check-plain = record {
-    clauses = job_text.check_plain.clauses 𝓤 H A mem run;
-    of-contract = refl;
-    once = λ κs a g r r' v v'. told 𝓤 (λ p q. (search same-value, refl));
-  }
-
-  pub job-text-job-block : OneResult 𝓤 H A job_text.job_block.ended (job_text.job_block.spec 𝓤 H A mem run)
-  job-text-job-block = record {
-    clauses = job_text.job_block.clauses 𝓤 H A mem run;
-    of-contract = refl;
-    once = λ κs a g r r' v v'. told 𝓤 (λ p q. (search (same-value, built-by-parts), refl));
-  }
-
-  pub job-text-least : OneResult 𝓤 H A job_text.least.ended (job_text.least.spec 𝓤 H A mem run)
-  job-text-least = record {
-    clauses = job_text.least.clauses 𝓤 H A mem run;
-    of-contract = refl;
-    once = λ κs a g r r' v v'. told 𝓤 (λ p q. (search same-value, refl));
-  }
-
-  pub job-text-put-job : OneResult 𝓤 H A job_text.put_job.ended (job_text.put_job.spec 𝓤 H A mem run)
-  job-text-put-job = record {
-    clauses = job_text.put_job.clauses 𝓤 H A mem run;
-    of-contract = refl;
-    once = λ κs a g r r' v v'. told 𝓤 (λ p q. (search same-value, each-list job_text.put_job.ended κs a v v' (search same-value depth 12)));
-  }
-
-  pub job-text-put-refusal : OneResult 𝓤 H A job_text.put_refusal.ended (job_text.put_refusal.spec 𝓤 H A mem run)
-  job-text-put-refusal = record {
-    clauses = job_text.put_refusal.clauses 𝓤 H A mem run;
-    of-contract = refl;
-    once = λ κs a g r r' v v'. told 𝓤 (λ p q. (search same-value, each-list job_text.put_refusal.ended κs a v v' (search same-value depth 12)));
-  }
-
-  pub job-text-tell-refusal : OneResult 𝓤 H A job_text.tell_refusal.ended (job_text.tell_refusal.spec 𝓤 H A mem run)
-  job-text-tell-refusal = record {
-    clauses = job_text.tell_refusal.clauses 𝓤 H A mem run;
-    of-contract = refl;
-    once = λ κs a g r r' v v'. told 𝓤 (λ p q. (search same-value, each-list job_text.tell_refusal.ended κs a v v' (search same-value depth 12)));
-  }
-
-  pub job-text-used-of : OneResult 𝓤 H A job_text.used_of.ended (job_text.used_of.spec 𝓤 H A mem run)
-  job-text-used-of = record {
-    clauses = job_text.used_of.clauses 𝓤 H A mem run;
-    of-contract = refl;
-    once = λ κs a g r r' v v'. told 𝓤 (λ p q. (search same-value, refl));
-  }
-
-  -- ---- pack_lines
-  pub pack-lines-no-line : OneResult 𝓤 H A pack_lines.no_line.ended (pack_lines.no_line.spec 𝓤 H A mem run)
-  pack-lines-no-line = record {
-    clauses = pack_lines.no_line.clauses 𝓤 H A mem run;
-    of-contract = refl;
-    once = λ κs a g r r' v v'. told 𝓤 (λ p q. (search same-value, refl));
-  }
-
-  pub pack-lines-pack-part : OneResult 𝓤 H A pack_lines.pack_part.ended (pack_lines.pack_part.spec 𝓤 H A mem run)
-  pack-lines-pack-part = record {
-    clauses = pack_lines.pack_part.clauses 𝓤 H A mem run;
-    of-contract = refl;
-    once = λ κs a g r r' v v'. told-in-two 𝓤 (λ p q. (search (same-value, packed-by-parts), each-list pack_lines.pack_part.ended κs a v v' (search same-value depth 12)));
-  }
-
-  pub pack-lines-tell-last : OneResult 𝓤 H A pack_lines.tell_last.ended (pack_lines.tell_last.spec 𝓤 H A mem run)
-  pack-lines-tell-last = record {
-    clauses = pack_lines.tell_last.clauses 𝓤 H A mem run;
-    of-contract = refl;
-    once = λ κs a g r r' v v'. told 𝓤 (λ p q. (search same-value, each-list pack_lines.tell_last.ended κs a v v' (search same-value depth 12)));
-  }
-
-  -- ---- unpack_blocks
-  pub unpack-blocks-tell-rest : OneResult 𝓤 H A unpack_blocks.tell_rest.ended (unpack_blocks.tell_rest.spec 𝓤 H A mem run)
-  unpack-blocks-tell-rest = record {
-    clauses = unpack_blocks.tell_rest.clauses 𝓤 H A mem run;
-    of-contract = refl;
-    once = λ κs a g r r' v v'. told 𝓤 (λ p q. (search same-value, each-list unpack_blocks.tell_rest.ended κs a v v' (search same-value depth 12)));
-  }
-
-  pub unpack-blocks-unpack-part : OneResult 𝓤 H A unpack_blocks.unpack_part.ended (unpack_blocks.unpack_part.spec 𝓤 H A mem run)
-  unpack-blocks-unpack-part = record {
-    clauses = unpack_blocks.unpack_part.clauses 𝓤 H A mem run;
-    of-contract = refl;
-    once = λ κs a g r r' v v'. told-in-two 𝓤 (λ p q. (search (same-value, unpacked-by-parts), each-list unpack_blocks.unpack_part.ended κs a v v' (search same-value depth 12)));
-  }
-
-  -- ---- report_counts
-  pub report-counts-counted : OneResult 𝓤 H A report_counts.counted.ended (report_counts.counted.spec 𝓤 H A mem run)
-  report-counts-counted = record {
-    clauses = report_counts.counted.clauses 𝓤 H A mem run;
-    of-contract = refl;
-    once = λ κs a g r r' v v'. told 𝓤 (λ p q. (search same-value, refl));
-  }
-
-  pub report-counts-empty : OneResult 𝓤 H A report_counts.empty.ended (report_counts.empty.spec 𝓤 H A mem run)
-  report-counts-empty = record {
-    clauses = report_counts.empty.clauses 𝓤 H A mem run;
-    of-contract = refl;
-    once = λ κs a g r r' v v'. told 𝓤 (λ p q. (search same-value, refl));
-  }
-
-  pub report-counts-merge : OneResult 𝓤 H A report_counts.merge.ended (report_counts.merge.spec 𝓤 H A mem run)
-  report-counts-merge = record {
-    clauses = report_counts.merge.clauses 𝓤 H A mem run;
-    of-contract = refl;
-    once = λ κs a g r r' v v'. told 𝓤 (λ p q. (search same-value, refl));
-  }
-
-  pub report-counts-opened : OneResult 𝓤 H A report_counts.opened.ended (report_counts.opened.spec 𝓤 H A mem run)
-  report-counts-opened = record {
-    clauses = report_counts.opened.clauses 𝓤 H A mem run;
-    of-contract = refl;
-    once = λ κs a g r r' v v'. told 𝓤 (λ p q. (search same-value, refl));
-  }
-
-  -- ---- report_lines
-  pub report-lines-write-report : OneResult 𝓤 H A report_lines.write_report.ended (report_lines.write_report.spec 𝓤 H A mem run)
-  report-lines-write-report = record {
-    clauses = report_lines.write_report.clauses 𝓤 H A mem run;
-    of-contract = refl;
-    once = λ κs a g r r' v v'. told 𝓤 (λ p q. (search same-value, each-list report_lines.write_report.ended κs a v v' (search same-value depth 12)));
-  }
-
-  -- ---- report_batches
-  pub report-batches-add-part : OneResult 𝓤 H A report_batches.add_part.ended (report_batches.add_part.spec 𝓤 H A mem run)
-  report-batches-add-part = record {
-    clauses = report_batches.add_part.clauses 𝓤 H A mem run;
-    of-contract = refl;
-    once = λ κs a g r r' v v'. told 𝓤 (λ p q. (search same-value, refl));
-  }
-
-  pub report-batches-report-batches : OneResult 𝓤 H A report_batches.report_batches.ended (report_batches.report_batches.spec 𝓤 H A mem run)
-  report-batches-report-batches = record {
-    clauses = report_batches.report_batches.clauses 𝓤 H A mem run;
-    of-contract = refl;
-    once = λ κs a g r r' v v'. told 𝓤 (λ p q. (search same-value, refl));
-  }
-
-  -- ---- route_legs
-  pub route-legs-route : OneResult 𝓤 H A route_legs.route.ended (route_legs.route.spec 𝓤 H A mem run)
-  route-legs-route = record {
-    clauses = route_legs.route.clauses 𝓤 H A mem run;
-    of-contract = refl;
-    once = λ κs a g r r' v v'. told 𝓤 (λ p q. (search same-value, refl));
-  }
-
-  -- ---- route_line
-  pub route-line-is-route : OneResult 𝓤 H A route_line.is_route.ended (route_line.is_route.spec 𝓤 H A mem run)
-  route-line-is-route = record {
-    clauses = route_line.is_route.clauses 𝓤 H A mem run;
-    of-contract = refl;
-    once = λ κs a g r r' v v'. told 𝓤 (λ p q. (search same-value, refl));
-  }
-
-  pub route-line-line-after : OneResult 𝓤 H A route_line.line_after.ended (route_line.line_after.spec 𝓤 H A mem run)
-  route-line-line-after = record {
-    clauses = route_line.line_after.clauses 𝓤 H A mem run;
-    of-contract = refl;
-    once = λ κs a g r r' v v'. told 𝓤 (λ p q. (search same-value, refl));
-  }
-
-  -- ---- route_read
-  pub route-read-next-line : OneResult 𝓤 H A route_read.next_line.ended (route_read.next_line.spec 𝓤 H A mem run)
-  route-read-next-line = record {
-    clauses = route_read.next_line.clauses 𝓤 H A mem run;
-    of-contract = refl;
-    once = λ κs a g r r' v v'. told 𝓤 (λ p q. (search same-value, refl));
-  }
-
-  pub route-read-no-text : OneResult 𝓤 H A route_read.no_text.ended (route_read.no_text.spec 𝓤 H A mem run)
-  route-read-no-text = record {
-    clauses = route_read.no_text.clauses 𝓤 H A mem run;
-    of-contract = refl;
-    once = λ κs a g r r' v v'. told 𝓤 (λ p q. (search same-value, refl));
-  }
-
-  pub route-read-read-part : OneResult 𝓤 H A route_read.read_part.ended (route_read.read_part.spec 𝓤 H A mem run)
-  route-read-read-part = record {
-    clauses = route_read.read_part.clauses 𝓤 H A mem run;
-    of-contract = refl;
-    once = λ κs a g r r' v v'. told 𝓤 (λ p q. (search same-value, each-list route_read.read_part.ended κs a v v' (search same-value depth 12)));
-  }
-
-  -- ---- route_text
-  pub route-text-write-answer : OneResult 𝓤 H A route_text.write_answer.ended (route_text.write_answer.spec 𝓤 H A mem run)
-  route-text-write-answer = record {
-    clauses = route_text.write_answer.clauses 𝓤 H A mem run;
-    of-contract = refl;
-    once = λ κs a g r r' v v'. told 𝓤 (λ p q. (search same-value, each-list route_text.write_answer.ended κs a v v' (search same-value depth 12)));
-  }
-
-  -- ---- list_calls
-  pub list-calls-distance-call : OneResult 𝓤 H A list_calls.distance_call.ended (list_calls.distance_call.spec 𝓤 H A mem run)
-  list-calls-distance-call = record {
-    clauses = list_calls.distance_call.clauses 𝓤 H A mem run;
-    of-contract = refl;
-    once = λ κs a g r r' v v'. told 𝓤 (λ p q. (search same-value, each-list list_calls.distance_call.ended κs a v v' (search same-value depth 12)));
-  }
-
-  pub list-calls-pose-of : OneResult 𝓤 H A list_calls.pose_of.ended (list_calls.pose_of.spec 𝓤 H A mem run)
-  list-calls-pose-of = record {
-    clauses = list_calls.pose_of.clauses 𝓤 H A mem run;
-    of-contract = refl;
-    once = λ κs a g r r' v v'. told 𝓤 (λ p q. (search same-value, refl));
-  }
-
-  pub list-calls-put-contact : OneResult 𝓤 H A list_calls.put_contact.ended (list_calls.put_contact.spec 𝓤 H A mem run)
-  list-calls-put-contact = record {
-    clauses = list_calls.put_contact.clauses 𝓤 H A mem run;
-    of-contract = refl;
-    once = λ κs a g r r' v v'. told 𝓤 (λ p q. (search same-value, each-list list_calls.put_contact.ended κs a v v' (search same-value depth 12)));
-  }
-
-  pub list-calls-sweep-call : OneResult 𝓤 H A list_calls.sweep_call.ended (list_calls.sweep_call.spec 𝓤 H A mem run)
-  list-calls-sweep-call = record {
-    clauses = list_calls.sweep_call.clauses 𝓤 H A mem run;
-    of-contract = refl;
-    once = λ κs a g r r' v v'. told 𝓤 (λ p q. (search same-value, each-list list_calls.sweep_call.ended κs a v v' (search same-value depth 12)));
-  }
-
   -- ---- list_calls64
   pub list-calls64-distance-call : OneResult 𝓤 H A list_calls64.distance_call.ended (list_calls64.distance_call.spec 𝓤 H A mem run)
   list-calls64-distance-call = record {
@@ -1453,103 +1552,4 @@ module _ {M : Type 1} (𝓤 : URA M) (H : Heap 𝓤) (A : Atoms 𝓤) (mem : Mem
     clauses = list_calls64.sweep_call.clauses 𝓤 H A mem run;
     of-contract = refl;
     once = λ κs a g r r' v v'. told 𝓤 (λ p q. (search same-value, each-list list_calls64.sweep_call.ended κs a v v' (search same-value depth 12)));
-  }
-
-  -- ---- foldflake
-  pub foldflake-foldflake-bar : OneResult 𝓤 H A foldflake.foldflake_bar.ended (foldflake.foldflake_bar.spec 𝓤 H A mem run)
-  foldflake-foldflake-bar = record {
-    clauses = foldflake.foldflake_bar.clauses 𝓤 H A mem run;
-    of-contract = refl;
-    once = λ κs a g r r' v v'. told 𝓤 (λ p q. (search same-value, each-list foldflake.foldflake_bar.ended κs a v v' (search same-value depth 12)));
-  }
-
-  pub foldflake-foldflake-distance : OneResult 𝓤 H A foldflake.foldflake_distance.ended (foldflake.foldflake_distance.spec 𝓤 H A mem run)
-  foldflake-foldflake-distance = record {
-    clauses = foldflake.foldflake_distance.clauses 𝓤 H A mem run;
-    of-contract = refl;
-    once = λ κs a g r r' v v'. told 𝓤 (λ p q. (search same-value, each-list foldflake.foldflake_distance.ended κs a v v' (search same-value depth 12)));
-  }
-
-  pub foldflake-foldflake-distance64 : OneResult 𝓤 H A foldflake.foldflake_distance64.ended (foldflake.foldflake_distance64.spec 𝓤 H A mem run)
-  foldflake-foldflake-distance64 = record {
-    clauses = foldflake.foldflake_distance64.clauses 𝓤 H A mem run;
-    of-contract = refl;
-    once = λ κs a g r r' v v'. told 𝓤 (λ p q. (search same-value, each-list foldflake.foldflake_distance64.ended κs a v v' (search same-value depth 12)));
-  }
-
-  pub foldflake-foldflake-gap : OneResult 𝓤 H A foldflake.foldflake_gap.ended (foldflake.foldflake_gap.spec 𝓤 H A mem run)
-  foldflake-foldflake-gap = record {
-    clauses = foldflake.foldflake_gap.clauses 𝓤 H A mem run;
-    of-contract = refl;
-    once = λ κs a g r r' v v'. told 𝓤 (λ p q. (search same-value, each-list foldflake.foldflake_gap.ended κs a v v' (search same-value depth 12)));
-  }
-
-  pub foldflake-foldflake-line : OneResult 𝓤 H A foldflake.foldflake_line.ended (foldflake.foldflake_line.spec 𝓤 H A mem run)
-  foldflake-foldflake-line = record {
-    clauses = foldflake.foldflake_line.clauses 𝓤 H A mem run;
-    of-contract = refl;
-    once = λ κs a g r r' v v'. told 𝓤 (λ p q. (search same-value, each-list foldflake.foldflake_line.ended κs a v v' (search same-value depth 12)));
-  }
-
-  pub foldflake-foldflake-placed-bar : OneResult 𝓤 H A foldflake.foldflake_placed_bar.ended (foldflake.foldflake_placed_bar.spec 𝓤 H A mem run)
-  foldflake-foldflake-placed-bar = record {
-    clauses = foldflake.foldflake_placed_bar.clauses 𝓤 H A mem run;
-    of-contract = refl;
-    once = λ κs a g r r' v v'. told 𝓤 (λ p q. (search same-value, each-list foldflake.foldflake_placed_bar.ended κs a v v' (search same-value depth 12)));
-  }
-
-  pub foldflake-foldflake-placed-plate : OneResult 𝓤 H A foldflake.foldflake_placed_plate.ended (foldflake.foldflake_placed_plate.spec 𝓤 H A mem run)
-  foldflake-foldflake-placed-plate = record {
-    clauses = foldflake.foldflake_placed_plate.clauses 𝓤 H A mem run;
-    of-contract = refl;
-    once = λ κs a g r r' v v'. told 𝓤 (λ p q. (search same-value, each-list foldflake.foldflake_placed_plate.ended κs a v v' (search same-value depth 12)));
-  }
-
-  pub foldflake-foldflake-plate : OneResult 𝓤 H A foldflake.foldflake_plate.ended (foldflake.foldflake_plate.spec 𝓤 H A mem run)
-  foldflake-foldflake-plate = record {
-    clauses = foldflake.foldflake_plate.clauses 𝓤 H A mem run;
-    of-contract = refl;
-    once = λ κs a g r r' v v'. told 𝓤 (λ p q. (search same-value, each-list foldflake.foldflake_plate.ended κs a v v' (search same-value depth 12)));
-  }
-
-  pub foldflake-foldflake-pose : OneResult 𝓤 H A foldflake.foldflake_pose.ended (foldflake.foldflake_pose.spec 𝓤 H A mem run)
-  foldflake-foldflake-pose = record {
-    clauses = foldflake.foldflake_pose.clauses 𝓤 H A mem run;
-    of-contract = refl;
-    once = λ κs a g r r' v v'. told 𝓤 (λ p q. (search same-value, each-list foldflake.foldflake_pose.ended κs a v v' (search same-value depth 12)));
-  }
-
-  pub foldflake-foldflake-root : OneResult 𝓤 H A foldflake.foldflake_root.ended (foldflake.foldflake_root.spec 𝓤 H A mem run)
-  foldflake-foldflake-root = record {
-    clauses = foldflake.foldflake_root.clauses 𝓤 H A mem run;
-    of-contract = refl;
-    once = λ κs a g r r' v v'. told 𝓤 (λ p q. (search same-value, refl));
-  }
-
-  pub foldflake-foldflake-root64 : OneResult 𝓤 H A foldflake.foldflake_root64.ended (foldflake.foldflake_root64.spec 𝓤 H A mem run)
-  foldflake-foldflake-root64 = record {
-    clauses = foldflake.foldflake_root64.clauses 𝓤 H A mem run;
-    of-contract = refl;
-    once = λ κs a g r r' v v'. told 𝓤 (λ p q. (search same-value, refl));
-  }
-
-  pub foldflake-foldflake-route : OneResult 𝓤 H A foldflake.foldflake_route.ended (foldflake.foldflake_route.spec 𝓤 H A mem run)
-  foldflake-foldflake-route = record {
-    clauses = foldflake.foldflake_route.clauses 𝓤 H A mem run;
-    of-contract = refl;
-    once = λ κs a g r r' v v'. told 𝓤 (λ p q. (search same-value, each-list foldflake.foldflake_route.ended κs a v v' (search same-value depth 12)));
-  }
-
-  pub foldflake-foldflake-sweep : OneResult 𝓤 H A foldflake.foldflake_sweep.ended (foldflake.foldflake_sweep.spec 𝓤 H A mem run)
-  foldflake-foldflake-sweep = record {
-    clauses = foldflake.foldflake_sweep.clauses 𝓤 H A mem run;
-    of-contract = refl;
-    once = λ κs a g r r' v v'. told 𝓤 (λ p q. (search same-value, each-list foldflake.foldflake_sweep.ended κs a v v' (search same-value depth 12)));
-  }
-
-  pub foldflake-foldflake-sweep64 : OneResult 𝓤 H A foldflake.foldflake_sweep64.ended (foldflake.foldflake_sweep64.spec 𝓤 H A mem run)
-  foldflake-foldflake-sweep64 = record {
-    clauses = foldflake.foldflake_sweep64.clauses 𝓤 H A mem run;
-    of-contract = refl;
-    once = λ κs a g r r' v v'. told 𝓤 (λ p q. (search same-value, each-list foldflake.foldflake_sweep64.ended κs a v v' (search same-value depth 12)));
   }

@@ -1,3 +1,4 @@
+// Written by tests/written/wide.py from replay, in f64.
 // Table 3: sweeps. A row has 15 words: bytes 0 to 3 and 8 to 10 are outline A, outline B, move A, move B, radii, max fraction and slop; the answer from word 2
 // on is the kind (the number of refusal, or 16 O, 17 H, 18 S, 19 F), fraction, point, normal, the three counts, and the first and second corner of A
 // and of B.

@@ -36,11 +36,11 @@ fn next_part(fd: i32, name: &[u8], so_far: Report) -> Step {
     }
 }
 
-// The report of an open batch. A proved loop has to end, and nothing says that the input does: so the turns are counted, to a number that no run
+// The report of an open batch. A proved loop has to end, and nothing says that the input does: so the reads are counted, to a number that no run
 // reaches.
 fn batch(fd: i32, name: &[u8]) -> Step {
     let mut so_far = report_counts::opened();
-    for turn in 0..u64::MAX {
+    for reads in 0..u64::MAX {
         let step = next_part(fd, name, so_far);
         if !step.more {
             return step;

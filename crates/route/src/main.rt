@@ -39,7 +39,7 @@ fn next_part(reader: Reader, floats: &mut [f32], lengths: &mut [u32]) -> Step {
     }
 }
 
-// A proved loop has to end, and nothing says that the input does: so the turns are counted, to a number that no run reaches.
+// A proved loop has to end, and nothing says that the input does: so the reads are counted, to a number that no run reaches.
 fn main() {
     if !streams::no_argument(b"route") {
         return;
@@ -47,7 +47,7 @@ fn main() {
     let mut floats = [0.0f32; NUMBERS];
     let mut lengths = [0u32; LENGTHS];
     let mut reader = route_read::no_text();
-    for turn in 0..u64::MAX {
+    for reads in 0..u64::MAX {
         let step = next_part(reader, &mut floats, &mut lengths);
         let after = step.reader;
         reader = after;

@@ -10,6 +10,7 @@ use ground::sub;
 use ground::transform_point;
 use model::Corners;
 use model::MinSeparation;
+use model::NO_CORNER;
 use model::Pose;
 use model::Search;
 use model::SeparationFunction;
@@ -25,9 +26,6 @@ ghost use lib.Ieee.{binary32};
 ghost use Rattle.model.specs.Separation as Separation;
 ghost use Rattle.model.specs.Corners.{noCorner, cornersA, cornersB};
 ghost use Rattle.separation.specs.ByPoses as ByPoses;
-
-// The index that a face has no corner for.
-const INVALID_INDEX: u32 = 4294967295;
 
 // The unit vector across the edge from u to w.
 fn across(u: Vector, w: Vector) -> Vector
@@ -246,8 +244,8 @@ fn no_corner() -> SupportPair
     ensures { λ r. ⌜ r ≡ noCorner ⌝ }
 {
     SupportPair {
-        first: INVALID_INDEX,
-        second: INVALID_INDEX,
+        first: NO_CORNER,
+        second: NO_CORNER,
     }
 }
 

@@ -1,3 +1,4 @@
+// Written by tests/written/wide.py from separation, in f64.
 // The separation function: its axis from the cached corners, and the separation along it at a time, of given corners or of the deepest.
 use ground64::add;
 use ground64::dot;
@@ -9,6 +10,7 @@ use ground64::scale;
 use ground64::sub;
 use ground64::transform_point;
 use model::Corners;
+use model::NO_CORNER;
 use model::SeparationType;
 use model::SimplexCache;
 use model::SupportPair;
@@ -25,9 +27,6 @@ ghost use lib.Ieee.{binary64};
 ghost use Rattle.model64.specs.Separation as Separation;
 ghost use Rattle.model64.specs.Corners.{noCorner, cornersA, cornersB};
 ghost use Rattle.separation64.specs.ByPoses as ByPoses;
-
-// The index that a face has no corner for.
-const INVALID_INDEX: u32 = 4294967295;
 
 // The unit vector across the edge from u to w.
 fn across(u: Vector, w: Vector) -> Vector
@@ -246,8 +245,8 @@ fn no_corner() -> SupportPair
     ensures { λ r. ⌜ r ≡ noCorner ⌝ }
 {
     SupportPair {
-        first: INVALID_INDEX,
-        second: INVALID_INDEX,
+        first: NO_CORNER,
+        second: NO_CORNER,
     }
 }
 

@@ -1,3 +1,4 @@
+-- Written by tests/written/wide.py from sheet_lines, in f64.
 -- Lines one after the other, what there is room for, and that no count overflows. Assumes nothing.
 use mathlib.Core.Path.{_≡_, refl, sym, ap, _∙_}
 use mathlib.Core.Bool.{Bool, true, false, _&&_, cond}

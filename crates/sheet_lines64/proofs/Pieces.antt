@@ -1,3 +1,4 @@
+-- Written by tests/written/wide.py from sheet_lines, in f64.
 -- The pieces of a line: how long they get, and how a line is made of them. Assumes nothing.
 use mathlib.Core.Path.{_≡_, refl}
 use mathlib.Core.Bool.{Bool, true, false, cond}

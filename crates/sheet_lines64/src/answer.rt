@@ -1,3 +1,4 @@
+// Written by tests/written/wide.py from sheet_lines, in f64.
 // What an answer adds to the totals.
 use model::COUNT_LIMIT;
 use model::Status;

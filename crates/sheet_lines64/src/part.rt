@@ -1,3 +1,4 @@
+// Written by tests/written/wide.py from sheet_lines, in f64.
 // The lines of a part of the input, and after the last part the totals.
 use crate::answer::countable;
 use crate::answer::counted;

@@ -1,3 +1,4 @@
+// Written by tests/written/wide.py from sheet_lines, in f64.
 // Pieces of a line, each written from a place on; the answer is the place after it.
 use model::Corners;
 use model::NO_CORNER;

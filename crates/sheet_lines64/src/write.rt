@@ -1,3 +1,4 @@
+// Written by tests/written/wide.py from sheet_lines, in f64.
 // Whole lines: an answer's, and the last.
 use crate::put::put;
 use crate::put::put_contact;

@@ -1,3 +1,4 @@
+-- Written by tests/written/wide.py from simplex, in f64.
 -- The solvers' endings, one law each: which region the tests on the numbers tell, and what the stores of that region keep. Assumes nothing.
 use Prim.Native.Nat.{ℕ}
 use mathlib.Core.Bool.{Bool, true, false, _&&_, cond}

@@ -22,7 +22,7 @@ use Rattle.model.specs.Domain.{badParts}
 use Rattle.model.specs.Support.{supportFrom}
 use Rattle.model.specs.Simplex.{region2, region3, kept, solveSimplex2, solveSimplex3, solve}
 use Rattle.model.specs.Distance.{cache, allBelow, replaced, held, vertex, startSimplex, roundsFrom, witnessPoints, measure, proxyDistance}
-use Rattle.plane.specs.Outline.{SharesPoint, SpansNearestPlace}
+use Rattle.exact.specs.Shared.{SharesPoint, SpansNearestPlace}
 use Rattle.exact.specs.SquaredPaper.{SquaredPaper, outlineA, posedB, IsCache, boundOf, Exact}
 use Rattle.squared_sheets.specs.Sheet.{Sheet, drawn, drawnPose, every, OnPaper}
 use Rattle.squared_sheets.proofs.Sheets.{on-squared-paper}

@@ -44,7 +44,7 @@ fn next_part(before: u64, out: &mut [u8], err: &mut [u8]) -> Step {
     Step { more: true, blocks }
 }
 
-// A proved loop has to end, and nothing says that the input does: so the turns are counted, to a number that no run reaches.
+// A proved loop has to end, and nothing says that the input does: so the reads are counted, to a number that no run reaches.
 fn main() {
     if !streams::no_argument(b"unpack") {
         return;
@@ -52,7 +52,7 @@ fn main() {
     let mut out = io::large_buffer();
     let mut err = io::large_buffer();
     let mut blocks = 0u64;
-    for turn in 0..u64::MAX {
+    for reads in 0..u64::MAX {
         let step = next_part(blocks, &mut out, &mut err);
         blocks = step.blocks;
         if !step.more {

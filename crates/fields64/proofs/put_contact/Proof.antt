@@ -1,3 +1,4 @@
+-- Written by tests/written/wide.py from fields, in f64.
 -- `fields::put_contact` meets its contract: five floats, one after the other. Assumes nothing.
 use native.Mathlib.Omega.{arith}
 use Rattle.fields64.specs.Floats.{floats}

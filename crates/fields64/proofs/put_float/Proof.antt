@@ -1,3 +1,4 @@
+-- Written by tests/written/wide.py from fields, in f64.
 -- `fields::put_float` meets its contract: its text is that of the pattern, and there is room. Assumes nothing.
 use Rattle.text.proofs.Lengths.{roomy}
 use Rattle.fields64.specs.Floats.{floatRoom}

@@ -1,3 +1,4 @@
+-- Written by tests/written/wide.py from fields, in f64.
 -- `fields::write_contact` meets its contract: nothing where there is no room, else the five floats. Assumes nothing.
 use Prim.Native.Nat.{_+_, _<_, _≤_}
 use native.Mathlib.Omega.{arith}

@@ -1,3 +1,4 @@
+-- Written by tests/written/wide.py from list_calls, in f64.
 -- `list_calls::distance_call` meets its contract: the lists have their lengths, the rounds are few, and the answer is told. Assumes nothing.
 use native.Mathlib.Omega.{arith}
 use Rattle.list_calls64.proofs.Told.{distance-lengths, distance-rounds, distance-told, wrong-length, wrong-count}

@@ -1,3 +1,4 @@
+-- Written by tests/written/wide.py from list_calls, in f64.
 -- `list_calls::sweep_call` meets its contract: the lists have their lengths, and the answer is told. Assumes nothing.
 use mathlib.Core.Path.{ap, _∙_}
 use lib.Ieee.{binary64}

@@ -1,3 +1,4 @@
+-- Written by tests/written/wide.py from outline, in f64.
 -- `support_pair` meets its contract. The invariant: what is left of the list, from the best so far, gives what the whole gives.
 -- Assumes nothing.
 use Prim.Native.Nat.{_≤_, _*_, _-_, _%_}

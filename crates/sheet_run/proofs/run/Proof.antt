@@ -1,14 +1,14 @@
--- `sheet_run::run` is safe and ends: the turns that are left fall. Nothing has to hold from turn to turn. Assumes nothing.
+-- `sheet_run::run` is safe and ends: the reads that are left fall. Nothing has to hold from one read to the next. Assumes nothing.
 use borrow.Author.Needs.{needs}
 use Prim.Native.Nat.{_-_}
 use Rattle.sheet_run.proofs.run.Statement.{statement}
 use Rattle.sheet_run.proofs.run.Tie as tie
 
 abbrev Inv-loop : tie.InvT-loop
-Inv-loop t₀ turn₀ t turn = Unit {0}
+Inv-loop t₀ reads₀ t reads = Unit {0}
 
 abbrev μ-loop : tie.MeasureT-loop
-μ-loop t₀ turn₀ t turn = 18446744073709551615 - turn
+μ-loop t₀ reads₀ t reads = 18446744073709551615 - reads
 
 slice-aggregate-no-argument : tie.Need-slice-aggregate-no-argument Inv-loop μ-loop
 slice-aggregate-no-argument c = search needs
@@ -28,8 +28,8 @@ next-part-requires c κs = search needs
 returns-2 : tie.Need-returns-2 Inv-loop μ-loop
 returns-2 c = search needs
 
-add-turn : tie.Need-add-turn Inv-loop μ-loop
-add-turn c = search needs
+add-reads : tie.Need-add-reads Inv-loop μ-loop
+add-reads c = search needs
 
 loop-less : tie.Need-loop-less Inv-loop μ-loop
 loop-less c = search needs
@@ -52,7 +52,7 @@ run-spec =
     loop-holds
     next-part-requires
     returns-2
-    add-turn
+    add-reads
     loop-less
     loop-again
     returns-3)

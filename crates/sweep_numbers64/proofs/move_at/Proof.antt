@@ -1,3 +1,4 @@
+-- Written by tests/written/wide.py from sweep_numbers, in f64.
 -- `sweep_numbers::move_at` meets its contract, by what its callees ensure. Assumes nothing.
 use Rattle.model64.specs.Work.{moveAt}
 use borrow.Author.Needs.{needs}

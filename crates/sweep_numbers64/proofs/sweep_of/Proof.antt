@@ -1,3 +1,4 @@
+-- Written by tests/written/wide.py from sweep_numbers, in f64.
 -- `sweep_numbers::sweep_of` meets its contract, by what its callees ensure. Assumes nothing.
 use Rattle.model64.specs.Work.{sweepFor}
 use borrow.Author.Needs.{needs}

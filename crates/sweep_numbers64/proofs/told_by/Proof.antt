@@ -1,3 +1,4 @@
+-- Written by tests/written/wide.py from sweep_numbers, in f64.
 -- `sweep_numbers::told_by` meets its contract, case by case. Assumes nothing.
 use borrow.Author.Needs.{needs}
 use Rattle.sweep_numbers64.proofs.told_by.Statement.{statement}

@@ -1,3 +1,4 @@
+-- Written by tests/written/wide.py from work, in f64.
 -- `work::answer_block` meets its contract: the two cases are those of the definition. Assumes nothing.
 use mathlib.Core.Path.{sym, _∙_}
 use Rattle.model64.specs.Work.{blockAnswer}

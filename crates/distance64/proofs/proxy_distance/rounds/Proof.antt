@@ -1,3 +1,4 @@
+-- Written by tests/written/wide.py from distance, in f64.
 -- `proxy_distance::rounds` meets its contract. The invariant: the rounds that are left give what all 20 give. Assumes nothing.
 use Prim.Native.Nat.{_≤_, _-_}
 use native.Mathlib.Omega.{arith}

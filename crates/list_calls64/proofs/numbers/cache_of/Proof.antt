@@ -1,3 +1,4 @@
+-- Written by tests/written/wide.py from list_calls, in f64.
 -- `list_calls::numbers::cache_of` meets its contract. Assumes nothing.
 use mathlib.Core.Path.{refl}
 use Rattle.list_calls64.specs.Entry.{cacheOf}

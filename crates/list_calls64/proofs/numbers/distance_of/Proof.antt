@@ -1,3 +1,4 @@
+-- Written by tests/written/wide.py from list_calls, in f64.
 -- `list_calls::numbers::distance_of` meets its contract, by what its callees ensure. Assumes nothing.
 use Rattle.list_calls64.specs.Entry.{distanceFor}
 use borrow.Author.Needs.{needs}

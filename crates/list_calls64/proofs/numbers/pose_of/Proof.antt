@@ -1,3 +1,4 @@
+-- Written by tests/written/wide.py from list_calls, in f64.
 -- `list_calls::numbers::pose_of` meets its contract, by what `point` ensures. Assumes nothing.
 use borrow.Author.Needs.{needs}
 use Rattle.list_calls64.proofs.numbers.pose_of.Statement.{statement}

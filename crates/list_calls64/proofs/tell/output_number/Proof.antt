@@ -1,3 +1,4 @@
+-- Written by tests/written/wide.py from list_calls, in f64.
 -- `list_calls::tell::output_number` meets its contract: both numbers are small. Assumes nothing.
 use native.Mathlib.Omega.{arith}
 use Rattle.list_calls64.proofs.Told.{ending-small}

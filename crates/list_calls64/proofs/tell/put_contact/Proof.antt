@@ -1,3 +1,4 @@
+-- Written by tests/written/wide.py from list_calls, in f64.
 -- `list_calls::tell::put_contact` meets its contract: a list of five takes the floats, any other stays. Assumes nothing.
 use borrow.Author.Tests.{eq-eqb, ne-eqb}
 use borrow.Author.Needs.{needs}

@@ -1,3 +1,4 @@
+-- Written by tests/written/wide.py from list_calls, in f64.
 -- `list_calls::tell::tell_sweep` meets its contract, case by case. Assumes nothing.
 use borrow.Author.Needs.{needs}
 use Rattle.list_calls64.proofs.tell.tell_sweep.Statement.{statement}

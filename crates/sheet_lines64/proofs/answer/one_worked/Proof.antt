@@ -1,3 +1,4 @@
+-- Written by tests/written/wide.py from sheet_lines, in f64.
 -- `sheet_lines::answer::one_worked` meets its contract, case by case. Assumes nothing.
 use borrow.Author.Needs.{needs}
 use Rattle.sheet_lines64.proofs.answer.one_worked.Statement.{statement}

@@ -1,3 +1,4 @@
+-- Written by tests/written/wide.py from sheet_lines, in f64.
 -- `sheet_lines::part::fits` meets its contract, by what its callee ensures. Assumes nothing.
 use borrow.Author.Needs.{needs}
 use Rattle.sheet_lines64.proofs.part.fits.Statement.{statement}

@@ -1,3 +1,4 @@
+-- Written by tests/written/wide.py from sheet_lines, in f64.
 -- `sheet_lines::part::write_line` meets its contract: nothing where there is no room, else the line. Assumes nothing.
 use borrow.Author.Tests.{lt-ltb, le-ltb}
 use Rattle.text.proofs.Pasted.{put-nothing}

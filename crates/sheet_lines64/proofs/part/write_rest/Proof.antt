@@ -1,3 +1,4 @@
+-- Written by tests/written/wide.py from sheet_lines, in f64.
 -- `sheet_lines::part::write_rest` meets its contract: nothing where nothing is left, else the line of refusal 9. Assumes nothing.
 use mathlib.Core.Path.{refl}
 use mathlib.Core.List.{append-nil}

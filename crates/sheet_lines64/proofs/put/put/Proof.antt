@@ -1,3 +1,4 @@
+-- Written by tests/written/wide.py from sheet_lines, in f64.
 -- `sheet_lines::put::put` meets its contract: there is room. Assumes nothing.
 use lib.ListN.{length}
 use Rattle.text.proofs.Lengths.{roomy}

@@ -1,3 +1,4 @@
+-- Written by tests/written/wide.py from sheet_lines, in f64.
 -- `sheet_lines::put::put_corner` meets its contract, by whether there is a corner. Assumes nothing.
 use Rattle.sheet_lines64.proofs.Pieces.{no-corner-is, a-corner-is}
 use borrow.Author.Needs.{needs}

@@ -1,3 +1,4 @@
+-- Written by tests/written/wide.py from sheet_lines, in f64.
 -- `sheet_lines::put::put_pair` meets its contract: its two pieces, one after the other. Assumes nothing.
 use native.Mathlib.Omega.{arith}
 use Rattle.text.proofs.Pasted.{put-then}

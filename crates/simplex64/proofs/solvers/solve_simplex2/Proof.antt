@@ -1,3 +1,4 @@
+-- Written by tests/written/wide.py from simplex, in f64.
 -- `solvers::solve_simplex2` meets its contract: each ending is the law of its region. Assumes nothing.
 use mathlib.Core.Path.{_≡_, refl}
 use lib.Ieee.{binary64, neg}

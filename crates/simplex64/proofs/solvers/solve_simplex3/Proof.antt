@@ -1,3 +1,4 @@
+-- Written by tests/written/wide.py from simplex, in f64.
 -- `solvers::solve_simplex3` meets its contract: each ending is the law of its region. Assumes nothing.
 use lib.Ieee.{binary64, neg, mul}
 use Rattle.model64.specs.Simplex.{slot, solveSimplex3}
