@@ -364,7 +364,7 @@ fn every_answer_of_a_route() {
     let alone = sweep(&POINT, 0.0, &goes([9.0, 0.0], [9.0, 9.0]), &[9.0, 5.0], 0.0, &still(0.0, 0.0), 1.0, 0.01);
     assert!(matches!(alone, Ok(Sweep::Hit(same, ..)) if same == contact), "{alone:?}");
     assert_eq!(route(&SQUARE, &there, &[far, &SQUARE], 0.01), Ok(Route::Overlapped(Stop { leg: 1, outline: 2, distance_calls: 2 })));
-    // a case of tests/route_cases.py: so small a slop that no root step lands, and all 20 calls are made
+    // a case of tests/cases/route_cases.py: so small a slop that no root step lands, and all 20 calls are made
     let cart = [-1.0, -0.5, 1.0, -0.5, 1.0, 0.5, -1.0, 0.5];
     let turned = |x, y, turn: f64| Waypoint { center: [x, y], rotation: [turn.to_radians().cos() as f32, turn.to_radians().sin() as f32] };
     let post: &[f32] = &[0.3, 0.2, 1.7, 0.2, 1.7, 0.8, 0.3, 0.8];

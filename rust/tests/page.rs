@@ -1,4 +1,4 @@
-//! The page's words, by jobs made for them. tests/page.py parses whole pages and compares them with the sheet.
+//! The page's words, by jobs made for them. tests/programs/page.py parses whole pages and compares them with the sheet.
 use foldflake::job_text::read;
 use foldflake::page::{write, Drawings, Source, Totals};
 use foldflake::Library;

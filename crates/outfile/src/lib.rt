@@ -152,9 +152,9 @@ fn copied(fd: i32, to: i32) -> bool {
     if libc::lseek(fd, 0, libc::SEEK_SET) < 0 {
         return false;
     }
-    for turn in 0..u64::MAX {
+    for reads in 0..u64::MAX {
         let mut buffer = io::large_buffer();
-        let filled = input::fill(fd, &mut buffer);
+        let filled = streams::fill(fd, &mut buffer);
         if filled.failed {
             return false;
         }

@@ -23,6 +23,7 @@ use model::Closest;
 use model::Contact;
 use model::Corners;
 use model::Counts;
+use model::NO_CORNER;
 use model::SimplexCache;
 use model::SupportPair;
 use model::Sweep;
@@ -145,8 +146,8 @@ fn no_search() -> Corners
     ensures { λ r. ⌜ r ≡ noSearch ⌝ }
 {
     let none = SupportPair {
-        first: 0xffff_ffff,
-        second: 0xffff_ffff,
+        first: NO_CORNER,
+        second: NO_CORNER,
     };
     Corners { a: none, b: none }
 }

@@ -1,3 +1,4 @@
+-- Written by tests/written/wide.py from sweep_toi, in f64.
 -- What each loop of a sweep meets. What is left at the head of a loop gives the whole answer, and with the corners of the search before it those of the
 -- last; here is one law for each way that a turn goes on from there. Assumes nothing.
 use Prim.Native.Nat.{ℕ, zero, suc, _+_, _-_, _≤_}

@@ -1,3 +1,4 @@
+-- Written by tests/written/wide.py from sweep_toi, in f64.
 -- The rounds as the code does them are those of `model`: the root search by points and poses, and the push-backs. Assumes nothing.
 use Prim.{Unit}
 use Prim.Native.Nat.{ℕ, zero, suc, _+_, _*_, _≤_}

@@ -1,3 +1,4 @@
+-- Written by tests/written/wide.py from sweep_toi, in f64.
 -- The rounds of a sweep as the code does them: each pose and each point worked out once.
 -- proofs/Rounds.antt shows that they are those of `model`.
 use Prim.Native.Nat.{ℕ, zero, suc, _+_}

@@ -1,3 +1,4 @@
+// Written by tests/written/wide.py from sweep_toi, in f64.
 // What the root search carries: two times, the separations at them, and how many steps led there.
 use model64::SweepTask;
 ghost use Prim.Native.Nat.{_<_};

@@ -1,3 +1,4 @@
+// Written by tests/written/wide.py from sweep_toi, in f64.
 // A time of a sweep with the poses of both outlines at it, worked out once, and the distance call there.
 use distance64::proxy_distance::measure;
 use ground64::add;

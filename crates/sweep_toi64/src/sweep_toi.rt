@@ -1,3 +1,4 @@
+// Written by tests/written/wide.py from sweep_toi, in f64.
 // The sweep by conservative advancement: a distance call gives an axis, and a push-back along it brings the time closer to the first contact.
 use crate::bracket::Bracket;
 use crate::bracket::narrowed;
@@ -21,6 +22,7 @@ use ground64::max;
 use model::Checked;
 use model::Corners;
 use model::Counts;
+use model::NO_CORNER;
 use model::SimplexCache;
 use model::SupportPair;
 use model64::Closest;
@@ -145,8 +147,8 @@ fn no_search() -> Corners
     ensures { λ r. ⌜ r ≡ noSearch ⌝ }
 {
     let none = SupportPair {
-        first: 0xffff_ffff,
-        second: 0xffff_ffff,
+        first: NO_CORNER,
+        second: NO_CORNER,
     };
     Corners { a: none, b: none }
 }

@@ -1,3 +1,4 @@
+-- Written by tests/written/wide.py from sweep_toi, in f64.
 -- `bracket::narrowed` meets its contract, by its test. Assumes nothing.
 use borrow.Author.Needs.{needs}
 use Rattle.sweep_toi64.proofs.bracket.narrowed.Statement.{statement}

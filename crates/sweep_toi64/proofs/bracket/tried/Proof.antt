@@ -1,3 +1,4 @@
+-- Written by tests/written/wide.py from sweep_toi, in f64.
 -- `bracket::tried` meets its contract, by its test. Assumes nothing.
 use borrow.Author.Tests.{eq-eqb, ne-eqb}
 use Rattle.model64.specs.SweepToi.{tried}

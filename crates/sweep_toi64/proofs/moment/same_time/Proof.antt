@@ -1,3 +1,4 @@
+-- Written by tests/written/wide.py from sweep_toi, in f64.
 -- `moment::same_time` meets its contract: a float is what its pattern stands for. Assumes nothing.
 use mathlib.Core.Path.{sym, ap, subst, _∙_}
 use lib.Dec.{T}

@@ -1,3 +1,4 @@
+-- Written by tests/written/wide.py from sweep_toi, in f64.
 -- `sweep_toi::advance` meets its contract: three loops inside one another. Of each the invariant is that what is left at its head gives the whole: a root
 -- search, a round of push-backs, the answer; and that the counts have room for the turns that are left. Assumes nothing.
 use Prim.Native.Nat.{_<_, _≤_, _+_, _*_, _-_}
