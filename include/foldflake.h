@@ -131,7 +131,7 @@ uint32_t foldflake_gap(const float *points_a, size_t numbers_in_a, const float *
    points are given about its centre. stills: the points of all still outlines, one behind another, where they stand; lengths: how many numbers each
    of them has, 1 to 32 outlines.
    out, 5: fraction, point x y, normal x y of the sweep that ends the route. where, 3: leg, outline, both from 1, and the distance calls of all sweeps
-   that were run; 0, 0 and the calls where the route is clear.
+   that were run; 0, 0 and the calls where the answer is CLEAR.
 
      const float bar[4] = {-1, 0, 1, 0}, post[2] = {6, 0};
      const float waypoints[8] = {0, 0, 1, 0, 9, 0, 1, 0};    from (0, 0) to (9, 0), unturned

@@ -581,7 +581,7 @@ fn hunted_calls(bound: i64, calls: u64, seed: u64) {
 /// `millions` of random calls from `seed` on, in f32 after all small outlines; then half as many pairs, each called three ways; and `millions` of hunted calls.
 pub fn run(millions: u64, seed: u64) {
     if !cfg!(rounds) {
-        eprintln!("squared-paper: build with the cfg `rounds`, as tests/squared-paper.sh does");
+        eprintln!("squared-paper: build with the cfg `rounds`, as tests/oracle/squared-paper.sh does");
         std::process::exit(2)
     }
     if cfg!(feature = "f32") {

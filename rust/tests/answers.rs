@@ -1,5 +1,7 @@
 //! The safe face against answers worked out by hand or listed in README.md.
-use foldflake::{bar, distance, gap, line, placed_bar, placed_plate, plate, pose, root, route, sweep, Cache, Ending, Move, Pose, Refusal, Route, Stop, Sweep, Waypoint};
+use foldflake::{
+    bar, distance, gap, line, placed_bar, placed_plate, plate, pose, root, route, sweep, Cache, Ending, Move, Pose, Refusal, Route, Stop, Sweep, Waypoint,
+};
 
 const SQUARE: [f32; 8] = [-1.0, -1.0, 1.0, -1.0, 1.0, 1.0, -1.0, 1.0];
 const POINT: [f32; 2] = [0.0, 0.0];
@@ -353,17 +355,23 @@ fn every_answer_of_a_route() {
     let there = [at(0.0, 0.0), at(9.0, 0.0), at(9.0, 9.0)];
     let far: &[f32] = &[50.0, 50.0];
     assert_eq!(route(&POINT, &there, &[far], 0.01), Ok(Route::Clear(2)));
-    let Ok(Route::Hit(stop, contact)) = route(&POINT, &there, &[far, &[9.0, 5.0]], 0.01) else { panic!("no hit") };
+    let (stop, contact) = match route(&POINT, &there, &[far, &[9.0, 5.0]], 0.01) {
+        Ok(Route::Hit(stop, contact)) => (stop, contact),
+        other => panic!("{other:?}"),
+    };
     assert_eq!((stop.leg, stop.outline), (2, 2));
     // the sweep named, asked by itself
     let alone = sweep(&POINT, 0.0, &goes([9.0, 0.0], [9.0, 9.0]), &[9.0, 5.0], 0.0, &still(0.0, 0.0), 1.0, 0.01);
     assert!(matches!(alone, Ok(Sweep::Hit(same, ..)) if same == contact), "{alone:?}");
     assert_eq!(route(&SQUARE, &there, &[far, &SQUARE], 0.01), Ok(Route::Overlapped(Stop { leg: 1, outline: 2, distance_calls: 2 })));
-    // a case of tests/route_cases.py: so small a slop that no root step lands, and all 20 calls are made
+    // a case of tests/cases/route_cases.py: so small a slop that no root step lands, and all 20 calls are made
     let cart = [-1.0, -0.5, 1.0, -0.5, 1.0, 0.5, -1.0, 0.5];
     let turned = |x, y, turn: f64| Waypoint { center: [x, y], rotation: [turn.to_radians().cos() as f32, turn.to_radians().sin() as f32] };
     let post: &[f32] = &[0.3, 0.2, 1.7, 0.2, 1.7, 0.8, 0.3, 0.8];
-    let Ok(Route::Failed(stop, contact)) = route(&cart, &[turned(-6.0, 4.0, 20.0), turned(8.0, -3.0, 70.0)], &[post], 1e-7) else { panic!("no F") };
+    let (stop, contact) = match route(&cart, &[turned(-6.0, 4.0, 20.0), turned(8.0, -3.0, 70.0)], &[post], 1e-7) {
+        Ok(Route::Failed(stop, contact)) => (stop, contact),
+        other => panic!("{other:?}"),
+    };
     assert_eq!((stop, contact.point[0].to_bits()), (Stop { leg: 1, outline: 1, distance_calls: 20 }, 0xC012_DB86));
     let at_2 = |number| Err((Refusal(number), Some(Stop { leg: 1, outline: 2, distance_calls: 1 })));
     let at_1 = |number| Err((Refusal(number), Some(Stop { leg: 1, outline: 1, distance_calls: 0 })));

@@ -1,18 +1,21 @@
-//! The page's words, by jobs made for them. tests/page.py parses whole pages and compares them with the sheet.
-use foldflake::jobs::read;
-use foldflake::page::{write, Totals};
+//! The page's words, by jobs made for them. tests/programs/page.py parses whole pages and compares them with the sheet.
+use foldflake::job_text::read;
+use foldflake::page::{write, Drawings, Source, Totals};
+use foldflake::Library;
 use std::io;
-
-mod common;
 
 /// A batch from text.
 fn batch(text: &str) -> Vec<u8> {
-    read(text).unwrap().lines.lines().flat_map(common::block).collect()
+    read(text.as_bytes()).unwrap_or_else(|faults| panic!("{faults:?}")).jobs.iter().flat_map(|job| job.block()).collect()
 }
 
 fn page(bytes: &[u8], drawings: usize) -> (String, Totals) {
+    page_of(&Source { name: "a batch", bytes, ..Source::default() }, Drawings::Most(drawings))
+}
+
+fn page_of(source: &Source, drawings: Drawings) -> (String, Totals) {
     let mut out = Vec::new();
-    let totals = write("a batch", bytes, drawings, &mut out, &mut |_, _| {}).unwrap();
+    let totals = write(&Library, source, drawings, &mut out, &mut |_, _| {}).unwrap();
     (String::from_utf8(out).unwrap(), totals)
 }
 
@@ -21,6 +24,7 @@ fn card(text: &str) -> String {
     page[page.find("<section").unwrap()..].to_string()
 }
 
+const S: &str = "<p class=\"said\">S: separated along one axis, where the search stood and at the end.</p>";
 const WALL: &str = "b: 0 -20  4 -20  4 20  0 20\nb from: 6 0\n";
 
 #[test]
@@ -33,7 +37,8 @@ fn an_s_that_the_samples_speak_against_is_red() {
     assert!(near.contains("the search says S, but at 0.50 of the move the outlines are only 0.0020 apart, less than the target 0.0050"), "{near}");
     assert!(!near.contains("touch or overlap"));
     let clear = card(&format!("a plate: 4 4\n{WALL}a turned: 0 90\n"));
-    assert!(clear.contains("Clear by the search.") && !clear.contains("class=\"red\""), "{clear}");
+    assert!(clear.contains(S) && !clear.contains("class=\"red\""), "{clear}");
+    assert!(clear.contains("<p class=\"look\">It turns by 90.0°, and S does not clear a turn"), "{clear}");
 }
 
 #[test]
@@ -45,11 +50,12 @@ fn every_status_is_said_plainly() {
     assert!(overlap.contains("Touching or overlapping where the search stood."));
     // a half turn cannot be typed: 179.9999999 degrees is one in 32 bits
     let gave_up = card(&format!("a plate: 5 5\n{WALL}a turned: 0 179.9999999\n"));
-    assert!(gave_up.contains("No verdict: treat as not cleared."), "{gave_up}");
+    assert!(gave_up.contains("No verdict: treat as not cleared. The search gave up where it stood, at "), "{gave_up}");
+    assert!(gave_up.contains("<tr><th>search stood at</th><td>"), "{gave_up}");
     assert!(gave_up.contains("A makes a half turn, which has no direction and no pose halfway: cut it into steps"));
     let turning = card(&format!("a plate: 5 5\n{WALL}a turned: 10 20\n"));
     assert!(turning.contains("<tr><th>angle there</th><td>A 13.0°</td></tr>"), "{turning}");
-    let refused = card("a plate: 1 1\nb plate: 1 1\nslop: 0\n");
+    let refused = card("a plate: 1 1\nb plate: 1 1\nslop: 0\nmeant: refused by 8\n");
     assert!(refused.contains("Refused by 8") && refused.contains("At fault: the slop is 0, and has to be above 0."));
 }
 
@@ -100,11 +106,11 @@ fn every_refusal_names_its_field() {
 fn drawings_stop_where_asked_and_words_do_not() {
     let bytes = batch("job: 1\na: 0 0\nb: 1 1\n").repeat(7);
     let (some, totals) = page(&bytes, 3);
-    assert_eq!((totals.blocks, totals.clear), (7, 7));
+    assert_eq!((totals.blocks, totals.separated), (7, 7));
     assert_eq!(some.matches("class=\"paper\"").count(), 3);
-    assert_eq!(some.matches("Clear by the search.").count(), 7);
-    assert!(some.contains("Drawings: the first 3 of 7 blocks"));
-    assert!(!page(&bytes, 7).0.contains("Drawings: the first"));
+    assert_eq!(some.matches(S).count(), 7);
+    assert!(some.contains("Drawings: 3 of 7 worked blocks"));
+    assert!(!page(&bytes, 7).0.contains("Drawings: 7 of"));
     let (none, totals) = page(&[], 3);
     assert!(none.contains("<li>none</li>") && totals == Totals::default());
 }
@@ -122,16 +128,107 @@ fn a_failed_write_is_handed_on() {
         }
     }
     let bytes = batch("job: 1\na: 0 0\nb: 1 1\n");
-    for room in [0, 10_000, 14_000] {
-        assert!(write("x", &bytes, 1, &mut Full(room), &mut |_, _| {}).is_err(), "{room}");
+    let source = Source { name: "x", bytes: &bytes, ..Source::default() };
+    for room in [0, 10_000, 15_000] {
+        assert!(write(&Library, &source, Drawings::Most(1), &mut Full(room), &mut |_, _| {}).is_err(), "{room}");
     }
-    assert!(write("x", &bytes, 1, &mut Full(1_000_000), &mut |_, _| {}).is_ok());
+    assert!(write(&Library, &source, Drawings::Most(1), &mut Full(1_000_000), &mut |_, _| {}).is_ok());
 }
 
 /// What a name holds is text, and never a tag.
 #[test]
 fn a_name_is_escaped() {
-    let mut out = Vec::new();
-    write("<b>&\"x", &[], 0, &mut out, &mut |_, _| {}).unwrap();
-    assert!(String::from_utf8(out).unwrap().contains("<title>Travel sheet: &lt;b&gt;&amp;&quot;x</title>"));
+    let names = vec!["<i>cart</i>".to_string()];
+    let bytes = batch("job: 1\na: 0 0\nb: 1 1\n");
+    let (page, _) = page_of(&Source { name: "<b>&\"x", bytes: &bytes, unit: "<mm>", names }, Drawings::Usual);
+    assert!(page.contains("<title>Travel sheet: &lt;b&gt;&amp;&quot;x</title>"));
+    assert!(page.contains("<span class=\"name\">&lt;i&gt;cart&lt;/i&gt;</span>") && page.contains("<tr><th>unit</th><td>&lt;mm&gt;</td></tr>"));
+    // in the margin of each printed sheet, where a quote or a bracket could end the style
+    assert!(page.contains("content: \"\\3c b\\3e \\26 \\22 x, 1 block\""), "{}", &page[..page.find("</style>").unwrap()]);
+}
+
+/// Drawings go to what is told red, then to what needs a look, then to the rest; red ones get theirs whatever the usual number is.
+#[test]
+fn drawings_go_first_to_what_needs_a_look() {
+    let still = "a: 0 0\nb: 1 1\n";
+    let swing = format!("a plate: 5 5\n{WALL}a turned: 0 90\n");
+    let turning = format!("a plate: 4 4\n{WALL}a turned: 0 90\n");
+    let bytes = batch(&format!("job: 1\n{still}\njob: 2\n{turning}\njob: 3\n{still}\njob: 4\n{swing}\njob: 5\n{still}"));
+    let drawn = |most: usize| {
+        let (page, _) = page(&bytes, most);
+        let cards: Vec<bool> = page.split("<section").skip(1).map(|card| card.contains("class=\"paper\"")).collect();
+        (1..=5).filter(|i| cards[i - 1]).collect::<Vec<usize>>()
+    };
+    assert_eq!([drawn(0), drawn(1), drawn(2), drawn(3)], [vec![], vec![4], vec![2, 4], vec![1, 2, 4]]);
+    let many = batch(&format!("job: 1\n{still}\njob: 2\n{swing}")).repeat(600);
+    let (page, totals) = page_of(&Source { name: "x", bytes: &many, ..Source::default() }, Drawings::Usual);
+    assert_eq!((totals.blocks, totals.touching, page.matches("class=\"paper\"").count()), (1200, 600, 600));
+    assert_eq!(page.split("<section class=\"card warned\"").skip(1).filter(|card| !card.contains("class=\"paper\"")).count(), 0);
+}
+
+/// Turning S is listed and counted apart from the others, and what is told red is in no box of S that needs no look.
+#[test]
+fn s_that_turns_needs_a_look() {
+    let turning = format!("a plate: 4 4\n{WALL}a turned: 0 90\n");
+    let bytes = batch(&format!("job: 1\na: 0 0\nb: 1 1\n\njob: 2\n{turning}\njob: 3\na plate: 5 5\n{WALL}a turned: 0 90\n"));
+    let (page, totals) = page(&bytes, 3);
+    assert_eq!((totals.separated, totals.turning, totals.red_separated()), (3, 1, 1));
+    assert!(page.contains("<tr id=\"totals\"><td>3</td><td>1</td><td>1</td><td>1</td><td>0</td><td>0</td><td>0</td></tr>"), "{page}");
+    assert!(page.contains("<b>1 S of a move that turns, which S does not clear: look at its gap:</b> <a href=\"#block2\">2</a>"));
+    assert!(
+        page.contains("<td>S</td><td class=\"words\">S, but it turns by 90.0°: look</td>")
+            && page.contains("<td>S</td><td class=\"words\">S, and nothing turns</td>")
+    );
+    let words = page.to_lowercase();
+    for untrue in ["clear by the search", "is clear", "safe"] {
+        assert!(!words.contains(untrue), "{untrue}");
+    }
+}
+
+#[test]
+fn a_hit_says_its_way_and_its_gap_and_what_to_pad() {
+    let hit = card("a plate: 1 1\nb plate: 1 1\na to: 8 0\nb from: 6 0\nradius a: 0.5\n");
+    assert!(hit.contains("<tr><th>way travelled</th><td>A 3.51 of 8.00</td></tr>"), "{hit}");
+    assert!(hit.contains("<tr><th>before the hit</th><td>least sampled gap 0."), "{hit}");
+    assert!(hit.contains("<tr><th>clearance there</th><td>-0.5000 (the gap less the radii)</td></tr>"), "{hit}");
+    let both = "To pad: corners 0 and 2 of A and corners 1 and 3 of B, which come toward each other, as the last search found them.";
+    assert!(hit.contains(&format!("<p class=\"pad\">{both}</p>")), "{hit}");
+    let guide = card("a: -6 -4  6 -4  6 4  -6 4\nb: 0 0  3 0  3 3  0 3\na turned: 0 90\nb from: 5 5\n");
+    assert!(guide.contains("To pad: corner 2 of A, coming toward a side of B, as the last search found them."), "{guide}");
+    let half = card("a plate: 1 1\nb plate: 1 1\na to: 8 0\nb from: 6 0\nfraction: 0.75\n");
+    assert!(half.contains("<td>A 4.00 of 6.00</td>"), "{half}");
+}
+
+/// Two plates of some 10,000 that turn, with a slop of 0.005: the search gives up at 0.59, and they overlap from 0.34 on.
+const GIVEN_UP: [(usize, &str); 5] = [
+    (2, "00000000 00000000 3F800000 3BA3D70A"),
+    (6, "00000000 00000000 46B21E42 C5C26D4A C6B19A0E 46773D2A 3E43A468 3F7B48C2 3EB1685C 3F70240F"),
+    (16, "00000000 00000000 4624A348 C6BF8F51 C6E4A546 46CF1C6C BF7F7BC6 BD8207B0 3F60878F 3EF5F275"),
+    (26, "44DA0425 45E5FB51 C4DA0425 45E5FB51 44DA0425 C5E5FB51 C4DA0425 C5E5FB51"),
+    (58, "44EEFF8F 460CF2AD C4EEFF8F 460CF2AD 44EEFF8F C60CF2AD C4EEFF8F C60CF2AD"),
+];
+
+#[test]
+fn f_is_red_where_samples_touch() {
+    let mut words = [0u32; 128];
+    words[..2].copy_from_slice(&[7, 0x0404]);
+    for (from, said) in GIVEN_UP {
+        words[from..].iter_mut().zip(said.split(' ')).for_each(|(place, word)| *place = u32::from_str_radix(word, 16).unwrap());
+    }
+    words[127] = !words.iter().fold(0u32, |sum, word| sum.wrapping_add(*word));
+    let bytes: Vec<u8> = words.iter().flat_map(|word| word.to_le_bytes()).collect();
+    let (page, totals) = page(&bytes, 1);
+    assert_eq!((totals.undecided, totals.gave_up), (1, 1), "{page}");
+    let red = "<p class=\"red\">the search gave up at 0.59, and at 0.34 of the move the outlines touch or overlap: do not clear</p>";
+    assert!(page.contains(red), "{page}");
+    assert!(page.contains("class=\"card warned\"") && page.contains("<td class=\"words\">no verdict, and sampled contact: do not clear</td>"));
+    assert!(page.contains("The search gave up where it stood, at 0.5868 of the move; they may overlap before that."));
+}
+
+#[test]
+fn the_table_says_why_a_block_is_refused_and_jobs_of_one_number_are_told_apart() {
+    let bytes = batch("job: 7\na: 0 0\nb: 1 1\nslop: 0\nmeant: refused by 8\n\njob: 7\na: 0 0\nb: 1 1\nmeant: number again, refused by 8\nslop: 0\n");
+    let (page, _) = page(&bytes, 1);
+    assert!(page.contains("<td class=\"words\">refused by 8: the slop is 0, and has to be above 0</td>"), "{page}");
+    assert!(page.contains("<a href=\"#block1\">7 (block 1)</a> <a href=\"#block2\">7 (block 2)</a>"), "{page}");
 }

@@ -1,5 +1,5 @@
 // Prints the number of the first block of the batch on standard input whose status is H or O, or `none`. It reads in parts of 64 KiB, none behind
-// the one that decides. A read that fails is told on standard error, and then neither is printed.
+// the one that decides. A read that fails is told on standard error, and then neither is printed; so is that no whole block came, behind `none`.
 
 // Whether the search goes on, and how many blocks it has passed.
 struct Step {
@@ -7,17 +7,24 @@ struct Step {
     blocks: u64,
 }
 
-fn tell(found: u64) {
+fn tell(found: u64) -> bool {
     let mut text = [0u8; 21];
-    let n = contacts::write_found(found, &mut text);
-    input::write_to_output(&text, n);
+    let n = any_contact_search::write_found(found, &mut text);
+    streams::write_to_output(&text, n)
+}
+
+// Tells the answer, and behind it that no whole block came, where that is so.
+fn tell_answer(found: u64, blocks: u64) {
+    if tell(found) & (blocks == 0) {
+        streams::write_to_error(b"standard input: no block came\n", 30);
+    }
 }
 
 // Searches what was read, and tells the answer once it is known.
 fn search_part(part: &[u8], before: u64) -> Step {
-    let searched = contacts::search_part(part, before);
+    let searched = any_contact_search::search_part(part, before);
     if searched.over {
-        tell(searched.found);
+        tell_answer(searched.found, searched.blocks);
     }
     Step {
         more: !searched.over,
@@ -27,7 +34,7 @@ fn search_part(part: &[u8], before: u64) -> Step {
 
 fn next_part(before: u64) -> Step {
     let mut buffer = io::large_buffer();
-    let filled = input::fill_from_input(&mut buffer);
+    let filled = streams::fill_from_input(&mut buffer);
     if filled.failed {
         return Step {
             more: false,
@@ -38,13 +45,13 @@ fn next_part(before: u64) -> Step {
     search_part(&buffer[..n], before)
 }
 
-// A proved loop has to end, and nothing says that the input does: so the turns are counted, to a number that no run reaches.
+// A proved loop has to end, and nothing says that the input does: so the reads are counted, to a number that no run reaches.
 fn main() {
-    if !input::no_argument(b"any_contact") {
+    if !streams::no_argument(b"any_contact") {
         return;
     }
     let mut before = 0u64;
-    for turn in 0..u64::MAX {
+    for reads in 0..u64::MAX {
         let step = next_part(before);
         before = step.blocks;
         if !step.more {

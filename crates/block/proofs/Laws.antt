@@ -11,7 +11,8 @@ use borrow.Author.Tests.{ltb-false, ne-eqb}
 use Rattle.model.specs.declared.Block.{Block}
 use Rattle.model.specs.declared.CheckedBlock.the-variants.{Good, Refused}
 use Rattle.model.specs.Wire.{byte, word}
-use Rattle.model.specs.Block.{knownForm, sumOfWords, weighedWords, allZero, jobOf, badCount, zerosHold, badFields, blockOf, checkHolds, checkedBlock, mostPoints}
+use Rattle.model.specs.Block.{knownForm, sumOfWords, weighedWords, allZero, jobOf, badCount, zerosHold, badFields, blockOf, checkHolds, checkedBlock}
+use Rattle.model.specs.Block.{mostPoints}
 
 -- ---- one word more
 pub sum-step : (b : List ℕ) (i : ℕ) → sumOfWords b i + word b (4 * i) ≡ sumOfWords b (i + 1)
@@ -31,8 +32,10 @@ some w n f h k e = rw (ne-eqb w 0 (λ z. absurd (omega (arith, h, z))), ne-eqb n
 -- a word is 0 where its four bytes are
 four-zero : (a b c d : ℕ) → eqb (a + b * 256 + c * 65536 + d * 16777216) 0 ≡ (((eqb a 0 && eqb b 0) && eqb c 0) && eqb d 0)
 four-zero zero zero zero zero = refl
-four-zero (suc a) b c d = some (suc a + b * 256 + c * 65536 + d * 16777216) (suc a) (λ (x : Bool). ((x && eqb b 0) && eqb c 0) && eqb d 0) (omega arith) (omega arith) refl
-four-zero zero (suc b) c d = some (0 + suc b * 256 + c * 65536 + d * 16777216) (suc b) (λ (x : Bool). (x && eqb c 0) && eqb d 0) (omega arith) (omega arith) refl
+four-zero (suc a) b c d =
+    some (suc a + b * 256 + c * 65536 + d * 16777216) (suc a) (λ (x : Bool). ((x && eqb b 0) && eqb c 0) && eqb d 0) (omega arith) (omega arith) refl
+four-zero zero (suc b) c d =
+    some (0 + suc b * 256 + c * 65536 + d * 16777216) (suc b) (λ (x : Bool). (x && eqb c 0) && eqb d 0) (omega arith) (omega arith) refl
 four-zero zero zero (suc c) d = some (0 + 0 * 256 + suc c * 65536 + d * 16777216) (suc c) (λ (x : Bool). x && eqb d 0) (omega arith) (omega arith) refl
 four-zero zero zero zero (suc d) = some (0 + 0 * 256 + 0 * 65536 + suc d * 16777216) (suc d) (λ (x : Bool). x) (omega arith) (omega arith) refl
 
@@ -47,7 +50,8 @@ zero-step b k i =
     let e1 : k + suc (4 * i) ≡ k + 4 * i + 1 = omega arith in
     let e2 : k + suc (suc (4 * i)) ≡ k + 4 * i + 2 = omega arith in
     let e3 : k + suc (suc (suc (4 * i))) ≡ k + 4 * i + 3 = omega arith in
-    rw (e, e1, e2, e3) (and-four (allZero b k (4 * i)) _ _ _ _ _ (four-zero (byte b (k + 4 * i)) (byte b (k + 4 * i + 1)) (byte b (k + 4 * i + 2)) (byte b (k + 4 * i + 3))))
+    let four = four-zero (byte b (k + 4 * i)) (byte b (k + 4 * i + 1)) (byte b (k + 4 * i + 2)) (byte b (k + 4 * i + 3)) in
+    rw (e, e1, e2, e3) (and-four (allZero b k (4 * i)) _ _ _ _ _ four)
 
 -- the words of the unused points of A, and of those of B and all behind them
 pub words-a : (n : ℕ) → 4 * (32 - 2 * n) ≡ 128 - 8 * n

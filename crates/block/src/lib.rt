@@ -5,6 +5,7 @@ use model::CheckedBlock;
 ghost use mathlib.Core.Path.{_≡_};
 ghost use Prim.Native.Nat.{_+_, _*_, _≤_, _%_, _^_};
 ghost use Rattle.model.specs.Block.{blockOf, knownForm, sumOfWords, weighedWords, sumBefore, checkHolds, allZero, badCount, zerosHold, badFields, checkedBlock};
+ghost use Rattle.model.specs.Blocks.{isGood};
 ghost use Rattle.model.specs.Wire.{byte};
 
 // The words before the check, added.
@@ -81,7 +82,8 @@ fn all_zero(part: &[u8], from: usize, n: usize) -> bool
     zero
 }
 
-fn bad_count(n: u8) -> bool
+// A count that no outline has.
+pub fn bad_count(n: u8) -> bool
     ensures { λ r. ⌜ r ≡ badCount n ⌝ }
 {
     (n == 0) | (n > 16)
@@ -145,4 +147,13 @@ pub fn check_block(part: &[u8]) -> CheckedBlock
         return CheckedBlock::Refused(wire::word(part, 0), 11);
     }
     CheckedBlock::Good(block_of(part))
+}
+
+pub fn good(checked: CheckedBlock) -> bool
+    ensures { λ r. ⌜ r ≡ isGood checked ⌝ }
+{
+    match checked {
+        CheckedBlock::Good(_) => true,
+        CheckedBlock::Refused(_, _) => false,
+    }
 }

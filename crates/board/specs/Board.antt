@@ -6,7 +6,7 @@ use Prim.Native.Nat.{ℕ, _*_, _≤_, _<_}
 use lib.ListN.{length}
 use Rattle.integers.specs.Signed.{Int, ofNat, _⊟_, _⊠_, _≼_}
 use Rattle.integers.specs.Whole.{Within}
-use Rattle.exact.specs.Plane.{Point, difference, scaled, dot}
+use Rattle.plane.specs.Plane.{Point, difference, scaled, dot}
 use Rattle.whole_way.specs.Mover.{Mover, share, AwayBetween}
 use Rattle.pairs.specs.declared.Vector.{Vector}
 use Rattle.pairs.specs.Pairs.{pointOf, Sized}

@@ -18,7 +18,8 @@ use Rattle.model.specs.Ground as Ground
 use Rattle.model.specs.Simplex.{slot, solve}
 use Rattle.model.specs.Distance.{vertex, held, startSimplex, roundsFrom, measure, proxyDistance}
 use Rattle.model.specs.Distance as D
-use Rattle.model64.specs.Distance.{vertex as vertexOf64, held as held64, startSimplex as startSimplex64, roundsFrom as roundsFrom64, measure as measure64, proxyDistance as proxyDistance64}
+use Rattle.model64.specs.Distance.{vertex as vertexOf64, held as held64, startSimplex as startSimplex64, roundsFrom as roundsFrom64, measure as measure64}
+use Rattle.model64.specs.Distance.{proxyDistance as proxyDistance64}
 use Rattle.model64.specs.Distance as D64
 use Rattle.bridge.specs.Wide.{vector64, pose64, vertex64, simplex64, solved64, rounds64, witnessPoints64, output64, measurement64, distance64}
 use Rattle.bridge.proofs.Ground.{by-test, normalise-same}
@@ -55,7 +56,16 @@ module _ (f : Format) (a b : List Float) (p : Pose) where
       let i = D.supportA f a (r .direction) in
       let j = D.supportB f b p (r .direction) in
       let v = vertex f a b p i j (slot (r .simplex) (r .count) .a) in
-      rw (solve-same f s n, slot-same (r .simplex) (r .count), support-same f a (r .direction), support-same f b (Ground.inverseRotate f (p .rotation) (Ground.negate (r .direction))), held-same s n i j, vertex-same i j, set-map vertex64 (r .simplex) (r .count) v)
+      rw (
+        solve-same f s n,
+        slot-same (r .simplex) (r .count),
+        support-same f a (r .direction),
+        support-same f b
+            (Ground.inverseRotate f (p .rotation) (Ground.negate (r .direction))),
+        held-same s n i j,
+        vertex-same i j,
+        set-map vertex64 (r .simplex) (r .count) v,
+      )
       (by-test rounds64 (D.touches f r) refl
       (by-test rounds64 (held s n i j) refl (rounds-same k _ _ _ _)))
 

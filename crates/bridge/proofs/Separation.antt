@@ -60,7 +60,8 @@ module _ (f : Format) where
         let l = S.middle f (point b j) (point b k) in
         rw (across-same (point b j) (point b k), toward-same pb l (Ground.onPoint f pa (point a i)) (S.across f (point b j) (point b k)))
 
-    by-same : (n i k j l : ℕ) → S64.separationBy f (sweep64 wa) (sweep64 wb) a b (pose64 pa) (pose64 pb) n i k j l ≡ function64 (S.separationBy f wa wb a b pa pb n i k j l)
+    by-same : (n i k j l : ℕ) → S64.separationBy f (sweep64 wa) (sweep64 wb) a b (pose64 pa) (pose64 pb) n i k j l
+        ≡ function64 (S.separationBy f wa wb a b pa pb n i k j l)
     by-same n i k j l =
         by-test function64 (eqb n 1) (points-same i j) (by-test function64 (eqb i k) (face-b-same i j l) (face-a-same i k j))
 
@@ -100,12 +101,20 @@ module _ (f : Format) where
   unfolding evaluate64 evaluate
   evaluate-same a b g i j t = rw (transform-same (g .«sweep_a») t, transform-same (g .«sweep_b») t) (of-same a b g _ _ (g .ty) i j)
 
-  pub find-same : (a b : List Float) (g : SeparationFunction) (t : Float) → findMinSeparation64 f a b (function64 g) t ≡ minSeparation64 (findMinSeparation f a b g t)
+  pub find-same : (a b : List Float) (g : SeparationFunction) (t : Float) → findMinSeparation64 f a b (function64 g) t
+      ≡ minSeparation64 (findMinSeparation f a b g t)
   unfolding findMinSeparation64 findMinSeparation
   find-same a b g t =
       let pa = transformAt f (g .«sweep_a») t in
       let pb = transformAt f (g .«sweep_b») t in
-      rw (transform-same (g .«sweep_a») t, transform-same (g .«sweep_b») t, deepest-a-same a b g pa pb (g .ty), deepest-b-same a b g pa pb (g .ty), of-same a b g pa pb (g .ty))
+      rw (
+        transform-same (g .«sweep_a») t,
+        transform-same (g .«sweep_b») t,
+        deepest-a-same a b g pa pb (g .ty),
+        deepest-b-same a b g pa pb
+            (g .ty),
+        of-same a b g pa pb (g .ty),
+      )
 
   pub corners-same : (a b : List Float) (g : SeparationFunction) (t : Float) → cornersAt64 f a b (function64 g) t ≡ cornersAt f a b g t
   unfolding cornersAt64 cornersAt

@@ -14,6 +14,8 @@ use Rattle.model.specs.declared.CheckedBlock.{CheckedBlock}
 use Rattle.model.specs.declared.CheckedBlock.the-variants as Checked
 use Rattle.model.specs.declared.SweepAnswer.{SweepAnswer}
 use Rattle.model.specs.declared.SweepAnswer.the-variants.{Overlapped, Hit, Separated, Failed, Refused}
+use Rattle.model.specs.declared.Outcome.{Outcome}
+use Rattle.model.specs.declared.Outcome.the-variants as Outcome
 use Rattle.model.specs.declared.BlockAnswer.{BlockAnswer}
 use Rattle.model.specs.declared.BlockAnswer.the-variants as Block
 use Rattle.model.specs.declared.Verdict.{Verdict}
@@ -21,14 +23,15 @@ use Rattle.model.specs.Support.{point}
 use Rattle.model.specs.Block.{checkedBlock}
 use Rattle.model.specs.Work.{moveAt, sweepFor, blockAnswer}
 use Rattle.model.specs.Work as W
-use Rattle.model.specs.Sheet.{wholeAnswers, restAnswer, answers, workedLine, linesFrom, counted, totalsFrom, sheet}
+use Rattle.model.specs.Blocks.{blocks}
+use Rattle.model.specs.Sheet.{answers, workedLine, linesFrom, counted, totalsFrom, sheet}
 use Rattle.model.specs.Sheet as Sheet
-use Rattle.model64.specs.Work.{moveAt as moveAt64, sweepFor as sweepFor64, blockAnswer as answerOf64}
+use Rattle.model64.specs.Work.{moveAt as moveAt64, sweepFor as sweepFor64, blockAnswer as blockAnswerOf64}
 use Rattle.model64.specs.Work as W64
-use Rattle.model64.specs.Sheet.{wholeAnswers as wholeAnswers64, answers as answers64, workedLine as workedLine64, linesFrom as linesFrom64, totalsFrom as totalsFrom64}
+use Rattle.model64.specs.Sheet.{answers as answers64, workedLine as workedLine64, linesFrom as linesFrom64, totalsFrom as totalsFrom64}
 use Rattle.model64.specs.Sheet as Sheet64
 use Rattle.model64.specs.declared.BlockAnswer.the-variants as Block64
-use Rattle.bridge.specs.Wide.{sweep64, swept64, sweepAnswer64, verdict64, blockAnswer64}
+use Rattle.bridge.specs.Wide.{sweep64, swept64, sweepAnswer64, verdict64, outcome64, blockAnswer64}
 use Rattle.bridge.proofs.Corners.{swept-same}
 
 -- ---- a block
@@ -42,45 +45,41 @@ sweep-for-same f a b ns =
     rw (move-same ns 2, move-same ns 7)
     (swept-same f a (point ns 0 .x) (moveAt ns 2) b (point ns 0 .y) (moveAt ns 7) (point ns 1 .x) (point ns 1 .y))
 
-pub told-same : (f : Format) (job : ℕ) (k : Corners) (x : SweepAnswer) → W64.toldBy f job k (sweepAnswer64 x) ≡ blockAnswer64 (W.toldBy f job k x)
-told-same f job k (Overlapped n) = refl
-told-same f job k (Hit c n) = refl
-told-same f job k (Separated c n) = refl
-told-same f job k (Failed c n) = refl
-told-same f job k (Refused number) = refl
+pub told-same : (f : Format) (k : Corners) (x : SweepAnswer) → W64.toldBy f k (sweepAnswer64 x) ≡ outcome64 (W.toldBy f k x)
+told-same f k (Overlapped n) = refl
+told-same f k (Hit c n) = refl
+told-same f k (Separated c n) = refl
+told-same f k (Failed c n) = refl
+told-same f k (Refused number) = refl
+
+of-job-same : (job : ℕ) (x : Outcome) → W64.ofJob job (outcome64 x) ≡ blockAnswer64 (W.ofJob job x)
+of-job-same job (Outcome.Found v) = refl
+of-job-same job (Outcome.Refused number) = refl
 
 by-check : (f : Format) (b : List ℕ) (x : CheckedBlock) → W64.answerBy f b x ≡ blockAnswer64 (W.answerBy f b x)
 by-check f b (Checked.Good k) =
-    rw (sweep-for-same f (W.pointsA b k) (W.pointsB b k) (W.numbersOf b))
-    (told-same f (k .job) (W.sweepOf f b k .corners) (W.sweepOf f b k .answer))
+    let swept = W.sweepOf f b k in
+    rw (sweep-for-same f (W.pointsA b k) (W.pointsB b k) (W.numbersOf b), told-same f (swept .corners) (swept .answer))
+    (of-job-same (k .job) (W.told f swept))
 by-check f b (Checked.Refused job number) = refl
 
-pub block-answer-same : (f : Format) (b : List ℕ) → answerOf64 f b ≡ blockAnswer64 (blockAnswer f b)
-unfolding answerOf64 blockAnswer
+pub block-answer-same : (f : Format) (b : List ℕ) → blockAnswerOf64 f b ≡ blockAnswer64 (blockAnswer f b)
+unfolding blockAnswerOf64 blockAnswer
 block-answer-same f b = by-check f b (checkedBlock b)
 
 -- ---- a file
-map-append : {A B : Type 0} (g : A → B) (l r : List A) → map g (l ++ r) ≡ map g l ++ map g r
-map-append g [] r = refl
-map-append g (x ∷ l) r = ap (λ (t : List _). g x ∷ t) (map-append g l r)
+by-size : (f : Format) (x : List ℕ) (whole : Bool) →
+    cond whole (blockAnswerOf64 f x) (Block64.Refused 0 9) ≡ blockAnswer64 (cond whole (blockAnswer f x) (Block.Refused 0 9))
+by-size f x true = block-answer-same f x
+by-size f x false = refl
 
-whole-same : (f : Format) (k : ℕ) (b : List ℕ) → wholeAnswers64 f k b ≡ map blockAnswer64 (wholeAnswers f k b)
-unfolding wholeAnswers64 wholeAnswers
-whole-same f zero b = refl
-whole-same f (suc k) b = rw (block-answer-same f (take 512 b), whole-same f k (drop 512 b))
-
-rest-same : (empty : Bool) → cond empty [] (Block64.Refused 0 9 ∷ []) ≡ map blockAnswer64 (cond empty [] (Block.Refused 0 9 ∷ []))
-rest-same true = refl
-rest-same false = refl
+each-same : (f : Format) (xs : List (List ℕ)) → map (Sheet64.answerOf f) xs ≡ map blockAnswer64 (map (Sheet.answerOf f) xs)
+each-same f [] = refl
+each-same f (x ∷ xs) = rw (by-size f x (eqb (length x) 512), each-same f xs)
 
 pub answers-same : (f : Format) (b : List ℕ) → answers64 f b ≡ map blockAnswer64 (answers f b)
 unfolding answers64 answers
-answers-same f b =
-    rw (
-      whole-same f (length b / 512) b,
-      rest-same (eqb (length b % 512) 0),
-      ← map-append blockAnswer64 (wholeAnswers f (length b / 512) b) (restAnswer (length b % 512)),
-    )
+answers-same f b = each-same f (blocks b)
 
 -- ---- its lines and totals
 pub line-same : (f : Format) (n : ℕ) (x : BlockAnswer) → Sheet64.answerLine f n (blockAnswer64 x) ≡ Sheet.answerLine f n x

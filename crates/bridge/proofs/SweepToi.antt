@@ -20,7 +20,8 @@ use Rattle.model.specs.Separation.{newSeparation, evaluate, findMinSeparation}
 use Rattle.model.specs.SweepToi.{PushEnd, ended, moved, closestAt, tried, rootFrom, pushFrom, advanceFrom, sweepTask, sweepTimeOfImpact}
 use Rattle.model.specs.SweepToi as T
 use Rattle.model64.specs.SweepToi as T64
-use Rattle.model64.specs.SweepToi.{PushEnd as PushEnd64, closestAt as closestAt64, tried as tried64, rootFrom as rootFrom64, pushFrom as pushFrom64, advanceFrom as advanceFrom64, sweepTask as sweepTask64, sweepTimeOfImpact as sweepTimeOfImpact64}
+use Rattle.model64.specs.SweepToi.{PushEnd as PushEnd64, closestAt as closestAt64, tried as tried64, rootFrom as rootFrom64, pushFrom as pushFrom64}
+use Rattle.model64.specs.SweepToi.{advanceFrom as advanceFrom64, sweepTask as sweepTask64, sweepTimeOfImpact as sweepTimeOfImpact64}
 use Rattle.bridge.specs.Wide.{vector64, pose64, sweep64, function64, task64, closest64, rootSearch64, sweepAnswer64}
 use Rattle.bridge.proofs.Ground.{by-test}
 use Rattle.bridge.proofs.Domain.{pair-refusal-same}
@@ -37,7 +38,12 @@ module _ (f : Format) (w : SweepTask) (a b : List Float) where
   closest-same t c =
       let pa = transformAt f (w .«sweep_a») t in
       let pb = transformAt f (w .«sweep_b») t in
-      rw (transform-same f (w .«sweep_a») t, transform-same f (w .«sweep_b») t, measure-same f (Ground.inverseTimes f pa pb) a (w .«radius_a») b (w .«radius_b») false T.sweepPair c)
+      rw (
+        transform-same f (w .«sweep_a») t,
+        transform-same f (w .«sweep_b») t,
+        measure-same f (Ground.inverseTimes f pa pb) a (w .«radius_a») b
+            (w .«radius_b») false T.sweepPair c,
+      )
 
   tried-same : (n : ℕ) (a1 a2 s1 s2 : Float) → tried64 f (task64 w) n a1 a2 s1 s2 ≡ tried f w n a1 a2 s1 s2
   unfolding tried64 tried
@@ -60,7 +66,12 @@ module _ (f : Format) (w : SweepTask) (a b : List Float) where
   push-same g t1 x (suc k) t2 n =
       let m = findMinSeparation f a b g t2 in
       let s1 = evaluate f a b g (m .«index_a») (m .«index_b») t1 in
-      rw (find-same f a b g t2, evaluate-same f a b g (m .«index_a») (m .«index_b») t1, root-same g (m .«index_a») (m .«index_b») t2 50 t1 t2 s1 (m .separation) 0)
+      rw (
+        find-same f a b g t2,
+        evaluate-same f a b g (m .«index_a») (m .«index_b») t1,
+        root-same g (m .«index_a») (m .«index_b») t2 50 t1 t2 s1
+            (m .separation) 0,
+      )
       (by-test end64 (lt (w .tolerance) (sub f (m .separation) (w .target))) refl
       (by-test end64 (le (T.low f w) (m .separation)) refl
       (by-test end64 (lt s1 (T.low f w)) refl
@@ -72,7 +83,8 @@ module _ (f : Format) (w : SweepTask) (a b : List Float) where
   onward-same (moved t n) go64 go h = h t n
 
   advance-by-same : (t1 : Float) (x : Closest) (n : Counts) (go64 : Float → Counts → SweepAnswer64) (go : Float → Counts → SweepAnswer) →
-      ((t : Float) (m : Counts) → go64 t m ≡ sweepAnswer64 (go t m)) → T64.advanceBy f (task64 w) a b t1 (closest64 x) n go64 ≡ sweepAnswer64 (T.advanceBy f w a b t1 x n go)
+      ((t : Float) (m : Counts) → go64 t m ≡ sweepAnswer64 (go t m)) → T64.advanceBy f (task64 w) a b t1 (closest64 x) n go64
+      ≡ sweepAnswer64 (T.advanceBy f w a b t1 x n go)
   advance-by-same t1 x n go64 go h =
       let g = newSeparation f (w .«sweep_a») (w .«sweep_b») a b (x .cache) t1 in
       rw (new-separation-same f (w .«sweep_a») (w .«sweep_b») a b (x .cache) t1, push-same g t1 x 8 (w .«t_max») n)
@@ -80,7 +92,8 @@ module _ (f : Format) (w : SweepTask) (a b : List Float) where
       (by-test sweepAnswer64 (le (x .distance) (T.high f w)) refl
       (onward-same (pushFrom f w a b g t1 x 8 (w .«t_max») n) go64 go h)))
 
-  pub advance-same : (k : ℕ) (t1 : Float) (c : SimplexCache) (n : Counts) → advanceFrom64 f (task64 w) a b k t1 c n ≡ sweepAnswer64 (advanceFrom f w a b k t1 c n)
+  pub advance-same : (k : ℕ) (t1 : Float) (c : SimplexCache) (n : Counts) → advanceFrom64 f (task64 w) a b k t1 c n
+      ≡ sweepAnswer64 (advanceFrom f w a b k t1 c n)
   unfolding advanceFrom64 advanceFrom
   advance-same zero t1 c n = rw (closest-same t1 c) (advance-by-same t1 (closestAt f w a b t1 c) (T.called n) _ _ (λ t m. refl))
   advance-same (suc k) t1 c n =

@@ -23,6 +23,8 @@ use Rattle.model.specs.declared.SweepAnswer.{SweepAnswer}
 use Rattle.model.specs.declared.SweepAnswer.the-variants as SweepAnswer
 use Rattle.model.specs.declared.Swept.{Swept}
 use Rattle.model.specs.declared.Verdict.{Verdict}
+use Rattle.model.specs.declared.Outcome.{Outcome}
+use Rattle.model.specs.declared.Outcome.the-variants as Outcome
 use Rattle.model.specs.declared.BlockAnswer.{BlockAnswer}
 use Rattle.model.specs.declared.BlockAnswer.the-variants as BlockAnswer
 use Rattle.model64.specs.declared.Vector.{Vector as Vector64}
@@ -48,6 +50,8 @@ use Rattle.model64.specs.declared.SweepAnswer.{SweepAnswer as SweepAnswer64}
 use Rattle.model64.specs.declared.SweepAnswer.the-variants as SweepAnswer64
 use Rattle.model64.specs.declared.Swept.{Swept as Swept64}
 use Rattle.model64.specs.declared.Verdict.{Verdict as Verdict64}
+use Rattle.model64.specs.declared.Outcome.{Outcome as Outcome64}
+use Rattle.model64.specs.declared.Outcome.the-variants as Outcome64
 use Rattle.model64.specs.declared.BlockAnswer.{BlockAnswer as BlockAnswer64}
 use Rattle.model64.specs.declared.BlockAnswer.the-variants as BlockAnswer64
 
@@ -146,6 +150,10 @@ swept64 x = record { answer = sweepAnswer64 (x .answer); corners = x .corners }
 
 abbrev pub verdict64 : Verdict → Verdict64
 verdict64 v = record { status = v .status; contact = contact64 (v .contact); counts = v .counts; corners = v .corners }
+
+abbrev pub outcome64 : Outcome → Outcome64
+outcome64 (Outcome.Found v) = Outcome64.Found (verdict64 v)
+outcome64 (Outcome.Refused number) = Outcome64.Refused number
 
 abbrev pub blockAnswer64 : BlockAnswer → BlockAnswer64
 blockAnswer64 (BlockAnswer.Worked job v) = BlockAnswer64.Worked job (verdict64 v)

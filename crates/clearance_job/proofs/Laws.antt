@@ -10,8 +10,8 @@ use lib.Ieee.{Float, binary32, toBits}
 use Rattle.integers.specs.Signed.{Int, 0Int, ofNat, _⊠_, _≼_, _≺_}
 use Rattle.integers.specs.Whole.{signed}
 use Rattle.integers.proofs.Signed.{le-or-lt, ⊠-comm}
-use Rattle.exact.proofs.Weights.{⊠-mono}
-use Rattle.exact.specs.Fraction.{_≤ᶠ_, _<ᶠ_}
+use Rattle.plane.proofs.Weights.{⊠-mono}
+use Rattle.plane.specs.Fraction.{_≤ᶠ_, _<ᶠ_}
 use Rattle.model.specs.Support.{point}
 use Rattle.grid.specs.Grid.{unit}
 use Rattle.whole_way.specs.Mover.{share}
@@ -41,8 +41,14 @@ pub up-by : (x : Float) (r : ℕ) → FractionUp x r → toBits binary32 x ≤ 1
 up-by x r h l = h .least (low-bits (toBits binary32 x) l)
 
 pub up-past : (x : Float) (r : ℕ) → FractionUp x r → toBits binary32 x ≤ 1065353216 → worthOf x ⊠ ofNat 16777216 ≼ ofNat (r + 1) ⊠ ofNat unit
-up-past x r h l = omega (arith, up-by x r h l, ⊠-mono (ofNat unit) (ofNat r) (ofNat (r + 1)) (omega arith) (omega arith), ⊠-comm (ofNat r) (ofNat
-    unit), ⊠-comm (ofNat (r + 1)) (ofNat unit))
+up-past x r h l = omega (
+  arith,
+  up-by x r h l,
+  ⊠-mono (ofNat unit) (ofNat r) (ofNat (r + 1)) (omega arith) (omega arith),
+  ⊠-comm (ofNat r) (ofNat
+      unit),
+  ⊠-comm (ofNat (r + 1)) (ofNat unit),
+)
 
 -- ---- the promise
 module _ (pointsA pointsB numbers : List Float) (from : Float) (job : GridJob) (axs ays bxs bys : List ℕ) (part : Part)

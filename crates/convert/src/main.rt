@@ -20,11 +20,11 @@ fn failed() -> Step {
 fn write_part(name: &[u8], fd: i32, part: &[u8], before: u64) -> Step {
     let mut file = io::large_buffer();
     let mut text = io::buffer();
-    let converted = forms::convert_part(part, before, &mut file, &mut text);
-    if !input::write_to(fd, name, &file, converted.file) {
+    let converted = convert_forms::convert_part(part, before, &mut file, &mut text);
+    if !streams::write_to(fd, name, &file, converted.file) {
         return failed();
     }
-    if !input::write_to_output(&text, converted.text) {
+    if !streams::write_to_output(&text, converted.text) {
         return failed();
     }
     Step {
@@ -36,7 +36,7 @@ fn write_part(name: &[u8], fd: i32, part: &[u8], before: u64) -> Step {
 
 fn next_part(name: &[u8], fd: i32, before: u64) -> Step {
     let mut buffer = io::large_buffer();
-    let filled = input::fill_from_input(&mut buffer);
+    let filled = streams::fill_from_input(&mut buffer);
     if filled.failed {
         return failed();
     }
@@ -44,11 +44,11 @@ fn next_part(name: &[u8], fd: i32, before: u64) -> Step {
     write_part(name, fd, &buffer[..n], before)
 }
 
-// Whether all parts were converted. A proved loop has to end, and nothing says that the input does: so the turns are counted, to a number that no
+// Whether all parts were converted. A proved loop has to end, and nothing says that the input does: so the reads are counted, to a number that no
 // run reaches.
 fn convert(name: &[u8], fd: i32) -> bool {
     let mut before = 0u64;
-    for turn in 0..u64::MAX {
+    for reads in 0..u64::MAX {
         let step = next_part(name, fd, before);
         before = step.blocks;
         if !step.more {
@@ -70,7 +70,7 @@ fn replace(name: &[u8], beside: &mut [u8]) {
 }
 
 fn run(name: &[u8]) {
-    if !input::streams_open() {
+    if !streams::streams_open() {
         return;
     }
     if !outfile::may_be_replaced(name) {

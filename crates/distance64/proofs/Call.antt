@@ -1,3 +1,4 @@
+-- Written by tests/written/wide.py from distance, in f64.
 -- The endings of `measure` and of `proxy_distance`, one law each. Assumes nothing.
 use Prim.Native.Nat.{ℕ, zero, suc}
 use native.Mathlib.Omega.{arith}

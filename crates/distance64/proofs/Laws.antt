@@ -1,3 +1,4 @@
+-- Written by tests/written/wide.py from distance, in f64.
 -- What the loops of the distance call meet: one more entry or slot, one more round, and its endings. Assumes nothing.
 use Prim.Native.Nat.{ℕ, zero, suc, _+_, _-_, _/_, _<_, _≤_}
 use native.Mathlib.Omega.{arith}

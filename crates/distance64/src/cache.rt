@@ -1,3 +1,4 @@
+// Written by tests/written/wide.py from distance, in f64.
 // The cache: whether its entries name points of the two lists, and how a simplex is written to it.
 use model::SimplexCache;
 use model64::SimplexVertex;

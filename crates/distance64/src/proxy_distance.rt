@@ -1,3 +1,4 @@
+// Written by tests/written/wide.py from distance, in f64.
 // The distance call. Each round solves for the vertices nearest to the origin and adds the corner pair farthest against them, until a pair
 // comes again or the outlines touch. All is done in the frame of A.
 use crate::cache::cache_is_valid;

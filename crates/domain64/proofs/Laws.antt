@@ -1,3 +1,4 @@
+-- Written by tests/written/wide.py from domain, in f64.
 -- What the loop over the parts of a list meets at the place it has reached: one more part, or the end. Assumes nothing.
 use Prim.Native.Nat.{ℕ, _+_, _<_, _≤_}
 use native.Mathlib.Numerals.{add-one}

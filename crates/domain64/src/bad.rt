@@ -1,3 +1,4 @@
+// Written by tests/written/wide.py from domain, in f64.
 // What is out of the domain, part by part. A NaN always is.
 use ground64::abs;
 use model64::Rotation;

@@ -1,4 +1,4 @@
-// Written by tests/wide.py from domain, in f64.
+// Written by tests/written/wide.py from domain, in f64.
 // The checks of what a caller hands in, by the numbers of refusal 1 to 8 in their order, and 12. The caller takes each answer apart by `let .. else`,
 // and hands on the number.
 mod bad;

@@ -19,7 +19,7 @@ use Rattle.model.specs.Ground.{constant, one, abs}
 use Rattle.model.specs.Domain.{badOutline, limit, badPart, badParts, squared, badRotation}
 use Rattle.model.specs.Distance.{measure, inputsRefusal, distanceRefusal, distanceBy, proxyDistance}
 use Rattle.model.specs.Support.{point}
-use Rattle.exact.specs.Plane.{Point}
+use Rattle.plane.specs.Plane.{Point}
 use Rattle.exact.specs.SquaredPaper.{IsPoint, Near, SquaredPaper, Fits, Answered}
 use Rattle.exact.proofs.Paper.{Small, cosine-is, sine-is, turn-small, add-small}
 use Rattle.exact.proofs.Answered.{abs-whole, limit-whole}
@@ -52,15 +52,18 @@ small-parts f [] h = refl
 small-parts f (x ∷ s) h = rw (h 0 (zero-lt-suc (length s)), small-parts f s (λ i l. h (suc i) (suc-le-suc l)))
 
 -- of a list of points
-small-points : (f : Format) (s : List Float) (z : ℕ → Point) → Fits s → ((i : ℕ) → i < length s / 2 → IsPoint (point s i) (z i)) → ((i : ℕ) → i < length s / 2 → Near 1048576 (z i))
+small-points : (f : Format) (s : List Float) (z : ℕ → Point) → Fits s → ((i : ℕ) → i < length s / 2 → IsPoint (point s i) (z i))
+    → ((i : ℕ) → i < length s / 2 → Near 1048576 (z i))
     → badParts f s ≡ false
 small-points f s z fit whole near = small-parts f s (λ i h. go i h (i % 2) refl)
   where
     go : (i : ℕ) → i < length s → (r : ℕ) → i % 2 ≡ r → badPart f (getD s i nan) ≡ false
     go i h zero e =
-        subst (λ (j : ℕ). badPart f (getD s j nan) ≡ false) (omega arith) (small-part f (whole (i / 2) (omega (arith, fit .even)) .x) (near (i / 2) (omega (arith, fit .even)) .x))
+        subst (λ (j : ℕ). badPart f (getD s j nan) ≡ false) (omega arith)
+        (small-part f (whole (i / 2) (omega (arith, fit .even)) .x) (near (i / 2) (omega (arith, fit .even)) .x))
     go i h (suc r) e =
-        subst (λ (j : ℕ). badPart f (getD s j nan) ≡ false) (omega arith) (small-part f (whole (i / 2) (omega (arith, fit .even)) .y) (near (i / 2) (omega (arith, fit .even)) .y))
+        subst (λ (j : ℕ). badPart f (getD s j nan) ≡ false) (omega arith)
+        (small-part f (whole (i / 2) (omega (arith, fit .even)) .y) (near (i / 2) (omega (arith, fit .even)) .y))
 
 -- ---- the rotation
 one-whole : (f : Format) → IsWhole (one f) (ofNat 1)
@@ -85,7 +88,8 @@ around-one : (f : Format) (x : Float) (z : Int) → IsWhole x z → z ≃ ofNat 
 unfolding I.le I.lt ofBits
 around-one f nan z i e = absurd (i .value)
 around-one f (inf s) z i e = absurd (i .value)
-around-one f (fin s m e) z i h = at f (subst (λ (t : Bool). t ≡ false) (sym (i .value .0)) (positive (i .sign) (i .size) (i .same))) (is-one (i .sign) (i .size) (i .same) (i .value .1))
+around-one f (fin s m e) z i h = at f (subst (λ (t : Bool). t ≡ false) (sym (i .value .0)) (positive (i .sign) (i .size) (i .same)))
+    (is-one (i .sign) (i .size) (i .same) (i .value .1))
   where
     positive : (t : Bool) (q : ℕ) → signed t q ≃ z → t ≡ false
     positive false q k = refl
@@ -106,8 +110,10 @@ around-one f (fin s m e) z i h = at f (subst (λ (t : Bool). t ≡ false) (sym (
 
     at : (f : Format) → s ≡ false → m * up e ≡ down e
         → (I.le (constant f 0x3f7c_0000 0x3fef_8000_0000_0000) (fin s m e) ≡ true) × (I.le (fin s m e) (constant f 0x3f82_0000 0x3ff0_4000_0000_0000) ≡ true)
-    at binary32 p q = let d = down-pos e in rw (p, q) (rw (lt-ltb (63 * 1 * down e) (down e * 64) (omega arith)) refl, rw (lt-ltb (down e * 64) (65 * 1 * down e) (omega arith)) refl)
-    at binary64 p q = let d = down-pos e in rw (p, q) (rw (lt-ltb (63 * 1 * down e) (down e * 64) (omega arith)) refl, rw (lt-ltb (down e * 64) (65 * 1 * down e) (omega arith)) refl)
+    at binary32 p q = let d = down-pos e in rw (p, q)
+        (rw (lt-ltb (63 * 1 * down e) (down e * 64) (omega arith)) refl, rw (lt-ltb (down e * 64) (65 * 1 * down e) (omega arith)) refl)
+    at binary64 p q = let d = down-pos e in rw (p, q)
+        (rw (lt-ltb (63 * 1 * down e) (down e * 64) (omega arith)) refl, rw (lt-ltb (down e * 64) (65 * 1 * down e) (omega arith)) refl)
 
 quarter-turn-accepted : (f : Format) {bound : ℕ} {p : Pose} {a b : List Float} (paper : SquaredPaper bound p a b) → badRotation f (p .rotation) ≡ false
 quarter-turn-accepted f {p = p} paper =

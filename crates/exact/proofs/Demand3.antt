@@ -17,7 +17,7 @@ use Rattle.model.specs.declared.ProxyDistanceOutput.{ProxyDistanceOutput}
 use Rattle.model.specs.declared.DistanceAnswer.the-variants.{Measured, Refused}
 use Rattle.model.specs.declared.WitnessPoints.{WitnessPoints}
 use Rattle.model.specs.Distance.{cache, replaced, written, measuredBy, cacheBy, measure, rounds, witnessPoints, distanceBy, distanceRefusal, proxyDistance}
-use Rattle.exact.specs.Outline.{SpansNearestPlace}
+use Rattle.exact.specs.Shared.{SpansNearestPlace}
 use Rattle.exact.specs.SquaredPaper.{SquaredPaper, outlineA, posedB, IsCache, Room, boundOf, Exact, Demand3, Answered}
 use Rattle.exact.proofs.Below.{below1, below2, below3}
 use Rattle.exact.proofs.Paper.{InDomain}
@@ -111,7 +111,8 @@ demand3 f bound room p a ra b rb radii pair c paper o arrays answered notLimit =
         let r = rounds f a b p c in
         let domain = answered-in-domain f ra rb paper pair c (none refl) in
         let told : measure f p a ra b rb radii pair c .output ≡ o = cc in
-        let ends : r .ending ≡ o .ending = sym (ending-told f (r .ending) radii ra rb (witnessPoints f (r .simplex) (r .count)) r) ∙ ap (λ (x : ProxyDistanceOutput). x .ending) told in
+        let ends : r .ending ≡ o .ending = sym (ending-told f (r .ending) radii ra rb (witnessPoints f (r .simplex) (r .count)) r)
+        ∙ ap (λ (x : ProxyDistanceOutput). x .ending) told in
         subst (λ (e : Ending). Exact (outlineA paper) (posedB paper) e (cacheBy (r .ending) pair c r)) ends
         (exact-end f room paper domain pair c arrays r (call-right f room paper domain c) (λ e. notLimit (sym ends ∙ e)))
     go (suc n) none is = absurd (refused is)

@@ -12,7 +12,7 @@ use Rattle.integers.specs.Polynomial.{_:+_, _:-_, _:*_}
 use Rattle.integers.proofs.Signed.{⊠-comm, ⊠-neg, ⊠-nonneg, ⊠-pos, ⊠-pos-back, ⊠-square, le-or-lt}
 use Rattle.integers.proofs.Ring.{ring}
 use Rattle.model.specs.Simplex.{inside}
-use Rattle.exact.specs.Plane.{Point, difference, dot, perp}
+use Rattle.plane.specs.Plane.{Point, difference, dot, perp}
 use Rattle.exact.specs.Regions.{toward, across, Lies3}
 use Rattle.exact.proofs.Sketch.{differenceᴱ, dotᴱ, perpᴱ, towardᴱ, acrossᴱ, P, Q, R, parts}
 
@@ -133,7 +133,8 @@ module _ (u w h : Point) where
   all-answered (second p f) (second q g) (second r k) = absurd (clash (toward h u) (q .0) (r .1))
 
   -- every test failed
-  pub enclosed : Ahead u w h → Failed u w (across u w h) → Failed u h (across h u w) → Ahead w u h → Ahead h u w → Failed w h (across w h u) → Lies3 u w h inside
+  pub enclosed : Ahead u w h → Failed u w (across u w h) → Failed u h (across h u w) → Ahead w u h → Ahead h u w → Failed w h (across w h u)
+      → Lies3 u w h inside
   enclosed atU onUW onUH atW atH onWH = all-answered (edgeUW onUW) (edgeUH onUH) (edgeWH onWH)
     where
       edgeUW : Failed u w (across u w h) → EdgeUW

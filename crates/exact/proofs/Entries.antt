@@ -21,7 +21,8 @@ entries-below limit l (suc n) h i r =
 all-below : (limit : ℕ) (l : List ℕ) (n : ℕ) → ((i : ℕ) → i < n → getD l i 0 < limit) → T (allBelow limit l n)
 unfolding allBelow
 all-below limit l zero h = tt
-all-below limit l (suc n) h = and-i (allBelow limit l n) (ltb (getD l n 0) limit) (all-below limit l n (λ i r. h i (le-step r))) (lt→ltb (getD l n 0) limit (h n (le-refl (suc n))))
+all-below limit l (suc n) h = and-i (allBelow limit l n) (ltb (getD l n 0) limit) (all-below limit l n (λ i r. h i (le-step r)))
+    (lt→ltb (getD l n 0) limit (h n (le-refl (suc n))))
 
 pub valid-by-entries : (n : ℕ) (la lb : List ℕ) (na nb : ℕ) → T (leb n 3) → ((i : ℕ) → i < n → getD la i 0 < na) → ((i : ℕ) → i < n → getD lb i 0 < nb)
     → T (cacheIsValid (cache 0 n la lb) na nb)

@@ -19,7 +19,7 @@ use Rattle.model.specs.declared.Vector.{Vector}
 use Rattle.model.specs.Ground.{vector, minus}
 use Rattle.model.specs.Ground as Ground
 use Rattle.model.specs.Support.{point, supportFrom, support}
-use Rattle.exact.specs.Plane.{Point, difference, dot}
+use Rattle.plane.specs.Plane.{Point, difference, dot}
 use Rattle.exact.specs.SquaredPaper.{Room}
 use Rattle.exact.proofs.Vectors.{SizedPoint, dot-sized, zero-whole, whole-of-equal}
 
@@ -53,7 +53,8 @@ module _ (f : Format) (bound : ℕ) (room : Room f bound) {d : Vector} {e : Poin
   Best i best x = Furthest e z i best × IsWhole x (value best)
 
   up-to : (i k : ℕ) (F : ℕ → Type 0) → k < i + 1 → ((j : ℕ) → j < i → F j) → F i → F k
-  up-to i k F h below here = elim (eq-or-lt-of-le (le-of-suc-le-suc (subst (λ (n : ℕ). k < n) (add-one i) h))) [ inl r ↦ subst F (sym r) here | inr r ↦ below k r ]
+  up-to i k F h below here = elim (eq-or-lt-of-le (le-of-suc-le-suc (subst (λ (n : ℕ). k < n) (add-one i) h)))
+      [ inl r ↦ subst F (sym r) here | inr r ↦ below k r ]
 
   -- one corner more: it wins if its value is greater
   one-more : {i best : ℕ} {x y : Float} → Best i best x → IsWhole y (value i) → Best (i + 1) (cond (I.lt x y) i best) (cond (I.lt x y) y x)
@@ -61,11 +62,19 @@ module _ (f : Format) (bound : ℕ) (room : Room f bound) {d : Vector} {e : Poin
     where
       go : (t : Bool) → Test t (value best ≺ value i) (value i ≼ value best) → Best (i + 1) (cond t i best) (cond t y x)
       go true h = (
-        record { among = omega arith; most = λ k r. up-to i k (λ j. dot e (z j) ≼ dot e (z i)) r (λ j l. omega (arith, b .most j l, value-flat best, value-flat i)) (le-refl _) },
+        record {
+          among = omega arith;
+          most = λ k r. up-to i k (λ j. dot e (z j) ≼ dot e (z i)) r
+              (λ j l. omega (arith, b .most j l, value-flat best, value-flat i)) (le-refl _);
+        },
         w,
       )
       go false h = (
-        record { among = omega (arith, b .among); most = λ k r. up-to i k (λ j. dot e (z j) ≼ dot e (z best)) r (b .most) (omega (arith, value-flat best, value-flat i)) },
+        record {
+          among = omega (arith, b .among);
+          most = λ k r. up-to i k (λ j. dot e (z j) ≼ dot e (z best)) r (b .most)
+              (omega (arith, value-flat best, value-flat i));
+        },
         v,
       )
 
@@ -76,7 +85,8 @@ module _ (f : Format) (bound : ℕ) (room : Room f bound) {d : Vector} {e : Poin
   pub first-is : (x y : Float) (l : List Float) (i : ℕ) → From (x ∷ y ∷ l) i → IsWhole (Ground.dot f d (minus f (vector x y) o)) (value i)
   first-is x y l i h =
       let here : i + 0 ≡ i = omega arith in
-      dot-sized f bound room along (subst (λ (k : ℕ). SizedPoint bound (minus f (vector x y) o) (difference (z k) (z 0)) 4 1) here (h 0 (omega arith))) tt tt tt .int
+      dot-sized f bound room along (subst (λ (k : ℕ). SizedPoint bound (minus f (vector x y) o) (difference (z k) (z 0)) 4 1) here (h 0 (omega arith))) tt tt
+      tt .int
 
   pub rest-are : (x y : Float) (l : List Float) (i : ℕ) → From (x ∷ y ∷ l) i → From l (i + 1)
   rest-are x y l i h k r =
@@ -103,7 +113,8 @@ support-furthest f bound room {d} {e} along z (x ∷ y ∷ s) h l fits =
     let nothing : IsWhole (Ground.zero f) (value f bound room along z o 0) =
     whole-of-equal (zero-whole f) (ring (lit 0Int) (var 0 :* (var 2 :- var 2) :+ var 1 :* (var 3 :- var 3)) (e .x ∷ e .y ∷ z 0 .x ∷ z 0 .y ∷ []) tt) in
     let start : Furthest e z 1 0 = record { among = zero-lt-suc 0; most = λ k r. subst (λ (j : ℕ). dot e (z j) ≼ dot e (z 0)) (first k r) (le-refl _) } in
-    let found = search-on f bound room along z o s 1 0 (Ground.zero f) (start, nothing) (rest-are f bound room along z o x y s 0 (λ k r. rw (from-zero k) (fits k r))) in
+    let found = search-on f bound room along z o s 1 0 (Ground.zero f) (start, nothing)
+    (rest-are f bound room along z o x y s 0 (λ k r. rw (from-zero k) (fits k r))) in
     subst (Furthest e z (length (x ∷ y ∷ s) / 2)) (sym (mod-eq-of-lt (small (length s) (found .among) l)))
     (subst (λ (n : ℕ). Furthest e z n (supportFrom f d o s 1 0 (Ground.zero f))) (omega arith) found)
   where

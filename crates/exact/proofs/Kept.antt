@@ -9,7 +9,7 @@ use Rattle.integers.specs.Signed.{Int, 0Int, ofNat, neg, _⊞_, _⊠_, _≼_, _
 use Rattle.integers.specs.Polynomial.{Expr, var, lit, _:+_, _:-_, _:*_, negated}
 use Rattle.integers.proofs.Signed.{⊠-cong, ⊠-cong-r}
 use Rattle.integers.proofs.Ring.{ring}
-use Rattle.exact.specs.Plane.{Point, sum, difference, opposite, dot, perp, total, weightedSum}
+use Rattle.plane.specs.Plane.{Point, sum, difference, opposite, dot, perp, total, weightedSum}
 use Rattle.exact.specs.Regions.{toward, across}
 use Rattle.exact.proofs.Below.{below1, below2}
 use Rattle.exact.proofs.Sketch.{dotᴱ, towardᴱ, acrossᴱ, offEdgeᴱ, P, Q, R, parts}
@@ -37,7 +37,8 @@ pub dot-cong : (d e u : Point) → d .x ≃ e .x → d .y ≃ e .y → dot d u �
 dot-cong d e u h k = omega (arith, ⊠-cong (d .x) (e .x) (u .x) (u .x) h refl, ⊠-cong (d .y) (e .y) (u .y) (u .y) k refl)
 
 -- a direction may be written in another way
-pub same-direction : {d : Point} {m : ℕ} {kept : ℕ → Point} {n : ℕ} {held : ℕ → Point} (e : Point) → d .x ≃ e .x → d .y ≃ e .y → Kept d m kept n held → Kept e m kept n held
+pub same-direction : {d : Point} {m : ℕ} {kept : ℕ → Point} {n : ℕ} {held : ℕ → Point} (e : Point) → d .x ≃ e .x → d .y ≃ e .y → Kept d m kept n held
+    → Kept e m kept n held
 same-direction {d} {m} {kept} {n} {held} e h k K = record {
   weight = K .weight;
   some = K .some;
@@ -123,7 +124,8 @@ kept-edge kept n held h k top =
       flat = omega (
         arith,
         ring (var 0 :* (0ᴱ :+ var 6 :* var 2 :+ var 7 :* var 4) :+ var 1 :* (0ᴱ :+ var 6 :* var 3 :+ var 7 :* var 5))
-            (var 6 :* (var 0 :* var 2 :+ var 1 :* var 3) :+ var 7 :* (var 0 :* var 4 :+ var 1 :* var 5)) (d .x ∷ d .y ∷ u .x ∷ u .y ∷ w .x ∷ w .y ∷ ofNat j ∷ ofNat k ∷ []) tt,
+            (var 6 :* (var 0 :* var 2 :+ var 1 :* var 3) :+ var 7 :* (var 0 :* var 4 :+ var 1 :* var 5))
+            (d .x ∷ d .y ∷ u .x ∷ u .y ∷ w .x ∷ w .y ∷ ofNat j ∷ ofNat k ∷ []) tt,
         ⊠-cong-r (ofNat k) (dot d w) (dot d u) (ends-level u w),
         ring ((0ᴱ :+ var 0 :+ var 1) :* var 2) (var 0 :* var 2 :+ var 1 :* var 2) (ofNat j ∷ ofNat k ∷ dot d u ∷ []) tt,
       );
@@ -135,7 +137,8 @@ abbrev three : ℕ → ℕ → ℕ → ℕ → ℕ
 three j k l zero = j
 three j k l (suc i) = two k l i
 
-pub covered : (held : ℕ → Point) → 0Int ≺ across (held 1) (held 2) (held 0) → 0Int ≺ across (held 2) (held 0) (held 1) → 0Int ≺ across (held 0) (held 1) (held 2)
+pub covered : (held : ℕ → Point) → 0Int ≺ across (held 1) (held 2) (held 0) → 0Int ≺ across (held 2) (held 0) (held 1) → 0Int ≺ across (held 0) (held 1)
+    (held 2)
     → Covered 3 held
 covered held hu hw hh =
     let u = held 0 in
@@ -163,7 +166,11 @@ covered held hu hw hh =
 -- off a vertex: what the origin is not ahead of the vertex toward
 pub behind-vertex : (u h : Point) → toward u h ≼ 0Int → dot (opposite u) h ≼ dot (opposite u) u
 behind-vertex u h l =
-    omega (arith, ring (negated (var 0) :* var 2 :+ negated (var 1) :* var 3) (negated (var 0) :* var 0 :+ negated (var 1) :* var 1 :+ towardᴱ P Q) (parts u h u) tt)
+    omega (
+      arith,
+      ring (negated (var 0) :* var 2 :+ negated (var 1) :* var 3) (negated (var 0) :* var 0 :+ negated (var 1) :* var 1 :+ towardᴱ P Q)
+          (parts u h u) tt,
+    )
 
 -- off an edge: a third vertex on whose side the origin does not lie
 pub behind-edge : (u w h : Point) → across u w h ≼ 0Int → dot (offEdge u w) h ≼ dot (offEdge u w) u

@@ -1,28 +1,15 @@
-mod Sketch
-mod Below
-mod Enclosed
-mod Vectors
-mod Origin
-mod Kept
-mod Solved
-mod Furthest
-mod Paper
-mod Along
-pub mod Weights
-mod Nearest
-pub mod Shorter
-pub mod Places
-mod Entries
-mod Rounds
-mod Told
-mod Answered
 pub mod Accepted
+pub mod Answered
+pub mod Below
 pub mod Demand3
-pub mod NoCircles
-pub mod Exchange
-pub mod Shift
-pub mod RoundLimit
-mod Sheets
-mod Instances
-mod CircleInstances
-mod ExchangeInstances
+pub mod Enclosed
+pub mod Entries
+pub mod Furthest
+pub mod Kept
+pub mod Nearest
+pub mod Origin
+pub mod Paper
+pub mod Rounds
+pub mod Sketch
+pub mod Solved
+pub mod Vectors

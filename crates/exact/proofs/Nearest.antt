@@ -8,14 +8,16 @@ use Rattle.integers.specs.Signed.{Int, 0Int, ofNat, neg, _⊞_, _⊟_, _⊠_, _
 use Rattle.integers.specs.Polynomial.{var, _:+_, _:-_, _:*_, negated}
 use Rattle.integers.proofs.Signed.{⊠-neg, ⊠-zero, ⊠-nonneg, ⊠-cong, ⊠-cong-r, ⊠-square, ⊠-pos, ⊠-nonneg-back, ⊠-pos-back}
 use Rattle.integers.proofs.Ring.{ring}
-use Rattle.exact.specs.Plane.{Point, difference, opposite, scaled, dot, total, sumBelow, weightedSum}
-use Rattle.exact.specs.Outline.{Outline, PointOf, divisor, dividend, SharesPoint, gap, NoneNearer}
+use Rattle.plane.specs.Plane.{Point, difference, opposite, scaled, dot, total, sumBelow, weightedSum}
+use Rattle.plane.specs.Outline.{Outline, PointOf, divisor, dividend, gap}
+use Rattle.exact.specs.Shared.{SharesPoint, NoneNearer}
 use Rattle.exact.proofs.Kept.{Kept, Covered, dot-cong}
-use Rattle.exact.proofs.Weights.{⊠-mono, dot-of-sum, sum-at-most, sum-at-least, sum-of-differences, onCorners, moved-to-corners}
+use Rattle.plane.proofs.Weights.{⊠-mono, dot-of-sum, sum-at-most, sum-at-least, sum-of-differences, onCorners, moved-to-corners}
 
 -- ---- two points of the plane: u is K times the kept place, v is W times a point of the difference
 -- along d, which is opposite to u, v lies no further than W times the level of u: then v lies beyond u
-pub beyond : (d u v : Point) (K times level W : Int) → 0Int ≼ K → 0Int ≺ times → d .x ≃ neg (times ⊠ u .x) → d .y ≃ neg (times ⊠ u .y) → dot d u ≃ K ⊠ level → dot d v ≼ W ⊠ level
+pub beyond : (d u v : Point) (K times level W : Int) → 0Int ≼ K → 0Int ≺ times → d .x ≃ neg (times ⊠ u .x) → d .y ≃ neg (times ⊠ u .y) → dot d u ≃ K ⊠ level
+    → dot d v ≼ W ⊠ level
     → W ⊠ dot u u ≼ K ⊠ dot u v
 beyond d u v K times level W hK forth along-x along-y flat far =
     let back = opposite (scaled times u) in
@@ -28,7 +30,8 @@ beyond d u v K times level W hK forth along-x along-y flat far =
       ⊠-cong-r W (dot d u) (dot back u) (dot-cong d back u along-x along-y),
       ring (var 0 :* (var 1 :* var 2)) (var 1 :* (var 0 :* var 2)) (K ∷ W ∷ level ∷ []) tt,
       ring (var 6 :* (var 4 :* (var 0 :* var 2 :+ var 1 :* var 3) :- var 5 :* (var 0 :* var 0 :+ var 1 :* var 1)))
-          (var 5 :* (negated (var 6 :* var 0) :* var 0 :+ negated (var 6 :* var 1) :* var 1) :- var 4 :* (negated (var 6 :* var 0) :* var 2 :+ negated (var 6 :* var 1) :* var 3))
+          (var 5 :* (negated (var 6 :* var 0) :* var 0 :+ negated (var 6 :* var 1) :* var 1) :- var 4 :*
+          (negated (var 6 :* var 0) :* var 2 :+ negated (var 6 :* var 1) :* var 3))
           (u .x ∷ u .y ∷ v .x ∷ v .y ∷ K ∷ W ∷ times ∷ []) tt,
     )) in
     omega arith
@@ -68,7 +71,8 @@ kept-off-origin {d} {m} {kept} K far =
 
 module _ (a b : Outline) where
   -- along d a point of the difference lies no further than its corners do
-  pub within-reach : (d : Point) (i j : ℕ) → ((k : ℕ) → k < a .count → dot d (a .corner k) ≼ dot d (a .corner i)) → ((k : ℕ) → k < b .count → dot d (b .corner j) ≼ dot d (b .corner k))
+  pub within-reach : (d : Point) (i j : ℕ) → ((k : ℕ) → k < a .count → dot d (a .corner k) ≼ dot d (a .corner i))
+      → ((k : ℕ) → k < b .count → dot d (b .corner j) ≼ dot d (b .corner k))
       → (p : PointOf a) (q : PointOf b) → dot d (gap a b p q) ≼ divisor a p ⊠ divisor b q ⊠ dot d (difference (a .corner i) (b .corner j))
   within-reach d i j topA topB p q =
       let A = divisor a p in
@@ -88,7 +92,8 @@ module _ (a b : Outline) where
         ring (var 0 :* var 1 :* (var 2 :* (var 4 :- var 6) :+ var 3 :* (var 5 :- var 7)))
             (var 1 :* (var 0 :* (var 2 :* var 4 :+ var 3 :* var 5)) :- var 0 :* (var 1 :* (var 2 :* var 6 :+ var 3 :* var 7)))
             (A ∷ B ∷ d .x ∷ d .y ∷ a .corner i .x ∷ a .corner i .y ∷ b .corner j .x ∷ b .corner j .y ∷ []) tt,
-        ring (var 2 :* (var 1 :* var 4 :- var 0 :* var 6) :+ var 3 :* (var 1 :* var 5 :- var 0 :* var 7)) (var 1 :* (var 2 :* var 4 :+ var 3 :* var 5) :- var 0 :* (var 2 :* var 6 :+ var 3 :* var 7))
+        ring (var 2 :* (var 1 :* var 4 :- var 0 :* var 6) :+ var 3 :* (var 1 :* var 5 :- var 0 :* var 7))
+            (var 1 :* (var 2 :* var 4 :+ var 3 :* var 5) :- var 0 :* (var 2 :* var 6 :+ var 3 :* var 7))
             (A ∷ B ∷ d .x ∷ d .y ∷ P .x ∷ P .y ∷ Q .x ∷ Q .y ∷ []) tt,
       )
 
@@ -149,14 +154,16 @@ module _ (a b : Outline) where
             let q : 0Int ≼ neg x = ⊠-nonneg-back (ofNat (K .times)) (neg x) (omega (arith, K .forth)) (omega (arith, ⊠-neg (ofNat (K .times)) x)) in
             omega arith
 
-    module _ (i j : ℕ) (topA : (k : ℕ) → k < a .count → dot d (a .corner k) ≼ dot d (a .corner i)) (topB : (k : ℕ) → k < b .count → dot d (b .corner j) ≼ dot d (b .corner k))
+    module _ (i j : ℕ) (topA : (k : ℕ) → k < a .count → dot d (a .corner k) ≼ dot d (a .corner i))
+        (topB : (k : ℕ) → k < b .count → dot d (b .corner j) ≼ dot d (b .corner k))
         (level : dot d (pair i j) ≼ K .level) where
       all-beyond : (p : PointOf a) (q : PointOf b) → divisor a p ⊠ divisor b q ⊠ dot u u ≼ ofNat (total m (K .weight)) ⊠ dot u (gap a b p q)
       all-beyond p q =
           let W = divisor a p ⊠ divisor b q in
           let hW = ⊠-nonneg (divisor a p) (divisor b q) (omega arith) (omega arith) in
           let far : dot d (gap a b p q) ≼ W ⊠ K .level = omega (arith, within-reach d i j topA topB p q, ⊠-mono W (dot d (pair i j)) (K .level) hW level) in
-          beyond d u (gap a b p q) (ofNat (total m (K .weight))) (ofNat (K .times)) (K .level) W (omega arith) (omega (arith, K .forth)) (K .along-x) (K .along-y) (K .flat) far
+          beyond d u (gap a b p q) (ofNat (total m (K .weight))) (ofNat (K .times)) (K .level) W (omega arith) (omega (arith, K .forth)) (K .along-x)
+          (K .along-y) (K .flat) far
 
       pub none-nearer : NoneNearer a b m (K .weight) (λ i. a .corner (nameA i)) (λ i. b .corner (nameB i))
       none-nearer p q =

@@ -16,7 +16,7 @@ use Rattle.model.specs.declared.Vector.{Vector}
 use Rattle.model.specs.Simplex.{Region, at1, at2, at3, on12, on13, on23, inside, near, far, region2, region3}
 use Rattle.model.specs.Simplex as Simplex
 use Rattle.model.specs.Ground as Ground
-use Rattle.exact.specs.Plane.{Point, difference, perp}
+use Rattle.plane.specs.Plane.{Point, difference, perp}
 use Rattle.exact.specs.Regions.{toward, across, Lies2, Lies3}
 use Rattle.exact.specs.SquaredPaper.{Room}
 use Rattle.exact.proofs.Sketch.{differenceᴱ, dotᴱ, perpᴱ, towardᴱ, acrossᴱ, P, Q, R, parts}
@@ -49,7 +49,8 @@ module _ (f : Format) where
       let above-y : Test (I.lt o y) (0Int ≺ b) (b ≼ 0Int) = lt-exact o y 0Int b (zero-whole f) j in
       let both : Test (I.lt o x && I.lt o y) ((0Int ≺ a) × (0Int ≺ b)) ((a ≼ 0Int) ⊎ (b ≼ 0Int)) =
       test-and (I.lt o x) (I.lt o y) above-x above-y (λ m n. (m, n)) (λ m. inl m) (λ m. inr m) in
-      test-and (I.lt o x && I.lt o y) (I.le z o) both (at-most k) (λ m n. (m .0, m .1, n)) (λ m. elim m [ inl n ↦ inl n | inr n ↦ inr (inl n) ]) (λ m. inr (inr m))
+      test-and (I.lt o x && I.lt o y) (I.le z o) both (at-most k) (λ m n. (m .0, m .1, n)) (λ m. elim m [ inl n ↦ inl n | inr n ↦ inr (inl n) ])
+      (λ m. inr (inr m))
 
 module _ (f : Format) (bound : ℕ) (room : Room f bound) where
   -- ---- the weights that the solvers test
@@ -59,7 +60,8 @@ module _ (f : Format) (bound : ℕ) (room : Room f bound) where
 
     near-is : IsWhole (near f u w) (toward z y)
     near-is =
-        whole-of-equal (dot-sized f bound room j (minus-sized f bound room j i tt tt) tt tt tt .int) (ring (dotᴱ Q (differenceᴱ Q P)) (towardᴱ Q P) (parts y z y) tt)
+        whole-of-equal (dot-sized f bound room j (minus-sized f bound room j i tt tt) tt tt tt .int)
+        (ring (dotᴱ Q (differenceᴱ Q P)) (towardᴱ Q P) (parts y z y) tt)
 
   pub region2-lies : {u w : Vector} {y z : Point} → SizedPoint bound u y 1 1 → SizedPoint bound w z 1 1 → Lies2 y z (region2 f u w)
   unfolding region2

@@ -20,7 +20,7 @@ use Rattle.model.specs.declared.Pose.{Pose}
 use Rattle.model.specs.Ground.{minus, negate, inverseRotate, onPoint}
 use Rattle.model.specs.Support.{point}
 use Rattle.model.specs.Distance.{supportA, supportB}
-use Rattle.exact.specs.Plane.{Point, sum, difference, opposite, turned, turnedBack, dot}
+use Rattle.plane.specs.Plane.{Point, sum, difference, opposite, turned, turnedBack, dot}
 use Rattle.exact.specs.SquaredPaper.{IsPoint, Near, SquaredPaper, Room, posedB}
 use Rattle.exact.proofs.Vectors.{SizedPoint, weaken-point, negate-sized}
 use Rattle.exact.proofs.Furthest.{support-furthest}
@@ -35,7 +35,11 @@ at-most-one c h = le-of-suc-le-suc (lt-of-not-le (λ (n : suc (c .minus + 1) ≤
         omega (arith, ⊠-square (c ⊟ ofNat 2), ring (less :* less) (var 0 :* var 0 :- var 0 :- var 0 :- var 0 :- var 0 :+ lit (ofNat 4)) (c ∷ []) tt)
 
 pub unit-root : (c : Int) → c ⊠ c ≼ ofNat 1 → Within 1 c
-unit-root c h = record { upper = at-most-one c h; lower = at-most-one (neg c) (omega (arith, ring (negated (var 0) :* negated (var 0)) (var 0 :* var 0) (c ∷ []) tt)) }
+unit-root c h = record {
+  upper = at-most-one c h;
+  lower = at-most-one (neg c)
+      (omega (arith, ring (negated (var 0) :* negated (var 0)) (var 0 :* var 0) (c ∷ []) tt));
+}
 
 -- ---- operations on whole numbers of at most n in size
 pub record Small (n : ℕ) (x : Float) (z : Int) : Type 0 where
@@ -66,7 +70,8 @@ module _ (f : Format) where
           let l = leb→le (n + m) 4194304 h in
           let w = wide f in
           record {
-            whole = add-exact f x y a b (i .whole) (j .whole) (record { upper = omega (arith, i .within .upper, j .within .upper); lower = omega (arith, i .within .lower, j .within .lower) });
+            whole = add-exact f x y a b (i .whole) (j .whole)
+                (record { upper = omega (arith, i .within .upper, j .within .upper); lower = omega (arith, i .within .lower, j .within .lower) });
             within = record { upper = omega (arith, i .within .upper, j .within .upper); lower = omega (arith, i .within .lower, j .within .lower) };
           }
 
@@ -75,7 +80,8 @@ module _ (f : Format) where
           let l = leb→le (n + m) 4194304 h in
           let w = wide f in
           record {
-            whole = sub-exact f x y a b (i .whole) (j .whole) (record { upper = omega (arith, i .within .upper, j .within .lower); lower = omega (arith, i .within .lower, j .within .upper) });
+            whole = sub-exact f x y a b (i .whole) (j .whole)
+                (record { upper = omega (arith, i .within .upper, j .within .lower); lower = omega (arith, i .within .lower, j .within .upper) });
             within = record { upper = omega (arith, i .within .upper, j .within .lower); lower = omega (arith, i .within .lower, j .within .upper) };
           }
 
@@ -131,10 +137,12 @@ module _ (f : Format) {bound : ℕ} (room : Room f bound) {p : Pose} {a b : List
         small = record { upper = omega (arith, b .upper); lower = omega (arith, b .lower) };
       }
 
-  minus-within : {u w : Vector} {y z : Point} (n : ℕ) → IsPoint u y → IsPoint w z → T (leb n 4) → Near (n * bound) (difference y z) → SizedPoint bound (minus f u w) (difference y z) n 1
+  minus-within : {u w : Vector} {y z : Point} (n : ℕ) → IsPoint u y → IsPoint w z → T (leb n 4) → Near (n * bound) (difference y z)
+      → SizedPoint bound (minus f u w) (difference y z) n 1
   minus-within n i j h b = record { x = sub-within n (i .x) (j .x) h (b .x); y = sub-within n (i .y) (j .y) h (b .y) }
 
-  pub pair-sized : (i j : ℕ) → i < length a / 2 → j < length b / 2 → SizedPoint bound (minus f (point a i) (onPoint f p (point b j))) (difference (paper .cornerA i) (posed j)) 1 1
+  pub pair-sized : (i j : ℕ) → i < length a / 2 → j < length b / 2 → SizedPoint bound (minus f (point a i) (onPoint f p (point b j)))
+      (difference (paper .cornerA i) (posed j)) 1 1
   pair-sized i j h k =
       let n = paper .near i j h k in
       minus-within 1 (paper .wholeA i h) (posed-is j k) tt (record {
@@ -184,18 +192,22 @@ module _ (f : Format) {bound : ℕ} (room : Room f bound) {p : Pose} {a b : List
       let e : 1 * bound ^ 0 ≡ 1 = ap (λ (q : ℕ). 1 * q) (pow-zero bound) in
       record { int = i .whole; small = record { upper = omega (arith, i .within .upper); lower = omega (arith, i .within .lower) } }
 
-  pub turned-back : {d : Vector} {e : Point} → SizedPoint bound d e 16 3 → SizedPoint bound (inverseRotate f (p .rotation) (negate d)) (turnedBack c s (opposite e)) 32 3
+  pub turned-back : {d : Vector} {e : Point} → SizedPoint bound d e 16 3 → SizedPoint bound (inverseRotate f (p .rotation) (negate d))
+      (turnedBack c s (opposite e)) 32 3
   turned-back i =
       let n = negate-sized f bound room i in
       let ic = unit-sized (cosine-is paper) in
       let is = unit-sized (sine-is paper) in
       record {
-        x = add-sized f bound (room .0) (room .1) (mul-sized f bound (room .0) (room .1) ic (n .x) tt tt) (mul-sized f bound (room .0) (room .1) is (n .y) tt tt) tt tt;
-        y = sub-sized f bound (room .0) (room .1) (mul-sized f bound (room .0) (room .1) ic (n .y) tt tt) (mul-sized f bound (room .0) (room .1) is (n .x) tt tt) tt tt;
+        x = add-sized f bound (room .0) (room .1) (mul-sized f bound (room .0) (room .1) ic (n .x) tt tt)
+            (mul-sized f bound (room .0) (room .1) is (n .y) tt tt) tt tt;
+        y = sub-sized f bound (room .0) (room .1) (mul-sized f bound (room .0) (room .1) ic (n .y) tt tt)
+            (mul-sized f bound (room .0) (room .1) is (n .x) tt tt) tt tt;
       }
 
   -- along the opposite of e, turned back, a corner of B lies as far as its posed corner lies back along e
-  adjoint : (e u w : Point) → dot (turnedBack c s (opposite e)) u ⊟ dot (turnedBack c s (opposite e)) w ≃ dot e (sum (turned c s w) (paper .shift)) ⊟ dot e (sum (turned c s u) (paper .shift))
+  adjoint : (e u w : Point) → dot (turnedBack c s (opposite e)) u ⊟ dot (turnedBack c s (opposite e)) w ≃ dot e (sum (turned c s w) (paper .shift)) ⊟ dot e
+      (sum (turned c s u) (paper .shift))
   adjoint e u w =
       let X = var 6 :* negated (var 0) :+ var 7 :* negated (var 1) in
       let Y = var 6 :* negated (var 1) :- var 7 :* negated (var 0) in

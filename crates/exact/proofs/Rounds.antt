@@ -25,9 +25,10 @@ use Rattle.model.specs.declared.Rounds.{Rounds}
 use Rattle.model.specs.Ground.{epsilon, origin}
 use Rattle.model.specs.Ground as Ground
 use Rattle.model.specs.Simplex.{slot, solved, solve}
-use Rattle.model.specs.Distance.{cache, allBelow, held, blank, vertex, cached, fromCache, startSimplex, startCount, supportA, supportB, ended, touches, extended, roundsFrom, rounds}
-use Rattle.exact.specs.Plane.{Point, dot, total}
-use Rattle.exact.specs.Outline.{SharesPoint, NoneNearer}
+use Rattle.model.specs.Distance.{cache, allBelow, held, blank, vertex, cached, fromCache, startSimplex, startCount, supportA, supportB, ended, touches}
+use Rattle.model.specs.Distance.{extended, roundsFrom, rounds}
+use Rattle.plane.specs.Plane.{Point, dot, total}
+use Rattle.exact.specs.Shared.{SharesPoint, NoneNearer}
 use Rattle.exact.specs.SquaredPaper.{SquaredPaper, Room, outlineA, posedB}
 use Rattle.exact.proofs.Below.{below1, below2, below3}
 use Rattle.exact.proofs.Vectors.{SizedPoint}
@@ -44,11 +45,13 @@ epsilon-squared binary32 = (45, refl)
 epsilon-squared binary64 = (103, refl)
 
 -- what holds of the pair in every slot that counts holds of a pair that was found held
-holds-of-held : (F : ℕ → ℕ → Type 0) (s : List SimplexVertex) (n i j : ℕ) → T (held s n i j) → ((k : ℕ) → k < n → F (slot s k .«index_a») (slot s k .«index_b»)) → F i j
+holds-of-held : (F : ℕ → ℕ → Type 0) (s : List SimplexVertex) (n i j : ℕ) → T (held s n i j)
+    → ((k : ℕ) → k < n → F (slot s k .«index_a») (slot s k .«index_b»)) → F i j
 unfolding held
 holds-of-held F s zero i j h all = absurd h
 holds-of-held F s (suc n) i j h all =
-    elim (either (held s n i j) (eqb (slot s n .«index_a») i && eqb (slot s n .«index_b») j) h) [ inl r ↦ holds-of-held F s n i j r (λ k l. all k (le-step l)) | inr r ↦ here r ]
+    elim (either (held s n i j) (eqb (slot s n .«index_a») i && eqb (slot s n .«index_b») j) h)
+    [ inl r ↦ holds-of-held F s n i j r (λ k l. all k (le-step l)) | inr r ↦ here r ]
   where
     either : (t r : Bool) → T (t || r) → T t ⊎ T r
     either true r h = inl tt
@@ -110,7 +113,8 @@ module _ (f : Format) {bound : ℕ} (room : Room f bound) {p : Pose} {a b : List
           (entries-below na (c .«index_a») n (and-r (leb n 3) okA first)) (entries-below nb (c .«index_b») n (and-r (leb n 3 && okA) okB rest))
 
       go : (t : Bool) → (T t → T (fromCache c (length a / 2) (length b / 2)))
-          → Slots (cond t (cached f a b p c 0 ∷ cached f a b p c 1 ∷ cached f a b p c 2 ∷ []) (vertex f a b p 0 0 (Ground.one f) ∷ blank f ∷ blank f ∷ [])) (cond t n 1)
+          → Slots (cond t (cached f a b p c 0 ∷ cached f a b p c 1 ∷ cached f a b p c 2 ∷ []) (vertex f a b p 0 0 (Ground.one f) ∷ blank f ∷ blank f ∷ []))
+          (cond t n 1)
       go true h = valid (h tt)
       go false h = one (vertex-stands 0 0 _ (domain .someA) (domain .someB))
 
@@ -120,7 +124,8 @@ module _ (f : Format) {bound : ℕ} (room : Room f bound) {p : Pose} {a b : List
     pub slots : Slots s n
     pub weight : ℕ → ℕ
     pub some : 0 < total n weight
-    pub nearest : NoneNearer (outlineA paper) (posedB paper) n weight (λ i. outlineA paper .corner (slot s i .«index_a»)) (λ i. posedB paper .corner (slot s i .«index_b»))
+    pub nearest : NoneNearer (outlineA paper) (posedB paper) n weight (λ i. outlineA paper .corner (slot s i .«index_a»))
+        (λ i. posedB paper .corner (slot s i .«index_b»))
 
   abbrev Shares : Type 0
   Shares = SharesPoint (outlineA paper) (posedB paper)
@@ -151,11 +156,13 @@ module _ (f : Format) {bound : ℕ} (room : Room f bound) {p : Pose} {a b : List
   stands (three x y z) = below3 _ x y z
 
   shares : {s : List SimplexVertex} {n : ℕ} → Slots s n → Covered n (places bound na nb places-of s) → Shares
-  shares {s} {n} h = covered-shares (outlineA paper) (posedB paper) (λ i. slot s i .«index_a») (λ i. slot s i .«index_b») n (λ i l. stands h i l .inA) (λ i l. stands h i l .inB)
+  shares {s} {n} h = covered-shares (outlineA paper) (posedB paper) (λ i. slot s i .«index_a») (λ i. slot s i .«index_b») n (λ i l. stands h i l .inA)
+      (λ i l. stands h i l .inB)
 
   -- m slots t were kept out of n slots s, with a direction d. Without a direction the outlines share a point; where the pair that d finds was held, the kept slots span a
   -- nearest place, also as u, with the new vertex behind them; otherwise the pair stands for corners, and the next round starts with it
-  round-ends : (s : List SimplexVertex) {t : List SimplexVertex} {n m : ℕ} {d : Vector} (e : Point) (u : List SimplexVertex) (next : Rounds) (it : ℕ) → SizedPoint bound d e 16 3
+  round-ends : (s : List SimplexVertex) {t : List SimplexVertex} {n m : ℕ} {d : Vector} (e : Point) (u : List SimplexVertex) (next : Rounds) (it : ℕ)
+      → SizedPoint bound d e 16 3
       → Kept e m (places bound na nb places-of t) n (places bound na nb places-of s) → Slots t m → (Spanned t m → Spanned u m)
       → (Stands bound na nb places-of (fresh d (slot t m .a)) → Right next)
       → Right (cond (I.lt (Ground.dot f d d) (I.mul f (epsilon f) (epsilon f))) (ended Touching t m (origin f) it)
@@ -169,16 +176,19 @@ module _ (f : Format) {bound : ℕ} (room : Room f bound) {p : Pose} {a b : List
       level : T (held s n (supportA f a d) (supportB f b p d)) → dot e (places-of (supportA f a d) (supportB f b p d)) ≼ K .level
       level h = holds-of-held (λ k l. dot e (places-of k l) ≼ K .level) s n (supportA f a d) (supportB f b p d) h (K .top)
 
-      go : (tiny : Bool) → Test tiny ((e .x ≃ 0Int) × (e .y ≃ 0Int)) (0Int ≺ e .x ⊠ e .x ⊞ e .y ⊠ e .y) → (known : Bool) → (T known → T (held s n (supportA f a d) (supportB f b p d)))
+      go : (tiny : Bool) → Test tiny ((e .x ≃ 0Int) × (e .y ≃ 0Int)) (0Int ≺ e .x ⊠ e .x ⊞ e .y ⊠ e .y) → (known : Bool)
+          → (T known → T (held s n (supportA f a d) (supportB f b p d)))
           → Right (cond tiny (ended Touching t m (origin f) it) (cond known (ended Settled u m d (it + 1)) next))
       go true h known k = shares slots (no-direction (outlineA paper) (posedB paper) (λ i. slot t i .«index_a») (λ i. slot t i .«index_b») K (h .0) (h .1))
       go false h true k = (
-        none-shared (outlineA paper) (posedB paper) (λ i. slot t i .«index_a») (λ i. slot t i .«index_b») K _ _ (found .furthestA) (found .furthestB) (level (k tt)) h,
+        none-shared (outlineA paper) (posedB paper) (λ i. slot t i .«index_a») (λ i. slot t i .«index_b») K _ _ (found .furthestA) (found .furthestB)
+            (level (k tt)) h,
         behind (record {
           slots = slots;
           weight = K .weight;
           some = K .some;
-          nearest = none-nearer (outlineA paper) (posedB paper) (λ i. slot t i .«index_a») (λ i. slot t i .«index_b») K _ _ (found .furthestA) (found .furthestB) (level (k tt));
+          nearest = none-nearer (outlineA paper) (posedB paper) (λ i. slot t i .«index_a») (λ i. slot t i .«index_b») K _ _ (found .furthestA)
+              (found .furthestB) (level (k tt));
         }),
       )
       go false h false k = goes-on (vertex-stands _ _ _ (found .inA) (found .inB))
@@ -194,11 +204,14 @@ module _ (f : Format) {bound : ℕ} (room : Room f bound) {p : Pose} {a b : List
           → ((s : List SimplexVertex) (n : ℕ) (d : Vector) (it : ℕ) → Slots s n → Right (roundsFrom f a b p k s n d it))
           → let r = solved t m d in
           Right (cond (touches f r) (ended Touching t m (origin f) it)
-          (cond (held s n (supportA f a d) (supportB f b p d)) (ended Settled (extended f a b p r) m d (it + 1)) (roundsFrom f a b p k (extended f a b p r) (m + 1) d (it + 1))))
+          (cond (held s n (supportA f a d) (supportB f b p d)) (ended Settled (extended f a b p r) m d (it + 1))
+          (roundsFrom f a b p k (extended f a b p r) (m + 1) d (it + 1))))
       go t m d (vertexLeft e x i K) ih =
-          round-ends s e _ _ it i K (one x) (λ S. record { slots = one x; weight = S .weight; some = S .some; nearest = S .nearest }) (λ y. ih _ 2 d (it + 1) (two x y))
+          round-ends s e _ _ it i K (one x) (λ S. record { slots = one x; weight = S .weight; some = S .some; nearest = S .nearest })
+          (λ y. ih _ 2 d (it + 1) (two x y))
       go t m d (edgeLeft e x y i K) ih =
-          round-ends s e _ _ it i K (two x y) (λ S. record { slots = two x y; weight = S .weight; some = S .some; nearest = S .nearest }) (λ z. ih _ 3 d (it + 1) (three x y z))
+          round-ends s e _ _ it i K (two x y) (λ S. record { slots = two x y; weight = S .weight; some = S .some; nearest = S .nearest })
+          (λ z. ih _ 3 d (it + 1) (three x y z))
       go t m d (covers x y z c) ih = shares (three x y z) c
 
   pub call-right : (c : SimplexCache) → Right (rounds f a b p c)

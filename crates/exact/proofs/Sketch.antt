@@ -2,7 +2,7 @@
 use mathlib.Core.List.{List, [], _∷_}
 use Rattle.integers.specs.Signed.{Int}
 use Rattle.integers.specs.Polynomial.{Expr, var, _:+_, _:-_, _:*_, negated}
-use Rattle.exact.specs.Plane.{Point}
+use Rattle.plane.specs.Plane.{Point}
 
 pub record Sketch : Type 0 where
   pub x : Expr

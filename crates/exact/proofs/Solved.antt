@@ -13,14 +13,15 @@ use Rattle.model.specs.declared.Solved.{Solved}
 use Rattle.model.specs.Simplex.{Region, at1, at2, at3, on12, on13, on23, inside, slot, weighted, kept, solve, solveSimplex2, solveSimplex3, region2, region3}
 use Rattle.model.specs.Simplex as Simplex
 use Rattle.model.specs.Ground.{negate}
-use Rattle.exact.specs.Plane.{Point, opposite, dot}
+use Rattle.plane.specs.Plane.{Point, opposite, dot}
 use Rattle.exact.specs.Regions.{Lies2, Lies3}
 use Rattle.exact.specs.SquaredPaper.{Room}
 use Rattle.exact.proofs.Below.{below1, below2, below3}
 use Rattle.exact.proofs.Vectors.{SizedPoint, weaken-point, negate-sized, minus-sized, plus-sized, perpDot-sized}
 use Rattle.exact.proofs.Enclosed.{across-swap}
 use Rattle.exact.proofs.Origin.{region2-lies, region3-lies}
-use Rattle.exact.proofs.Kept.{Kept, Covered, same-direction, kept-vertex, kept-edge, covered, offEdge, off-either-way, ends-level, behind-vertex, behind-edge}
+use Rattle.exact.proofs.Kept.{Kept, Covered, same-direction, kept-vertex, kept-edge, covered, offEdge, off-either-way, ends-level, behind-vertex}
+use Rattle.exact.proofs.Kept.{behind-edge}
 
 -- ---- slots, by the counts of corners and the place of each pair of corners: the one less the other
 module _ (bound na nb : ℕ) (pair : ℕ → ℕ → Point) where
@@ -46,7 +47,8 @@ module _ (bound na nb : ℕ) (pair : ℕ → ℕ → Point) where
   pub data Outcome (s : List SimplexVertex) (n : ℕ) : List SimplexVertex → ℕ → Vector → Type 0 where
     vertexLeft : {x y z : SimplexVertex} {d : Vector} (e : Point) → Stands x → SizedPoint bound d e 16 3 → Kept e 1 (places (x ∷ y ∷ z ∷ [])) n (places s)
         → Outcome s n (x ∷ y ∷ z ∷ []) 1 d
-    edgeLeft : {x y z : SimplexVertex} {d : Vector} (e : Point) → Stands x → Stands y → SizedPoint bound d e 16 3 → Kept e 2 (places (x ∷ y ∷ z ∷ [])) n (places s)
+    edgeLeft : {x y z : SimplexVertex} {d : Vector} (e : Point) → Stands x → Stands y → SizedPoint bound d e 16 3 → Kept e 2 (places (x ∷ y ∷ z ∷ [])) n
+        (places s)
         → Outcome s n (x ∷ y ∷ z ∷ []) 2 d
     covers : {x y z : SimplexVertex} {d : Vector} → Stands x → Stands y → Stands z → Covered 3 (places (x ∷ y ∷ z ∷ [])) → Outcome s n (x ∷ y ∷ z ∷ []) 3 d
 
@@ -57,11 +59,16 @@ module _ (bound na nb : ℕ) (pair : ℕ → ℕ → Point) where
   reweighed x h = record { inA = h .inA; inB = h .inB; whole = h .whole }
 
   module _ (f : Format) (room : Room f bound) where
-    pub offEdge-sized : {u w : Vector} {p q : Point} → SizedPoint bound u p 1 1 → SizedPoint bound w q 1 1 → SizedPoint bound (Simplex.offEdge f u w) (offEdge p q) 16 3
+    pub offEdge-sized : {u w : Vector} {p q : Point} → SizedPoint bound u p 1 1 → SizedPoint bound w q 1 1 → SizedPoint bound (Simplex.offEdge f u w)
+        (offEdge p q) 16 3
     offEdge-sized i j =
         let e = minus-sized f bound room j i tt tt in
         let k = perpDot-sized f bound room (plus-sized f bound room i j tt tt) e tt tt tt in
-        record { x = mul-sized f bound (room .0) (room .1) (neg-sized f bound (room .0) (room .1) k) (e .y) tt tt; y = mul-sized f bound (room .0) (room .1) k (e .x) tt tt }
+        record {
+          x = mul-sized f bound (room .0) (room .1) (neg-sized f bound (room .0) (room .1) k) (e .y) tt tt;
+          y = mul-sized f bound (room .0) (room .1) k
+              (e .x) tt tt;
+        }
 
     pub negated-sized : {v : SimplexVertex} → Stands v → SizedPoint bound (negate (v .w)) (opposite (place v)) 16 3
     negated-sized h = weaken-point f bound room 16 3 (negate-sized f bound room (h .whole)) tt tt

@@ -11,7 +11,7 @@ use Rattle.integers.proofs.Sized.{weaken, neg-sized, add-sized, sub-sized, mul-
 use Rattle.model.specs.declared.Vector.{Vector}
 use Rattle.model.specs.Ground.{plus, minus, negate}
 use Rattle.model.specs.Ground as Ground
-use Rattle.exact.specs.Plane.{Point, sum, difference, opposite, dot, perp}
+use Rattle.plane.specs.Plane.{Point, sum, difference, opposite, dot, perp}
 use Rattle.exact.specs.SquaredPaper.{Room}
 
 -- v is the point z, whose parts are at most c * bound ^ k in size
@@ -43,12 +43,16 @@ module _ (f : Format) (bound : ℕ) (room : Room f bound) where
         → SizedPoint bound (plus f v w) (sum y z) (c + c') k
     plus-sized i j h l = record { x = add-sized f bound (room .0) (room .1) (i .x) (j .x) h l; y = add-sized f bound (room .0) (room .1) (i .y) (j .y) h l }
 
-    pub dot-sized : {k k' : ℕ} → SizedPoint bound v y c k → SizedPoint bound w z c' k' → T (leb (c * c') 256) → T (leb (c * c' + c * c') 256) → T (leb (k + k') 4)
+    pub dot-sized : {k k' : ℕ} → SizedPoint bound v y c k → SizedPoint bound w z c' k' → T (leb (c * c') 256) → T (leb (c * c' + c * c') 256)
+        → T (leb (k + k') 4)
         → Sized bound (Ground.dot f v w) (dot y z) (c * c' + c * c') (k + k')
     dot-sized i j g h l =
-        add-sized f bound (room .0) (room .1) (mul-sized f bound (room .0) (room .1) (i .x) (j .x) g l) (mul-sized f bound (room .0) (room .1) (i .y) (j .y) g l) h l
+        add-sized f bound (room .0) (room .1) (mul-sized f bound (room .0) (room .1) (i .x) (j .x) g l)
+        (mul-sized f bound (room .0) (room .1) (i .y) (j .y) g l) h l
 
-    pub perpDot-sized : {k k' : ℕ} → SizedPoint bound v y c k → SizedPoint bound w z c' k' → T (leb (c * c') 256) → T (leb (c * c' + c * c') 256) → T (leb (k + k') 4)
+    pub perpDot-sized : {k k' : ℕ} → SizedPoint bound v y c k → SizedPoint bound w z c' k' → T (leb (c * c') 256) → T (leb (c * c' + c * c') 256)
+        → T (leb (k + k') 4)
         → Sized bound (Ground.perpDot f v w) (perp y z) (c * c' + c * c') (k + k')
     perpDot-sized i j g h l =
-        sub-sized f bound (room .0) (room .1) (mul-sized f bound (room .0) (room .1) (i .x) (j .y) g l) (mul-sized f bound (room .0) (room .1) (i .y) (j .x) g l) h l
+        sub-sized f bound (room .0) (room .1) (mul-sized f bound (room .0) (room .1) (i .x) (j .y) g l)
+        (mul-sized f bound (room .0) (room .1) (i .y) (j .x) g l) h l

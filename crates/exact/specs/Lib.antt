@@ -1,9 +1,3 @@
-pub mod Plane
-pub mod Fraction
-pub mod Outline
-pub mod SquaredPaper
+pub mod Shared
 pub mod Regions
-pub mod Sheet
-pub mod NoCircles
-pub mod Exchange
-pub mod RoundLimit
+pub mod SquaredPaper

@@ -18,8 +18,9 @@ use Rattle.model.specs.declared.DistanceAnswer.the-variants.{Measured}
 use Rattle.model.specs.Domain.{badRadius, cacheRefusal}
 use Rattle.model.specs.Support.{point}
 use Rattle.model.specs.Distance.{proxyDistance}
-use Rattle.exact.specs.Plane.{Point, sum, difference, turned}
-use Rattle.exact.specs.Outline.{Outline, SharesPoint, SpansNearestPlace}
+use Rattle.plane.specs.Plane.{Point, sum, difference, turned}
+use Rattle.plane.specs.Outline.{Outline}
+use Rattle.exact.specs.Shared.{SharesPoint, SpansNearestPlace}
 
 -- a vector of whole numbers
 pub record IsPoint (v : Vector) (z : Point) : Type 0 where

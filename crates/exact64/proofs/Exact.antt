@@ -19,12 +19,12 @@ use Rattle.model64.specs.declared.Distance.{Distance as Distance64}
 use Rattle.bridge.specs.Wide.{output64, answer64, distance64}
 use Rattle.bridge.proofs.Distance.{proxy-distance-same}
 use Rattle.exact.specs.SquaredPaper.{outlineA, posedB, Exact}
-use Rattle.exact.specs.Exchange.{Exchanged, Alike}
+use Rattle.exchange.specs.Exchange.{Exchanged, Alike}
 use Rattle.exact.proofs.Demand3.{exact-on-squared-paper, answered-on-squared-paper}
-use Rattle.exact.proofs.NoCircles.{no-circles-on-squared-paper}
-use Rattle.exact.proofs.Exchange.{exchange-on-squared-paper}
-use Rattle.exact.proofs.Shift.{shift-on-squared-paper}
-use Rattle.exact.proofs.RoundLimit.{always-exact-on-squared-paper}
+use Rattle.circles.proofs.NoCircles.{no-circles-on-squared-paper}
+use Rattle.exchange.proofs.Exchange.{exchange-on-squared-paper}
+use Rattle.exchange.proofs.Shift.{shift-on-squared-paper}
+use Rattle.round_limit.proofs.InTime.{always-exact-on-squared-paper}
 use Rattle.exact64.specs.Call as Wide
 use Rattle.exact64.specs.Call.{read, call}
 

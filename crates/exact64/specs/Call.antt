@@ -14,10 +14,10 @@ use Rattle.model64.specs.declared.ProxyDistanceOutput.{ProxyDistanceOutput as O
 use Rattle.model64.specs.declared.DistanceAnswer.the-variants.{Measured}
 use Rattle.model64.specs.declared.Distance.{Distance as Distance64}
 use Rattle.model64.specs.Distance.{proxyDistance}
-use Rattle.exact.specs.Plane.{Point}
+use Rattle.plane.specs.Plane.{Point}
 use Rattle.exact.specs.SquaredPaper.{SquaredPaper, outlineA, posedB, IsCache, InTheDomain, Exact}
-use Rattle.exact.specs.NoCircles.{State, GoesOn, Reaches, Nearer, roundsOf, start}
-use Rattle.exact.specs.Exchange.{IsInverse, Exchanged, IsShifted, Alike}
+use Rattle.circles.specs.NoCircles.{State, GoesOn, Reaches, Nearer, roundsOf, start}
+use Rattle.exchange.specs.Exchange.{IsInverse, Exchanged, IsShifted, Alike}
 
 abbrev pub read : Pose64 → Pose
 read p = record {

@@ -12,7 +12,7 @@ use lib.Ieee.{binary32}
 use Rattle.model.specs.Work.{blockAnswer}
 use Rattle.text.specs.Put.{pasted, Put}
 use Rattle.model.specs.Parts.{countLimit}
-use Rattle.lines.specs.Part.{lineFor}
+use Rattle.sheet_lines.specs.Part.{lineFor}
 use Rattle.foldflake.specs.Entry.{lineTo, LineTold}
 
 at-start : {d s d' : List ℕ} {e : ℕ} → Put d 0 s d' e → (e ≡ length s) × (d' ≡ s ++ drop (length s) d)

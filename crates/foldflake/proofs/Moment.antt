@@ -11,8 +11,8 @@ use Rattle.model.specs.declared.Sweep.{Sweep}
 use Rattle.model.specs.declared.CheckedPose.{CheckedPose}
 use Rattle.model.proofs.DistanceCall.{both}
 use Rattle.model.specs.Work.{moveAt}
-use Rattle.moment.specs.Moment.{gapAt}
-use Rattle.moment.specs.declared.GapAnswer.{GapAnswer}
+use Rattle.at_fraction.specs.Moment.{gapAt}
+use Rattle.at_fraction.specs.declared.GapAnswer.{GapAnswer}
 use Rattle.foldflake.specs.Moment.{poseNumber, poseAfter, poseFits, poseCall, PoseTold, gapNumber, gapAfter, gapFits, gapCall, GapTold}
 
 module _ (ns : List Float) (t : Float) (out : List Float) where

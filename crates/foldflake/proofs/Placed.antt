@@ -7,7 +7,7 @@ use lib.ListN.{length}
 use lib.Ieee.{Float}
 use Rattle.model.specs.declared.Pose.{Pose}
 use Rattle.shapes.specs.declared.Built.{Built}
-use Rattle.entries.specs.Entry.{poseOf}
+use Rattle.list_calls.specs.Entry.{poseOf}
 use Rattle.foldflake.specs.Entry.{builtNumber, PlacedTold}
 
 module _ (told : Pose → List Float → Built) (left : Pose → List Float → List Float) (ns out : List Float) where

@@ -8,8 +8,8 @@ use lib.Dec.{eqb}
 use lib.ListN.{length}
 use lib.Ieee.{Float, binary32}
 use Rattle.model.proofs.DistanceCall.{both}
-use Rattle.legs.specs.declared.RouteAnswer.{RouteAnswer}
-use Rattle.legs.specs.Route.{route}
+use Rattle.route_legs.specs.declared.RouteAnswer.{RouteAnswer}
+use Rattle.route_legs.specs.Route.{route}
 use Rattle.foldflake.specs.Route.{routeNumber, floatsAfter, placeAfter, routeFits, RouteTold}
 
 module _ (cart waypoints stills : List Float) (lengths : List ℕ) (slop : Float) (out : List Float) (place : List ℕ) where

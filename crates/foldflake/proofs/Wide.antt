@@ -6,35 +6,35 @@ use mathlib.Core.List.{List}
 use lib.Dec.{ltb}
 use lib.Ieee.{Float, Format}
 use Rattle.model.specs.declared.SimplexCache.{SimplexCache}
-use Rattle.model.specs.declared.BlockAnswer.{BlockAnswer}
-use Rattle.model.specs.declared.BlockAnswer.the-variants.{Worked, Refused}
+use Rattle.model.specs.declared.Outcome.{Outcome}
+use Rattle.model.specs.declared.Outcome.the-variants.{Found, Refused}
 use Rattle.model.specs.declared.DistanceAnswer.{DistanceAnswer}
 use Rattle.model.specs.declared.DistanceAnswer.the-variants.{Measured, Refused as Unmeasured}
 use Rattle.model.specs.Support.{point}
 use Rattle.model.specs.Work.{sweepFor}
-use Rattle.bridge.specs.Wide.{answer64, distance64, blockAnswer64}
+use Rattle.bridge.specs.Wide.{answer64, distance64, outcome64}
 use Rattle.bridge.proofs.Distance.{proxy-distance-same}
 use Rattle.bridge.proofs.Sheet.{sweep-for-same, told-same}
-use Rattle.entries.specs.Entry.{distanceFor, cacheOf}
-use Rattle.entries.specs.Entry as E
-use Rattle.entries64.specs.Entry.{distanceFor as distanceFor64, cacheOf as cacheOf64}
-use Rattle.entries64.specs.Entry as E64
+use Rattle.list_calls.specs.Entry.{distanceFor, cacheOf}
+use Rattle.list_calls.specs.Entry as E
+use Rattle.list_calls64.specs.Entry.{distanceFor as distanceFor64, cacheOf as cacheOf64}
+use Rattle.list_calls64.specs.Entry as E64
 
 -- ---- the sweep
-sweep-same : (f : Format) (a b ns : List Float) → E64.sweepCall f a b ns ≡ blockAnswer64 (E.sweepCall f a b ns)
-sweep-same f a b ns = let x = sweepFor f a b ns in rw (sweep-for-same f a b ns) (told-same f 0 (x .corners) (x .answer))
+sweep-same : (f : Format) (a b ns : List Float) → E64.sweepCall f a b ns ≡ outcome64 (E.sweepCall f a b ns)
+sweep-same f a b ns = let x = sweepFor f a b ns in rw (sweep-for-same f a b ns) (told-same f (x .corners) (x .answer))
 
-number-same : (x : BlockAnswer) → E64.sweepNumber (blockAnswer64 x) ≡ E.sweepNumber x
-number-same (Worked job v) = refl
-number-same (Refused job k) = refl
+number-same : (x : Outcome) → E64.sweepNumber (outcome64 x) ≡ E.sweepNumber x
+number-same (Found v) = refl
+number-same (Refused k) = refl
 
-contact-same : (x : BlockAnswer) (out : List Float) → E64.contactAfter (blockAnswer64 x) out ≡ E.contactAfter x out
-contact-same (Worked job v) out = refl
-contact-same (Refused job k) out = refl
+contact-same : (x : Outcome) (out : List Float) → E64.contactAfter (outcome64 x) out ≡ E.contactAfter x out
+contact-same (Found v) out = refl
+contact-same (Refused k) out = refl
 
-counts-same : (x : BlockAnswer) (out : List ℕ) → E64.countsAfter (blockAnswer64 x) out ≡ E.countsAfter x out
-counts-same (Worked job v) out = refl
-counts-same (Refused job k) out = refl
+counts-same : (x : Outcome) (out : List ℕ) → E64.countsAfter (outcome64 x) out ≡ E.countsAfter x out
+counts-same (Found v) out = refl
+counts-same (Refused k) out = refl
 
 pub sweep-told : (f : Format) (a b ns out : List Float) (counts : List ℕ) (out' : List Float) (counts' : List ℕ) (r : ℕ)
     → E64.SweepTold f a b ns out counts out' counts' r → E.SweepTold f a b ns out counts out' counts' r

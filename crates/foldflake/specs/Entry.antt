@@ -11,8 +11,8 @@ use Rattle.model.specs.declared.Pose.{Pose}
 use Rattle.model.specs.Block.{blockSize}
 use Rattle.model.specs.Work.{blockAnswer}
 use Rattle.model.specs.Parts.{countLimit}
-use Rattle.lines.specs.Part.{lineFor}
-use Rattle.entries.specs.Entry.{poseOf}
+use Rattle.sheet_lines.specs.Part.{lineFor}
+use Rattle.list_calls.specs.Entry.{poseOf}
 use Rattle.shapes.specs.declared.Built.{Built}
 use Rattle.shapes.specs.declared.Built.the-variants as Shape
 

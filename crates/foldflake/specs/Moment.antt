@@ -11,9 +11,9 @@ use Rattle.model.specs.declared.Pose.{Pose}
 use Rattle.model.specs.declared.CheckedPose.{CheckedPose}
 use Rattle.model.specs.declared.CheckedPose.the-variants.{Good, Refused}
 use Rattle.model.specs.Work.{moveAt}
-use Rattle.moment.specs.declared.GapAnswer.{GapAnswer}
-use Rattle.moment.specs.declared.GapAnswer.the-variants.{Apart, Refused as Unmeasured}
-use Rattle.moment.specs.Moment.{poseAt, gapAt}
+use Rattle.at_fraction.specs.declared.GapAnswer.{GapAnswer}
+use Rattle.at_fraction.specs.declared.GapAnswer.the-variants.{Apart, Refused as Unmeasured}
+use Rattle.at_fraction.specs.Moment.{poseAt, gapAt}
 
 -- ---- the pose
 abbrev pub poseFloats : Pose → List Float

@@ -8,11 +8,11 @@ use lib.ListN.{length}
 use lib.Ieee.{Float, binary32}
 use Rattle.model.specs.declared.Status.{Status}
 use Rattle.model.specs.declared.Status.the-variants.{Overlapped, Hit, Separated, Failed}
-use Rattle.legs.specs.declared.Stop.{Stop}
-use Rattle.legs.specs.declared.RouteAnswer.{RouteAnswer}
-use Rattle.legs.specs.declared.RouteAnswer.the-variants.{Clear, Ended, Refused, Wrong}
-use Rattle.legs.specs.Route.{route}
-use Rattle.entries.specs.Entry.{contactFloats}
+use Rattle.route_legs.specs.declared.Stop.{Stop}
+use Rattle.route_legs.specs.declared.RouteAnswer.{RouteAnswer}
+use Rattle.route_legs.specs.declared.RouteAnswer.the-variants.{Clear, Ended, Refused, Wrong}
+use Rattle.route_legs.specs.Route.{route}
+use Rattle.list_calls.specs.Entry.{contactFloats}
 
 -- a status that ends a route; separated ends none
 abbrev pub endNumber : Status → ℕ
@@ -47,7 +47,8 @@ placeAfter (Wrong k) place = place
 abbrev pub routeFits : List Float → List ℕ → Bool
 routeFits out place = eqb (length out) 5 && eqb (length place) 3
 
-pub record RouteTold (cart waypoints stills : List Float) (lengths : List ℕ) (slop : Float) (out : List Float) (place : List ℕ) (out' : List Float) (place' : List ℕ) (r : ℕ) : Type 0 where
+pub record RouteTold (cart waypoints stills : List Float) (lengths : List ℕ) (slop : Float) (out : List Float) (place : List ℕ) (out' : List Float)
+    (place' : List ℕ) (r : ℕ) : Type 0 where
   pub number : r ≡ cond (routeFits out place) (routeNumber (route binary32 cart waypoints stills lengths slop)) 255
   pub contact : out' ≡ cond (routeFits out place) (floatsAfter (route binary32 cart waypoints stills lengths slop) out) out
   pub stopped : place' ≡ cond (routeFits out place) (placeAfter (route binary32 cart waypoints stills lengths slop) place) place

@@ -4,7 +4,8 @@ mod tell_moment;
 mod tell_route;
 
 use built::built_number;
-use entries::pose_of;
+use list_calls::pose_of;
+use model::COUNT_LIMIT;
 use model::Vector;
 use tell_moment::tell_gap;
 use tell_moment::tell_pose;
@@ -14,7 +15,7 @@ ghost use lib.Ieee.{binary32, binary64};
 ghost use Rattle.model.specs.Nearest.{Rooted};
 ghost use Rattle.model.specs.Ground.{vector};
 ghost use Rattle.shapes.specs.Shapes.{plateTold, plateLeft, placedPlateTold, placedPlateLeft, barTold, barLeft, placedBarTold, placedBarLeft};
-ghost use Rattle.entries.specs.Entry.{SweepTold, DistanceTold};
+ghost use Rattle.list_calls.specs.Entry.{SweepTold, DistanceTold};
 ghost use Rattle.foldflake.specs.Entry.{LineTold, builtNumber, PlacedTold};
 ghost use Rattle.foldflake.specs.Moment.{PoseTold, GapTold};
 ghost use Rattle.foldflake.specs.Route.{RouteTold};
@@ -36,11 +37,11 @@ pub extern "C" fn foldflake_line(number: u64, block: &[u8], out: &mut [u8]) -> u
     if block.len() != 512 {
         return 0;
     }
-    if (number == 0) | (number > 0x8000_0000_0000_0000) {
+    if (number == 0) | (number > COUNT_LIMIT) {
         return 0;
     }
     let answer = work::answer_block(block);
-    lines::write_line(number, answer, out)
+    sheet_lines::write_line(number, answer, out)
 }
 
 // The sweep of two outlines. Numbers: both radii, the max fraction, the slop, and two moves of ten as in a block. The answer: a refusal, 1 to 8;
@@ -55,9 +56,10 @@ pub extern "C" fn foldflake_sweep(
     out: &mut [f32],
     counts: &mut [u32],
 ) -> u32
-    ensures { λ r. ⌜ SweepTold binary32 (now («points_a» .entry)) (now («points_b» .entry)) (now (numbers .entry)) (now (out .entry)) (now (counts .entry)) (now (out .exit)) (now (counts .exit)) r ⌝ }
+    ensures { λ r. ⌜ SweepTold binary32 (now («points_a» .entry)) (now («points_b» .entry)) (now (numbers .entry)) (now (out .entry)) (now (counts .entry))
+        (now (out .exit)) (now (counts .exit)) r ⌝ }
 {
-    entries::sweep_call(points_a, points_b, numbers, out, counts)
+    list_calls::sweep_call(points_a, points_b, numbers, out, counts)
 }
 
 // The distance of two outlines. Numbers: the cosine, the sine and the translation of the pose of B in the frame of A, and both radii, which
@@ -75,9 +77,10 @@ pub extern "C" fn foldflake_distance(
     cache: &mut [u32],
     out: &mut [f32],
 ) -> u32
-    ensures { λ r. ⌜ DistanceTold binary32 (now («points_a» .entry)) (now («points_b» .entry)) (now (numbers .entry)) «use_radii» pair (now (cache .entry)) (now (out .entry)) (now (cache .exit)) (now (out .exit)) r ⌝ }
+    ensures { λ r. ⌜ DistanceTold binary32 (now («points_a» .entry)) (now («points_b» .entry)) (now (numbers .entry)) «use_radii» pair (now (cache .entry))
+        (now (out .entry)) (now (cache .exit)) (now (out .exit)) r ⌝ }
 {
-    entries::distance_call(points_a, points_b, numbers, use_radii, pair, cache, out)
+    list_calls::distance_call(points_a, points_b, numbers, use_radii, pair, cache, out)
 }
 
 // The square root of every f64.
@@ -97,9 +100,10 @@ pub extern "C" fn foldflake_sweep64(
     out: &mut [f64],
     counts: &mut [u32],
 ) -> u32
-    ensures { λ r. ⌜ SweepTold binary64 (now («points_a» .entry)) (now («points_b» .entry)) (now (numbers .entry)) (now (out .entry)) (now (counts .entry)) (now (out .exit)) (now (counts .exit)) r ⌝ }
+    ensures { λ r. ⌜ SweepTold binary64 (now («points_a» .entry)) (now («points_b» .entry)) (now (numbers .entry)) (now (out .entry)) (now (counts .entry))
+        (now (out .exit)) (now (counts .exit)) r ⌝ }
 {
-    entries64::sweep_call(points_a, points_b, numbers, out, counts)
+    list_calls64::sweep_call(points_a, points_b, numbers, out, counts)
 }
 
 // What `foldflake_distance` is for f32, in f64.
@@ -113,16 +117,18 @@ pub extern "C" fn foldflake_distance64(
     cache: &mut [u32],
     out: &mut [f64],
 ) -> u32
-    ensures { λ r. ⌜ DistanceTold binary64 (now («points_a» .entry)) (now («points_b» .entry)) (now (numbers .entry)) «use_radii» pair (now (cache .entry)) (now (out .entry)) (now (cache .exit)) (now (out .exit)) r ⌝ }
+    ensures { λ r. ⌜ DistanceTold binary64 (now («points_a» .entry)) (now («points_b» .entry)) (now (numbers .entry)) «use_radii» pair (now (cache .entry))
+        (now (out .entry)) (now (cache .exit)) (now (out .exit)) r ⌝ }
 {
-    entries64::distance_call(points_a, points_b, numbers, use_radii, pair, cache, out)
+    list_calls64::distance_call(points_a, points_b, numbers, use_radii, pair, cache, out)
 }
 
 // The corners of a plate, by its half sizes, at the front of out: x y each, x negated at corners 1 and 3, y at 2 and 3. The answer: 32 built; 3 for
 // a half size, 15 where out has fewer than 8 numbers. Refused, nothing is written.
 #[no_mangle]
 pub extern "C" fn foldflake_plate(half_x: f32, half_y: f32, out: &mut [f32]) -> u32
-    ensures { λ r. ⌜ (r ≡ builtNumber (plateTold binary32 «half_x» «half_y» (now (out .entry)))) × (now (out .exit) ≡ plateLeft binary32 «half_x» «half_y» (now (out .entry))) ⌝ }
+    ensures { λ r. ⌜ (r ≡ builtNumber (plateTold binary32 «half_x» «half_y» (now (out .entry))))
+        × (now (out .exit) ≡ plateLeft binary32 «half_x» «half_y» (now (out .entry))) ⌝ }
 {
     built_number(shapes::plate(half_x, half_y, out))
 }
@@ -130,7 +136,8 @@ pub extern "C" fn foldflake_plate(half_x: f32, half_y: f32, out: &mut [f32]) -> 
 // The corners of a bar, its ends a and b, in the same way: 3 for an end, 15 where out has fewer than 4 numbers.
 #[no_mangle]
 pub extern "C" fn foldflake_bar(ax: f32, ay: f32, bx: f32, by: f32, out: &mut [f32]) -> u32
-    ensures { λ r. ⌜ (r ≡ builtNumber (barTold binary32 (vector ax ay) (vector bx by) (now (out .entry)))) × (now (out .exit) ≡ barLeft binary32 (vector ax ay) (vector bx by) (now (out .entry))) ⌝ }
+    ensures { λ r. ⌜ (r ≡ builtNumber (barTold binary32 (vector ax ay) (vector bx by) (now (out .entry))))
+        × (now (out .exit) ≡ barLeft binary32 (vector ax ay) (vector bx by) (now (out .entry))) ⌝ }
 {
     let a = Vector { x: ax, y: ay };
     let b = Vector { x: bx, y: by };
@@ -146,7 +153,8 @@ pub extern "C" fn foldflake_placed_plate(
     pose: &[f32],
     out: &mut [f32],
 ) -> u32
-    ensures { λ r. ⌜ PlacedTold (placedPlateTold binary32 «half_x» «half_y») (placedPlateLeft binary32 «half_x» «half_y») (now (pose .entry)) (now (out .entry)) (now (out .exit)) r ⌝ }
+    ensures { λ r. ⌜ PlacedTold (placedPlateTold binary32 «half_x» «half_y») (placedPlateLeft binary32 «half_x» «half_y») (now (pose .entry))
+        (now (out .entry)) (now (out .exit)) r ⌝ }
 {
     if pose.len() != 4 {
         return 255;
@@ -165,7 +173,8 @@ pub extern "C" fn foldflake_placed_bar(
     pose: &[f32],
     out: &mut [f32],
 ) -> u32
-    ensures { λ r. ⌜ PlacedTold (placedBarTold binary32 (vector ax ay) (vector bx by)) (placedBarLeft binary32 (vector ax ay) (vector bx by)) (now (pose .entry)) (now (out .entry)) (now (out .exit)) r ⌝ }
+    ensures { λ r. ⌜ PlacedTold (placedBarTold binary32 (vector ax ay) (vector bx by)) (placedBarLeft binary32 (vector ax ay) (vector bx by))
+        (now (pose .entry)) (now (out .entry)) (now (out .exit)) r ⌝ }
 {
     if pose.len() != 4 {
         return 255;
@@ -183,7 +192,7 @@ pub extern "C" fn foldflake_pose(planned: &[f32], fraction: f32, out: &mut [f32]
     ensures { λ r. ⌜ PoseTold (now (planned .entry)) fraction (now (out .entry)) (now (out .exit)) r ⌝ }
 {
     if (planned.len() == 10) & (out.len() == 4) {
-        let pose = moment::pose_at(work::move_of(planned), fraction);
+        let pose = at_fraction::pose_at(sweep_numbers::move_of(planned), fraction);
         tell_pose(pose, out)
     } else {
         255
@@ -201,12 +210,13 @@ pub extern "C" fn foldflake_gap(
     fraction: f32,
     out: &mut [f32],
 ) -> u32
-    ensures { λ r. ⌜ GapTold (now («points_a» .entry)) (now («move_a» .entry)) (now («points_b» .entry)) (now («move_b» .entry)) fraction (now (out .entry)) (now (out .exit)) r ⌝ }
+    ensures { λ r. ⌜ GapTold (now («points_a» .entry)) (now («move_a» .entry)) (now («points_b» .entry)) (now («move_b» .entry)) fraction (now (out .entry))
+        (now (out .exit)) r ⌝ }
 {
     if (move_a.len() == 10) & (move_b.len() == 10) & (out.len() == 1) {
-        let sweep_a = work::move_of(move_a);
-        let sweep_b = work::move_of(move_b);
-        let apart = moment::gap_at(points_a, sweep_a, points_b, sweep_b, fraction);
+        let sweep_a = sweep_numbers::move_of(move_a);
+        let sweep_b = sweep_numbers::move_of(move_b);
+        let apart = at_fraction::gap_at(points_a, sweep_a, points_b, sweep_b, fraction);
         tell_gap(apart, out)
     } else {
         255
@@ -228,10 +238,11 @@ pub extern "C" fn foldflake_route(
     out: &mut [f32],
     place: &mut [u32],
 ) -> u32
-    ensures { λ r. ⌜ RouteTold (now (cart .entry)) (now (waypoints .entry)) (now (stills .entry)) (now (lengths .entry)) slop (now (out .entry)) (now (place .entry)) (now (out .exit)) (now (place .exit)) r ⌝ }
+    ensures { λ r. ⌜ RouteTold (now (cart .entry)) (now (waypoints .entry)) (now (stills .entry)) (now (lengths .entry)) slop (now (out .entry))
+        (now (place .entry)) (now (out .exit)) (now (place .exit)) r ⌝ }
 {
     if (out.len() == 5) & (place.len() == 3) {
-        let answer = legs::route(cart, waypoints, stills, lengths, slop);
+        let answer = route_legs::route(cart, waypoints, stills, lengths, slop);
         tell_route(answer, out, place)
     } else {
         255

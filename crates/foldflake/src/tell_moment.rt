@@ -1,7 +1,7 @@
 // What holds at one moment of a move, told by a number and by what is written into a lent list.
+use at_fraction::GapAnswer;
 use model::CheckedPose;
 use model::Pose;
-use moment::GapAnswer;
 ghost use mathlib.Core.Path.{_≡_};
 ghost use mathlib.Core.List.{[], _∷_};
 ghost use lib.ListN.{length};

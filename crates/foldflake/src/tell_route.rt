@@ -1,12 +1,13 @@
 // The answer of a route, told by a number and by what is written into lent lists.
-use legs::RouteAnswer;
-use legs::Stop;
+use list_calls::put_contact;
 use model::Contact;
 use model::Status;
+use route_legs::RouteAnswer;
+use route_legs::Stop;
 ghost use mathlib.Core.Path.{_≡_};
 ghost use mathlib.Core.List.{[], _∷_};
 ghost use lib.ListN.{length};
-ghost use Rattle.entries.specs.Entry.{contactFloats};
+ghost use Rattle.list_calls.specs.Entry.{contactFloats};
 ghost use Rattle.foldflake.specs.Route.{endNumber, stopWords, routeNumber, floatsAfter, placeAfter};
 
 // A status that ends a route; separated does not.
@@ -19,17 +20,6 @@ fn end_number(status: Status) -> u32
         Status::Separated => 32,
         Status::Failed => 35,
     }
-}
-
-fn put_contact(out: &mut [f32], c: Contact)
-    requires { ⌜ length (now out) ≡ 5 ⌝ }
-    ensures { λ _. ⌜ now (out .exit) ≡ contactFloats c ⌝ }
-{
-    out[0] = c.fraction;
-    out[1] = c.point.x;
-    out[2] = c.point.y;
-    out[3] = c.normal.x;
-    out[4] = c.normal.y;
 }
 
 // Leg, outline and distance calls, under a number.

@@ -16,7 +16,7 @@ use borrow.Author.Count.{below-more}
 use Rattle.integers.specs.Signed.{Int, 0Int, ofNat, neg, _⊞_, _⊟_, _⊠_, _≼_, _≃_}
 use Rattle.integers.specs.Whole.{Within, signed}
 use Rattle.integers.proofs.Signed.{⊠-comm, le-or-lt}
-use Rattle.exact.specs.Plane.{dot, difference}
+use Rattle.plane.specs.Plane.{dot, difference}
 use Rattle.whole_move.proofs.Lengths.{products}
 use Rattle.whole_move.proofs.Turns.{square-within}
 use Rattle.pairs.specs.declared.Pair.{Pair}
@@ -34,10 +34,12 @@ use Rattle.grid.proofs.Shifts.{unit-pos}
 use Rattle.grid.proofs.Sizes.{reached, wider}
 use Rattle.grid.proofs.Laws.{off, difference-off, scaled-less}
 use Rattle.planned.specs.Planned.{worthOf, sizeOf, placeOf, bodyOf, largerOf}
-use Rattle.grid_job.specs.Placing.{Asked, Suits, Limits, Joined, OnBoard, AllCornered, PlacedBody, Near, NearPair, Between, keepOf, UpTo, AllNear, Less, Offset, Span, Turned, Cornered, FractionUp, FractionDown}
+use Rattle.grid_job.specs.Placing.{Asked, Suits, Limits, Joined, OnBoard, AllCornered, PlacedBody, Near, NearPair, Between, keepOf, UpTo, AllNear}
+use Rattle.grid_job.specs.Placing.{Less, Offset, Span, Turned, Cornered, FractionUp, FractionDown}
 
 -- ---- one pattern more
-pub pattern-more : (xs : List Float) (from i best new : ℕ) → UpTo xs from i best → best ≤ new → toBits binary32 (getD xs i nan) % 2147483648 ≤ new → UpTo xs from (i + 1) new
+pub pattern-more : (xs : List Float) (from i best new : ℕ) → UpTo xs from i best → best ≤ new → toBits binary32 (getD xs i nan) % 2147483648 ≤ new → UpTo
+    xs from (i + 1) new
 pattern-more xs from i best new h up l k f m =
     below-more (λ (k : ℕ). from ≤ k → toBits binary32 (getD xs k nan) % 2147483648 ≤ new) i (λ k l' f'. omega (arith, h k f' l')) (λ f'. l) k m f
 
@@ -100,16 +102,19 @@ span-law-turned x y a b h hx hy l m small = record { reach = omega (arith, part-
 inside-more : (R T x y : ℕ) → R ≤ T → dot (place x y) (place x y) ≼ ofNat R ⊠ ofNat R → dot (place x y) (place x y) ≼ ofNat T ⊠ ofNat T
 inside-more R T x y h l = omega (arith, products (ofNat R) (ofNat R) (ofNat T) (ofNat T) (omega arith) (omega arith) (omega arith) (omega arith))
 
-pub corner-more : (points : List Float) (centre : Vector) (g : ℕ) (xs ys : List ℕ) (i best new x y r : ℕ) → Cornered points centre g xs ys i best → i < length xs → i < length ys
+pub corner-more : (points : List Float) (centre : Vector) (g : ℕ) (xs ys : List ℕ) (i best new x y r : ℕ) → Cornered points centre g xs ys i best → i <
+    length xs → i < length ys
     → Offset (point points i .x) (centre .x) g x → Offset (point points i .y) (centre .y) g y → Span x y r → best ≤ new → r ≤ new → new ≤ 805306368
     → Cornered points centre g (set xs i x) (set ys i y) (i + 1) new
 corner-more points centre g xs ys i best new x y r h hx hy ox oy sp up up' small = record {
-  close = below-more (λ (k : ℕ). CloseTo (2 * unit) (ofNat (2 ^ g)) (difference (placeOf (point points k)) (placeOf centre)) (ofNat unit) (cornerOf (set xs i x) (set ys i y) k)) i
+  close = below-more (λ (k : ℕ). CloseTo (2 * unit) (ofNat (2 ^ g)) (difference (placeOf (point points k)) (placeOf centre)) (ofNat unit) (cornerOf (set xs
+      i x) (set ys i y) k)) i
       (λ k l. rw (old-x k l, old-y k l) (h .close k l)) (rw (new-x, new-y) (record { x = ox .near; y = oy .near }));
   small-x = below-more (λ (k : ℕ). getD (set xs i x) k 0 ≤ 1073741824) i (λ k l. rw (old-x k l) (h .small-x k l)) (rw new-x (ox .small));
   small-y = below-more (λ (k : ℕ). getD (set ys i y) k 0 ≤ 1073741824) i (λ k l. rw (old-y k l) (h .small-y k l)) (rw new-y (oy .small));
   inside = below-more (λ (k : ℕ). dot (cornerOf (set xs i x) (set ys i y) k) (cornerOf (set xs i x) (set ys i y) k) ≼ ofNat new ⊠ ofNat new) i
-      (λ k l. rw (old-x k l, old-y k l) (inside-more best new (getD xs k 0) (getD ys k 0) up (h .inside k l))) (rw (new-x, new-y) (inside-more r new x y up' (sp .reach)));
+      (λ k l. rw (old-x k l, old-y k l) (inside-more best new (getD xs k 0) (getD ys k 0) up (h .inside k l))) (rw (new-x, new-y) (inside-more r new x y
+      up' (sp .reach)));
   small = small;
 }
   where
@@ -168,7 +173,8 @@ whole-fraction x b e h = record {
 pub no-fraction : (x : Float) → FractionDown x 0
 no-fraction x = record { small = omega arith; most = λ l h. zero-below (worthOf x) h }
 
-pub up-law : (x : Float) (b r : ℕ) (X : Int) → b ≡ toBits binary32 x → b ≤ 1065353216 → Gridded Above b 24 X → X .plus ≤ X .minus + r → r ≤ X .plus → FractionUp x r
+pub up-law : (x : Float) (b r : ℕ) (X : Int) → b ≡ toBits binary32 x → b ≤ 1065353216 → Gridded Above b 24 X → X .plus ≤ X .minus + r → r ≤ X .plus →
+    FractionUp x r
 up-law x b r X e h p l s =
     let q : Above (scaled (toBits binary32 x) 24) X = subst (λ (i : ℕ). Above (scaled i 24) X) e (p .is (one-reaches b (omega arith) .1)) in
     record { small = omega (arith, p .small); least = λ n. omega (arith, q .least, times-unit X (ofNat r) (omega arith)) }
@@ -179,16 +185,23 @@ down-law x b r X e h p s low none =
     let q : Below (scaled (toBits binary32 x) 24) X = subst (λ (i : ℕ). Below (scaled i 24) X) e (p .is (one-reaches b (omega arith) .1)) in
     record { small = omega (arith, p .small); most = λ n w. go (le-or-lt (X .plus) (X .minus)) q w }
   where
-    go : (X .plus ≤ X .minus) ⊎ (X .minus < X .plus) → Below (scaled (toBits binary32 x) 24) X → 0Int ≼ worthOf x → ofNat r ⊠ ofNat unit ≼ worthOf x ⊠ ofNat 16777216
+    go : (X .plus ≤ X .minus) ⊎ (X .minus < X .plus) → Below (scaled (toBits binary32 x) 24) X → 0Int ≼ worthOf x → ofNat r ⊠ ofNat unit ≼ worthOf x ⊠
+        ofNat 16777216
     go (inl l) q w = subst (λ (i : ℕ). ofNat i ⊠ ofNat unit ≼ worthOf x ⊠ ofNat 16777216) (sym (none l)) (zero-below (worthOf x) w)
     go (inr l) q w = omega (arith, q .most, times-unit (ofNat r) X (omega (arith, low (omega arith))))
 
 -- ---- pairs
-pub between-law : (numbers : List Float) (i j g : ℕ) (p q : Vector) (x y : Pair) → p ≡ point numbers i → q ≡ point numbers j → Less (q .x) (p .x) g x → Less (q .y) (p .y) g y
+pub between-law : (numbers : List Float) (i j g : ℕ) (p q : Vector) (x y : Pair) → p ≡ point numbers i → q ≡ point numbers j → Less (q .x) (p .x) g x →
+    Less (q .y) (p .y) g y
     → Between numbers i j g (record { x = x; y = y })
 between-law numbers i j g p q x y ep eq hx hy = record {
-  close = subst (λ (v : Vector). CloseTo (2 * unit) (ofNat (2 ^ g)) (difference (placeOf (point numbers j)) (placeOf v)) (ofNat unit) (record { x = intOf x; y = intOf y })) ep
-      (subst (λ (v : Vector). CloseTo (2 * unit) (ofNat (2 ^ g)) (difference (placeOf v) (placeOf p)) (ofNat unit) (record { x = intOf x; y = intOf y })) eq (record { x = hx .near; y = hy .near }));
+  close = subst (λ (v : Vector). CloseTo (2 * unit) (ofNat (2 ^ g)) (difference (placeOf (point numbers j)) (placeOf v)) (ofNat unit) (record {
+    x = intOf
+        x;
+    y = intOf y;
+  })) ep
+      (subst (λ (v : Vector). CloseTo (2 * unit) (ofNat (2 ^ g)) (difference (placeOf v) (placeOf p)) (ofNat unit) (record { x = intOf x; y = intOf y }))
+      eq (record { x = hx .near; y = hy .near }));
   small = record { x = hx .small; y = hy .small };
 }
 
@@ -214,13 +227,19 @@ larger-down s t G r (inr h) =
     let l : t ≤ largerOf s t = omega arith in
     omega (arith, mul-le-mul-left G l)
 
-module _ (numbers : List Float) (g r s a b : ℕ) (es : s ≡ toBits binary32 (point numbers 1 .y)) (ea : a ≡ toBits binary32 (point numbers 0 .x)) (eb : b ≡ toBits binary32 (point numbers 0 .y))
+module _ (numbers : List Float) (g r s a b : ℕ) (es : s ≡ toBits binary32 (point numbers 1 .y)) (ea : a ≡ toBits binary32 (point numbers 0 .x)) (eb : b ≡
+    toBits binary32 (point numbers 0 .y))
     (radii : NearPair numbers 0 g) (slop : Near (point numbers 1 .y) g) where
   reaches : (x : Float) (k : ℕ) → k ≡ toBits binary32 x → Near x g → Reaches 4294967296 k g
   reaches x k e h = subst (λ (i : ℕ). Reaches 4294967296 i g) (sym e) (wider 268435456 4294967296 (toBits binary32 x) g (omega arith) h)
 
   three : Three s a b g
-  three = record { slop = reaches (point numbers 1 .y) s es slop; first = reaches (point numbers 0 .x) a ea (radii .x); second = reaches (point numbers 0 .y) b eb (radii .y) }
+  three = record {
+    slop = reaches (point numbers 1 .y) s es slop;
+    first = reaches (point numbers 0 .x) a ea (radii .x);
+    second = reaches (point numbers
+        0 .y) b eb (radii .y);
+  }
 
   pub keep-up-law : (Three s a b g → KeptUp s a b g r) → 2 ^ g * keepOf numbers ≤ r * unit
   keep-up-law h =
@@ -237,15 +256,24 @@ module _ (numbers : List Float) (g r s a b : ℕ) (es : s ≡ toBits binary32 (p
       (larger-down (size s) (size a + size b) (2 ^ g) (r * unit) (h three))))
 
 -- ---- bodies
-pub recentred : (points : List Float) (v w : Vector) (g : ℕ) (xs ys : List ℕ) (R : ℕ) → v ≡ w → AllCornered points v g xs ys R → AllCornered points w g xs ys R
+pub recentred : (points : List Float) (v w : Vector) (g : ℕ) (xs ys : List ℕ) (R : ℕ) → v ≡ w → AllCornered points v g xs ys R → AllCornered points w g xs
+    ys R
 recentred points v w g xs ys R e h = subst (λ (i : Vector). AllCornered points i g xs ys R) e h
 
-pub body-fits : (points numbers : List Float) (i g : ℕ) (xs ys : List ℕ) (r : GridBody) → PlacedBody points numbers i g xs ys r → pairs.Sized 1073741824 (r .q1) → pairs.Sized 1073741824 (r .q2) → BodyFits r xs ys
+pub body-fits : (points numbers : List Float) (i g : ℕ) (xs ys : List ℕ) (r : GridBody) → PlacedBody points numbers i g xs ys r → pairs.Sized 1073741824
+    (r .q1) → pairs.Sized 1073741824 (r .q2) → BodyFits r xs ys
 body-fits points numbers i g xs ys r h first last =
     let k = h .corners .corners in
-    record { first = first; last = last; near = k .small; corners = record { alike = h .corners .alike; small-x = k .small-x; small-y = k .small-y }; inside = k .inside }
+    record {
+      first = first;
+      last = last;
+      near = k .small;
+      corners = record { alike = h .corners .alike; small-x = k .small-x; small-y = k .small-y };
+      inside = k .inside;
+    }
 
-pub body-stands : (points numbers : List Float) (i g : ℕ) (xs ys : List ℕ) (r : GridBody) → PlacedBody points numbers i g xs ys r → pairs.Sized 1073741824 (r .q1) → pairs.Sized 1073741824 (r .q2)
+pub body-stands : (points numbers : List Float) (i g : ℕ) (xs ys : List ℕ) (r : GridBody) → PlacedBody points numbers i g xs ys r → pairs.Sized 1073741824
+    (r .q1) → pairs.Sized 1073741824 (r .q2)
     → StandsForBody unit (2 ^ g) r xs ys (bodyOf points numbers i)
 body-stands points numbers i g xs ys r h first last = record {
   count = sym (h .corners .count);
@@ -257,10 +285,22 @@ body-stands points numbers i g xs ys r h first last = record {
 -- ---- the job
 module _ (pointsA pointsB numbers : List Float) (g : ℕ) (h : Suits pointsA pointsB numbers g) where
   pub asked-a : (xs ys : List ℕ) → length xs ≡ length pointsA / 2 → length ys ≡ length xs → Asked pointsA (point numbers 2) g xs ys
-  asked-a xs ys count alike = record { near = h .a; near-x = h .moveA 4 (omega arith) (omega arith); near-y = h .moveA 5 (omega arith) (omega arith); count = count; alike = alike }
+  asked-a xs ys count alike = record {
+    near = h .a;
+    near-x = h .moveA 4 (omega arith) (omega arith);
+    near-y = h .moveA 5 (omega arith) (omega arith);
+    count = count;
+    alike = alike;
+  }
 
   pub asked-b : (xs ys : List ℕ) → length xs ≡ length pointsB / 2 → length ys ≡ length xs → Asked pointsB (point numbers 7) g xs ys
-  asked-b xs ys count alike = record { near = h .b; near-x = h .moveB 14 (omega arith) (omega arith); near-y = h .moveB 15 (omega arith) (omega arith); count = count; alike = alike }
+  asked-b xs ys count alike = record {
+    near = h .b;
+    near-x = h .moveB 14 (omega arith) (omega arith);
+    near-y = h .moveB 15 (omega arith) (omega arith);
+    count = count;
+    alike = alike;
+  }
 
   pub limits-law : Limits numbers g
   limits-law = record {
@@ -276,7 +316,8 @@ some-finer : (g : ℕ) → 0 < 2 ^ g
 some-finer g = pow-pos g
 
 pub on-board : (pointsA pointsB numbers : List Float) (g : ℕ) (axs ays bxs bys : List ℕ) (a b : GridBody) (job : GridJob)
-    → PlacedBody pointsA numbers 2 g axs ays a → PlacedBody pointsB numbers 7 g bxs bys b → Joined numbers g a b job → OnBoard pointsA pointsB numbers job axs ays bxs bys
+    → PlacedBody pointsA numbers 2 g axs ays a → PlacedBody pointsB numbers 7 g bxs bys b → Joined numbers g a b job → OnBoard pointsA pointsB numbers job
+    axs ays bxs bys
 on-board pointsA pointsB numbers g axs ays bxs bys a b job ha hb j = record {
   g = g;
   fits = record {
@@ -289,8 +330,10 @@ on-board pointsA pointsB numbers g axs ays bxs bys a b job ha hb j = record {
   stands = record {
     someUnit = unit-pos;
     someFiner = some-finer g;
-    bodyA = subst (λ (o : GridBody). StandsForBody unit (2 ^ g) o axs ays (bodyOf pointsA numbers 2)) (sym (j .isA)) (body-stands pointsA numbers 2 g axs ays a ha (j .firstA) (j .lastA));
-    bodyB = subst (λ (o : GridBody). StandsForBody unit (2 ^ g) o bxs bys (bodyOf pointsB numbers 7)) (sym (j .isB)) (body-stands pointsB numbers 7 g bxs bys b hb (j .firstB) (j .lastB));
+    bodyA = subst (λ (o : GridBody). StandsForBody unit (2 ^ g) o axs ays (bodyOf pointsA numbers 2)) (sym (j .isA)) (body-stands pointsA numbers 2 g axs
+        ays a ha (j .firstA) (j .lastA));
+    bodyB = subst (λ (o : GridBody). StandsForBody unit (2 ^ g) o bxs bys (bodyOf pointsB numbers 7)) (sym (j .isB)) (body-stands pointsB numbers 7 g bxs
+        bys b hb (j .firstB) (j .lastB));
     centre1 = j .centre1 .close;
     centre2 = j .centre2 .close;
     up = j .up;

@@ -6,7 +6,7 @@ use lib.Ieee.{Float, binary32, toBits, nan}
 use lib.ListN.{length, getD}
 use Rattle.integers.specs.Signed.{Int, 0Int, ofNat, _⊟_, _⊠_, _≼_}
 use Rattle.integers.specs.Whole.{Within}
-use Rattle.exact.specs.Plane.{Point, difference, dot}
+use Rattle.plane.specs.Plane.{Point, difference, dot}
 use Rattle.model.specs.declared.Vector as model
 use Rattle.model.specs.Support.{point}
 use Rattle.pairs.specs.declared.Pair.{Pair}

@@ -1,3 +1,4 @@
+// Written by tests/written/wide.py from ground, in f64.
 // A float from its bit pattern and back, all NaNs as one.
 ghost use mathlib.Core.Path.{_≡_};
 ghost use lib.Ieee.{binary64, ofBits, toBits};

@@ -1,4 +1,4 @@
-// Written by tests/wide.py from ground, in f64.
+// Written by tests/written/wide.py from ground, in f64.
 // The ground operations in f64. Each contract is the definition of the same operation in model/specs, at binary64.
 mod bits;
 mod pose;

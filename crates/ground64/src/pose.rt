@@ -1,3 +1,4 @@
+// Written by tests/written/wide.py from ground, in f64.
 // Poses: on a point, and one in the frame of another.
 use crate::rotation::inv_rotate_vec;
 use crate::rotation::rotate_vec;

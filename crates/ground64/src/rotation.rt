@@ -1,3 +1,4 @@
+// Written by tests/written/wide.py from ground, in f64.
 // Rotations by cosine and sine.
 use model64::Rotation;
 use model64::Vector;

@@ -1,3 +1,4 @@
+// Written by tests/written/wide.py from ground, in f64.
 // The greater of two numbers, and the absolute value.
 ghost use mathlib.Core.Path.{_≡_};
 ghost use Rattle.model64.specs.Ground as Ground;

@@ -1,3 +1,4 @@
+// Written by tests/written/wide.py from ground, in f64.
 // Vectors of the plane, by value.
 use model64::Vector;
 use root64::root;

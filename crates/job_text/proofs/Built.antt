@@ -9,7 +9,8 @@ use lib.ListN.{length, take, drop, length-append}
 use lib.Seq.{drop-length}
 use Rattle.text.specs.Put.{pasted, Put}
 use Rattle.text.proofs.Pasted.{put-then}
-use Rattle.job_text.specs.Job.{wordAt, wordBytes, firstWords, sumOfFirst, blockFrom, numbersOf, blockFor}
+use Rattle.wire.specs.Bytes.{wordBytes}
+use Rattle.job_text.specs.Job.{wordAt, firstWords, sumOfFirst, blockFrom, numbersOf, blockFor}
 
 pub words-more : (ns : List ℕ) (i : ℕ) {d d₁ d₂ : List ℕ} {at e : ℕ} → Put d 0 (firstWords ns i) d₁ at → Put d₁ at (wordBytes (wordAt ns i)) d₂ e →
     Put d 0 (firstWords ns (i + 1)) d₂ e

@@ -10,7 +10,7 @@ use lib.ListN.{length, take, drop}
 use lib.Seq.{take-at}
 use Rattle.text.specs.Put.{pasted, Put}
 use Rattle.job_text.specs.Job as Job
-use Rattle.job_text.proofs.Passed.{both-true}
+use Rattle.block.proofs.Passed.{both-true}
 
 -- the start of the list up to where a text ends is that text
 pub put-start : {d d' s : List ℕ} {e : ℕ} → Put d 0 s d' e → take e d' ≡ s

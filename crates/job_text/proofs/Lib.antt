@@ -1,11 +1,9 @@
-mod Built
-mod Held
-mod Lines
+pub mod Built
+pub mod Lines
 pub mod Passed
-mod Compared
+pub mod Compared
 pub mod Read
 pub mod RoundTrip
-pub mod Runs
-mod Blocks
-pub mod Alone
+pub mod Fitting
 mod Shown
+mod Slips

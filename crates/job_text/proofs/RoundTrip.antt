@@ -13,31 +13,16 @@ use lib.Seq.{sets, sets-eq, drop-cons, getD-append-add, getD-at, take-add, take-
 use Rattle.model.specs.Wire.{byte, word}
 use Rattle.model.specs.declared.CheckedBlock.the-variants.{Good}
 use Rattle.model.specs.Block.{jobOf, blockOf, sumOfWords, allZero, checkedBlock}
+use Rattle.wire.specs.Bytes.{wordBytes}
+use Rattle.model.specs.Blocks.{isGood}
 use Rattle.job_text.specs.Job as Job
-use Rattle.job_text.specs.Job.{
-  placeOf,
-  wordsOf,
-  wordCount,
-  jobLine,
-  plainBlock,
-  passes,
-  countAt,
-  headWord,
-  pointWord,
-  wordAt,
-  wordBytes,
-  firstWords,
-  sumOfFirst,
-  blockFrom,
-  mostNumbers,
-  numbersOf,
-  blockFor,
-  isJob,
-}
+use Rattle.job_text.specs.Job.{placeOf, wordsOf, wordCount, jobLine, plainBlock, countAt, headWord, pointWord, wordAt, firstWords, sumOfFirst}
+use Rattle.job_text.specs.Job.{blockFrom, mostNumbers, numbersOf, blockFor, isJob}
 use Rattle.job_text.proofs.Read.{Bytes, word-below, fieldsOf, numbers-of-line}
 use Rattle.job_text.proofs.Lines.{length-words}
 use Rattle.job_text.proofs.Compared.{same-list, list-same}
-use Rattle.job_text.proofs.Passed.{Passed, both-true, zero-byte, what-passed}
+use Rattle.block.proofs.Passed.{both-true, zero-byte}
+use Rattle.job_text.proofs.Passed.{Passed, what-passed}
 
 -- ---- the numbers in their places
 words-at : (b : List ℕ) (n j : ℕ) → j < n → getD (wordsOf b n) j 0 ≡ word b (placeOf (byte b 4) j)
@@ -94,7 +79,14 @@ module _ (b ns : List ℕ) (p : Passed b) (stored : ns ≡ sets (replicate mostN
   zero-word k n m zeros from to =
       let z : (i : ℕ) → m ≤ i → i < m + 4 → byte b i ≡ 0 = λ i low high.
       (let same : k + (i - k) ≡ i = omega (arith, low, from) in rw same at (zero-byte b k n (i - k) zeros (omega (arith, low, high, from, to)))) in
-      omega (arith, z m (omega arith) (omega arith), z (m + 1) (omega arith) (omega arith), z (m + 2) (omega arith) (omega arith), z (m + 3) (omega arith) (omega arith))
+      omega (
+        arith,
+        z m (omega arith) (omega arith),
+        z (m + 1) (omega arith) (omega arith),
+        z (m + 2) (omega arith) (omega arith),
+        z (m + 3) (omega arith)
+            (omega arith),
+      )
 
   counts-word : byte b 4 + 256 * byte b 5 ≡ word b 4
   unfolding word
@@ -192,7 +184,8 @@ bytes-again p q r s hp hq hr hs =
     let b₀ : w % 256 ≡ p = ap (λ (n : ℕ). n % 256) e₁ ∙ low p (q + (r + s * 256) * 256) hp in
     let b₁ : w / 256 % 256 ≡ q =
     ap (λ (n : ℕ). n / 256 % 256) e₁ ∙ ap (λ (n : ℕ). n % 256) (high-1 p (q + (r + s * 256) * 256) hp) ∙ low q (r + s * 256) hq in
-    let b₂ : w / 65536 % 256 ≡ r = ap (λ (n : ℕ). n / 65536 % 256) e₂ ∙ ap (λ (n : ℕ). n % 256) (high-2 (p + q * 256) (r + s * 256) (omega arith)) ∙ low r s hr in
+    let b₂ : w / 65536 % 256 ≡ r = ap (λ (n : ℕ). n / 65536 % 256) e₂ ∙ ap (λ (n : ℕ). n % 256) (high-2 (p + q * 256) (r + s * 256) (omega arith))
+    ∙ low r s hr in
     let b₃ : w / 16777216 % 256 ≡ s = ap (λ (n : ℕ). n % 256) (high-3 (p + q * 256 + r * 65536) s (omega arith)) ∙ mod-eq-of-lt hs in
     rw (b₀, b₁, b₂, b₃)
 
@@ -237,24 +230,24 @@ module _ (b ns : List ℕ) (size : length b ≡ 512) (h : Bytes b) (p : Passed b
       rw (same-check, same-start 127 (omega arith), four-bytes b 508 h (omega arith)) (sym (take-add 508 4 b) ∙ take-all 512 b all)
 
 -- ---- the promises
--- a block that passes, to text and back
-pub block-text-block : (b : List ℕ) → length b ≡ 512 → Bytes b → passes (plainBlock b) ≡ true → blockFor (jobLine b) ≡ b
+-- a block that isGood, to text and back
+pub block-text-block : (b : List ℕ) → length b ≡ 512 → Bytes b → isGood (plainBlock b) ≡ true → blockFor (jobLine b) ≡ b
 unfolding blockFor
 block-text-block b size h e = same-block b (numbersOf (jobLine b)) size h (what-passed b e) (numbers-of-line b h)
 
-pub its-line-is-a-job : (b : List ℕ) → length b ≡ 512 → Bytes b → passes (plainBlock b) ≡ true → isJob (jobLine b) ≡ true
+pub its-line-is-a-job : (b : List ℕ) → length b ≡ 512 → Bytes b → isGood (plainBlock b) ≡ true → isJob (jobLine b) ≡ true
 unfolding isJob
 its-line-is-a-job b size h e = rw (block-text-block b size h e, e) (list-same (jobLine b))
 
 -- a job's line, to a block and back
 pub line-block-line : (l : List ℕ) → isJob l ≡ true → jobLine (blockFor l) ≡ l
 unfolding isJob
-line-block-line l e = same-list (jobLine (blockFor l)) l (both-true (passes (plainBlock (blockFor l))) (Job.same (jobLine (blockFor l)) l) e .1)
+line-block-line l e = same-list (jobLine (blockFor l)) l (both-true (isGood (plainBlock (blockFor l))) (Job.same (jobLine (blockFor l)) l) e .1)
 
--- the block of a job passes, and `sheet` reads it as the job whose fields the line has
+-- the block of a job isGood, and `sheet` reads it as the job whose fields the line has
 pub job-accepted : (l : List ℕ) → isJob l ≡ true → checkedBlock (blockFor l) ≡ Good (blockOf (blockFor l))
 unfolding isJob
-job-accepted l e = what-passed (blockFor l) (both-true (passes (plainBlock (blockFor l))) (Job.same (jobLine (blockFor l)) l) e .0) .accepted
+job-accepted l e = what-passed (blockFor l) (both-true (isGood (plainBlock (blockFor l))) (Job.same (jobLine (blockFor l)) l) e .0) .accepted
 
 -- ---- by its bits
 word-is-bytes : (w : ℕ) → Bytes (wordBytes w)

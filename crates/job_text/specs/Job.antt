@@ -1,5 +1,5 @@
 -- A job's line and its block. The line of a block is given by its fields; a line is a job where it is the line of a block that passes.
-use Prim.Native.Nat.{ℕ, zero, suc, _+_, _-_, _*_, _/_, _%_, _^_}
+use Prim.Native.Nat.{ℕ, zero, suc, _+_, _-_, _*_, _%_, _^_}
 use mathlib.Core.Bool.{Bool, true, false, _&&_, cond}
 use mathlib.Core.List.{List, [], _∷_, _++_}
 use lib.Dec.{eqb, ltb}
@@ -8,7 +8,10 @@ use Rattle.model.specs.declared.CheckedBlock.{CheckedBlock}
 use Rattle.model.specs.declared.CheckedBlock.the-variants.{Good, Refused}
 use Rattle.model.specs.Wire.{byte, word}
 use Rattle.model.specs.Block.{jobOf, mostPoints, sumOfWords, checkedBlock}
+use Rattle.model.specs.Blocks.{isGood}
 use Rattle.model.specs.Text.{decimal, hexBy, line}
+use Rattle.wire.specs.Bytes.{wordBytes}
+use Rattle.text.specs.Put.{whereRoom}
 use Rattle.text.specs.Read.{stored}
 
 -- ---- a block of form 1
@@ -18,14 +21,6 @@ otherForm sum job = cond sum (Refused job 11) (Refused 0 10)
 
 unfoldable pub plainBlock : List ℕ → CheckedBlock
 plainBlock b = cond (eqb (byte b 6) 0) (checkedBlock b) (otherForm (eqb (sumOfWords b 128 % 2 ^ 32) 4294967295) (jobOf b))
-
-abbrev pub passes : CheckedBlock → Bool
-passes (Good k) = true
-passes (Refused job number) = false
-
-abbrev pub numberOf : CheckedBlock → ℕ
-numberOf (Good k) = 0
-numberOf (Refused job number) = number
 
 -- ---- from block to line
 -- where the words of a line stand in a block whose outline A has that many points: radii to sweep B, the points of A, the points of B
@@ -47,6 +42,14 @@ hexes (w ∷ ws) = hexBy 8 w ∷ hexes ws
 unfoldable pub jobLine : List ℕ → List ℕ
 jobLine b = line (decimal (jobOf b) ∷ decimal (byte b 4) ∷ decimal (byte b 5) ∷ hexes (wordsOf b (wordCount b)))
 
+-- no job's line is longer, its newline included: three numbers of 21 bytes at most, and 88 words of nine
+abbrev pub longestLine : ℕ
+longestLine = 855
+
+-- where the counts are those of outlines and there is room for the longest line
+abbrev pub lineFor : List ℕ → ℕ → ℕ → List ℕ
+lineFor b at room = cond (ltb mostPoints (byte b 4)) [] (cond (ltb mostPoints (byte b 5)) [] (whereRoom (at + longestLine) room (jobLine b)))
+
 -- ---- from the numbers of a line to a block; one that is missing counts as 0
 abbrev pub field : List ℕ → ℕ → ℕ
 field ns k = getD ns k 0
@@ -67,9 +70,6 @@ unfoldable pub wordAt : List ℕ → ℕ → ℕ
 wordAt ns i =
     cond (ltb i 26) (headWord ns i)
     (cond (ltb i 58) (pointWord ns (i - 26) (2 * countAt ns 1) 27) (pointWord ns (i - 58) (2 * countAt ns 2) (27 + 2 * countAt ns 1)))
-
-abbrev pub wordBytes : ℕ → List ℕ
-wordBytes w = w % 256 ∷ w / 256 % 256 ∷ w / 65536 % 256 ∷ w / 16777216 % 256 ∷ []
 
 unfoldable pub firstWords : List ℕ → ℕ → List ℕ
 firstWords ns zero = []
@@ -103,7 +103,7 @@ same (x ∷ xs) (y ∷ ys) = eqb x y && same xs ys
 
 -- a block passes and has that line
 abbrev pub hasLine : List ℕ → List ℕ → Bool
-hasLine b l = passes (plainBlock b) && same (jobLine b) l
+hasLine b l = isGood (plainBlock b) && same (jobLine b) l
 
 -- the decision, for every list of bytes
 unfoldable pub isJob : List ℕ → Bool

@@ -3,6 +3,7 @@ use Prim.Native.Nat.{ℕ, _+_, _/_}
 use mathlib.Core.Bool.{cond}
 use mathlib.Core.List.{List, [], _∷_, _++_}
 use lib.Dec.{ltb}
+use Rattle.model.specs.Parts.{countLimit}
 use Rattle.text.specs.Put.{number, whereRoom}
 
 -- a line or a block, by its number, and why it is refused
@@ -12,10 +13,6 @@ refusal n why = number n 32 ++ number why 10
 -- two numbers of 20 digits, and a byte after each
 abbrev pub refusalRoom : ℕ
 refusalRoom = 42
-
--- counts below this can be counted on through any part without wrapping
-abbrev pub countLimit : ℕ
-countLimit = 0x8000_0000_0000_0000
 
 -- the refusal of the one after so many, where there is room and it can be counted
 abbrev pub toldFor : ℕ → ℕ → ℕ → List ℕ

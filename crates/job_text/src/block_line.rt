@@ -5,9 +5,11 @@ ghost use Prim.Native.Nat.{_+_, _*_, _≤_};
 ghost use lib.ListN.{length};
 ghost use Rattle.model.specs.Wire.{byte, word};
 ghost use Rattle.text.specs.Put.{Put, hex};
-ghost use Rattle.job_text.specs.Job.{placeOf, wordsOf, jobLine, plainBlock};
+ghost use Rattle.job_text.specs.Job.{placeOf, wordsOf, jobLine, longestLine, lineFor, plainBlock};
 ghost use Rattle.job_text.specs.Pieces.{spaced, headOf};
-ghost use Rattle.job_text.specs.Pack.{longestLine};
+
+// No job's line is longer.
+const LONGEST_LINE: usize = 855;
 
 // As `sheet` reads it where byte 6 is 0; else refused, by the sum of form 1.
 pub fn check_plain(part: &[u8]) -> CheckedBlock
@@ -70,7 +72,7 @@ fn put_head(out: &mut [u8], at: usize, block: &[u8]) -> usize
 }
 
 // The line of a block that passes.
-pub fn put_job(out: &mut [u8], at: usize, block: &[u8]) -> usize
+pub fn put_line(out: &mut [u8], at: usize, block: &[u8]) -> usize
     requires { ⌜ (at + longestLine ≤ length (now out)) × (byte (now block) 4 ≤ 16) × (byte (now block) 5 ≤ 16) ⌝ }
     ensures { λ r. ⌜ Put (now (out .entry)) at (jobLine (now (block .entry))) (now (out .exit)) r ⌝ }
 {
@@ -78,4 +80,23 @@ pub fn put_job(out: &mut [u8], at: usize, block: &[u8]) -> usize
     let e1 = put_head(out, at, block);
     let e2 = put_fields(out, e1, block, last);
     put_field(out, e2, block, last, b'\n')
+}
+
+// The same where the counts are those of outlines and there is room for the longest line; else nothing is written, and the place stays.
+pub fn put_job(out: &mut [u8], at: usize, block: &[u8]) -> usize
+    ensures { λ r. ⌜ Put (now (out .entry)) at (lineFor (now (block .entry)) at (length (now (out .entry)))) (now (out .exit)) r ⌝ }
+{
+    if wire::byte(block, 4) > 16 {
+        return at;
+    }
+    if wire::byte(block, 5) > 16 {
+        return at;
+    }
+    if out.len() < LONGEST_LINE {
+        return at;
+    }
+    if out.len() - LONGEST_LINE < at {
+        return at;
+    }
+    put_line(out, at, block)
 }

@@ -3,7 +3,8 @@ ghost use mathlib.Core.Path.{_≡_};
 ghost use Prim.Native.Nat.{_+_, _≤_, _<_};
 ghost use lib.ListN.{length};
 ghost use Rattle.text.specs.Put.{Put};
-ghost use Rattle.job_text.specs.Job.{field, countAt, headWord, pointWord, wordAt, wordBytes, blockFrom};
+ghost use Rattle.job_text.specs.Job.{field, countAt, headWord, pointWord, wordAt, blockFrom};
+ghost use Rattle.wire.specs.Bytes.{wordBytes};
 
 // The number at a place; 0 where there is none.
 fn field_at(numbers: &[u32], k: usize) -> u32
@@ -60,23 +61,12 @@ fn word_at(numbers: &[u32], i: usize) -> u32
     point_word(numbers, i - 58, words_b, 27 + words_a)
 }
 
-fn bytes_of(w: u32) -> [u8; 4]
-    ensures { λ r. ⌜ r ≡ wordBytes w ⌝ }
-{
-    [
-        (w % 256) as u8,
-        (w / 256 % 256) as u8,
-        (w / 65536 % 256) as u8,
-        (w / 16777216 % 256) as u8,
-    ]
-}
-
 // A word's four bytes from a place on.
 fn put_word(block: &mut [u8], at: usize, w: u32) -> usize
     requires { ⌜ at + 4 ≤ length (now block) ⌝ }
     ensures { λ r. ⌜ Put (now (block .entry)) at (wordBytes w) (now (block .exit)) r ⌝ }
 {
-    let bytes = bytes_of(w);
+    let bytes = wire::word_bytes(w);
     text::put_text(block, at, &bytes)
 }
 

@@ -1,6 +1,6 @@
 // A line is a job where the block of its numbers passes and has that very line.
 use crate::block_line::check_plain;
-use crate::block_line::put_job;
+use crate::block_line::put_line;
 use crate::build::build_block;
 use model::CheckedBlock;
 ghost use mathlib.Core.Path.{_≡_};
@@ -16,7 +16,7 @@ fn prints_as(block: &[u8], line: &[u8]) -> bool
     ensures { λ r. ⌜ r ≡ Job.same (jobLine (now (block .entry))) (now (line .entry)) ⌝ }
 {
     let mut text = [0u8; 855];
-    let end = put_job(&mut text, 0, block);
+    let end = put_line(&mut text, 0, block);
     check::same(&text[..end], line)
 }
 
@@ -29,13 +29,19 @@ fn has_line(block: &[u8], line: &[u8]) -> bool
     }
 }
 
-// Whether a line is a job; its block then stands in the lent bytes.
-pub fn job_block(line: &[u8], block: &mut [u8]) -> bool
-    requires { ⌜ length (now block) ≡ 512 ⌝ }
-    ensures { λ r. ⌜ (r ≡ isJob (now (line .entry))) × (now (block .exit) ≡ blockFor (now (line .entry))) ⌝ }
+// Whether a line is a job, and the block of its numbers.
+pub struct Built {
+    pub job: bool,
+    pub block: [u8; 512],
+}
+
+pub fn job_block(line: &[u8]) -> Built
+    ensures { λ r. ⌜ (r .job ≡ isJob (now (line .entry))) × (r .block ≡ blockFor (now (line .entry))) ⌝ }
 {
     let mut numbers = [0u32; 91];
     text::read_numbers(line, 3, &mut numbers);
-    build_block(&numbers, block);
-    has_line(block, line)
+    let mut block = [0u8; 512];
+    build_block(&numbers, &mut block);
+    let job = has_line(&block, line);
+    Built { job, block }
 }

@@ -1,17 +1,14 @@
-// A job's line and its block, each from the other, and whole texts of them, part by part.
+// A job's line and its block, each from the other; refusals as text, and how much of an input there is room for.
 mod block_line;
 mod build;
 mod job;
-mod pack;
 mod room;
-mod unpack;
 
 pub use block_line::check_plain;
-pub use pack::Held;
-pub use pack::Packed;
-pub use pack::no_line;
-pub use pack::pack_part;
-pub use pack::tell_last;
-pub use unpack::Unpacked;
-pub use unpack::tell_rest;
-pub use unpack::unpack_part;
+pub use block_line::put_job;
+pub use job::Built;
+pub use job::job_block;
+pub use room::least;
+pub use room::put_refusal;
+pub use room::tell_refusal;
+pub use room::used_of;

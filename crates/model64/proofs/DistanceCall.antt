@@ -1,3 +1,4 @@
+-- Written by tests/written/wide.py from model, in f64.
 -- What a distance call does with its cache, and how long it takes. P below says of a vertex what no weight changes. Assumes nothing.
 use Prim.Native.Nat.{ℕ, zero, suc, _+_, _/_, _%_, _≤_, _<_}
 use native.Mathlib.Omega.{arith}
@@ -26,8 +27,11 @@ use Rattle.model64.specs.declared.Distance.{Distance}
 use Rattle.model64.specs.Ground.{one, origin, dot}
 use Rattle.model.specs.Domain.{badOutline}
 use Rattle.model64.specs.Simplex.{slot, weighted, solve}
-use Rattle.model.specs.Distance.{allBelow, cacheIsValid, replaced, fromCache, startCount}
-use Rattle.model64.specs.Distance.{written, blank, held, ended, touches, vertex, cached, startSimplex, supportA, supportB, extended, roundsFrom, rounds, witnessPoints, apart, measuredBy, cacheBy, measuredFrom, measure, distanceRefusal, distanceBy, proxyDistance}
+use Rattle.model.specs.Distance.{allBelow, cacheIsValid, replaced, fromCache}
+use Rattle.model64.specs.Distance.{written, blank, held, ended, touches, vertex, cached, startSimplex}
+use Rattle.model.specs.Distance.{startCount}
+use Rattle.model64.specs.Distance.{supportA, supportB, extended, roundsFrom, rounds, witnessPoints, apart, measuredBy, cacheBy, measuredFrom}
+use Rattle.model64.specs.Distance.{measure, distanceRefusal, distanceBy, proxyDistance}
 use Rattle.model64.proofs.Domain.{test-passed, neither-refused}
 use Rattle.model64.proofs.Support.{support-is-a-point}
 use Rattle.model64.proofs.Simplex.{by-test, by-known-test, Held, single, pair, triple, held-some, held-most, solve-held}
@@ -85,12 +89,16 @@ module _ (P : SimplexVertex → Type 0) (stays : (v : SimplexVertex) (x : Float)
         (placed _ held-by free)
         (rounds-hold new k _ _ _ _ (added _ (new _ _) held-by free)))
 
-    pub start-holds : (c : SimplexCache) → (cacheIsValid c (length a / 2) (length b / 2) ≡ true → (i : ℕ) → i < c .count → P (vertex f a b p (getD (c .«index_a») i 0) (getD (c .«index_b») i 0) (neg (one f)))) →
+    pub start-holds : (c : SimplexCache)
+        → (cacheIsValid c (length a / 2) (length b / 2) ≡ true → (i : ℕ) → i < c .count
+        → P (vertex f a b p (getD (c .«index_a») i 0) (getD (c .«index_b») i 0) (neg (one f)))) →
         P (vertex f a b p 0 0 (one f)) → Held P (startSimplex f a b p c) (startCount c (length a / 2) (length b / 2))
     unfolding startSimplex
     start-holds c entry corner = go (fromCache c (length a / 2) (length b / 2)) refl
       where
-        go : (t : Bool) → fromCache c (length a / 2) (length b / 2) ≡ t → Held P (cond t (cached f a b p c 0 ∷ cached f a b p c 1 ∷ cached f a b p c 2 ∷ []) (vertex f a b p 0 0 (one f) ∷ blank f ∷ blank f ∷ [])) (cond t (c .count) 1)
+        go : (t : Bool) → fromCache c (length a / 2) (length b / 2) ≡ t
+            → Held P (cond t (cached f a b p c 0 ∷ cached f a b p c 1 ∷ cached f a b p c 2 ∷ []) (vertex f a b p 0 0 (one f) ∷ blank f ∷ blank f ∷ []))
+            (cond t (c .count) 1)
         go true e =
             let some = both _ _ e in
             let valid = both _ _ (both _ _ (some .1) .0) in
@@ -113,7 +121,8 @@ below-each limit l (suc n) e i h =
     let parts = both (allBelow limit l n) (ltb (getD l n 0) limit) e in
     up-to i n h (λ y. rw y (ltb-true _ _ (parts .1))) (λ y. below-each limit l n (parts .0) i y)
 
-valid-entry : (c : SimplexCache) (na nb : ℕ) → cacheIsValid c na nb ≡ true → (i : ℕ) → i < c .count → (getD (c .«index_a») i 0 < na) × (getD (c .«index_b») i 0 < nb)
+valid-entry : (c : SimplexCache) (na nb : ℕ) → cacheIsValid c na nb ≡ true → (i : ℕ) → i < c .count → (getD (c .«index_a») i 0 < na)
+    × (getD (c .«index_b») i 0 < nb)
 valid-entry c na nb e i h =
     let outer = both (leb (c .count) 3 && allBelow na (c .«index_a») (c .count)) (allBelow nb (c .«index_b») (c .count)) e in
     let inner = both (leb (c .count) 3) (allBelow na (c .«index_a») (c .count)) (outer .0) in
@@ -275,7 +284,8 @@ module _ (f : Format) (p : Pose) (a : List Float) (ra : Float) (b : List Float) 
   pub measure-rounds : measured .output .iterations ≤ 20
   unfolding measure
   measure-rounds =
-      rw (by-iterations (last .ending) (witnessPoints f (last .simplex) (last .count)) last) (rounds-few f a b p 20 (startSimplex f a b p c) (startCount c (length a / 2) (length b / 2)) (origin f) 0)
+      rw (by-iterations (last .ending) (witnessPoints f (last .simplex) (last .count)) last)
+      (rounds-few f a b p 20 (startSimplex f a b p c) (startCount c (length a / 2) (length b / 2)) (origin f) 0)
 
 -- ---- the checked call
 -- an outline that passes has a point

@@ -1,3 +1,4 @@
+-- Written by tests/written/wide.py from model, in f64.
 -- What a caller learns by taking a check's answer apart: what passed leaves the answer to the next check, and what did not is answered by its
 -- number, whatever check would follow. Assumes nothing.
 use Prim.Native.Nat.{ℕ, zero, suc, _≤_}

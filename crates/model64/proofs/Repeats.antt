@@ -1,3 +1,4 @@
+-- Written by tests/written/wide.py from model, in f64.
 -- A fixed state repeats. Where the root search of a push-back gives its t2 back, the push-backs that are left are this one again; and where a distance
 -- call leaves the time and the cache as they were, so are the calls that are left. Their counts add up, and nothing else changes. Assumes nothing.
 use Prim.{Unit}

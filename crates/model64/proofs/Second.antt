@@ -1,3 +1,4 @@
+-- Written by tests/written/wide.py from model, in f64.
 -- What the second index of `support` is: its value equals the winning one, no higher index has an equal value, and it is at least the first. For a
 -- direction with a NaN both are 0. Assumes nothing.
 use Prim.Native.Nat.{ℕ, zero, suc, _+_, _*_, _/_, _%_, _^_, _-_, _≤_, _<_}

@@ -1,21 +1,29 @@
+-- Written by tests/written/wide.py from model, in f64.
 -- The whole run, block by block and part by part: each line comes from its own number and its own 512 bytes, a file worked in parts has the text
 -- of the whole, and every block is clear, contact, undecided or refused. Assumes nothing.
 use mathlib.Core.Path.{_≡_, refl, sym, ap, _∙_}
-use mathlib.Core.Bool.{true, false}
-use mathlib.Core.List.{List, [], _∷_, _++_, append-assoc, append-nil}
-use Prim.Native.Nat.{ℕ, zero, suc, _+_, _*_, _/_, _%_}
+use mathlib.Core.Bool.{Bool, true, false, cond}
+use mathlib.Core.List.{List, [], _∷_, _++_, append-assoc, append-nil, map}
+use Prim.Native.Nat.{ℕ, zero, suc, _+_, _*_, _/_, _%_, _≤_}
 use native.Mathlib.Omega.{arith}
 use lib.Ieee.{Format}
+use borrow.Author.Tests.{eq-eqb}
+use lib.Dec.{eqb}
 use lib.ListN.{length, take, drop, length-append, length-drop}
-use lib.Seq.{drop-drop, take-append-le, drop-append-le}
+use lib.Seq.{length-take-le}
 use Rattle.model.specs.declared.Status.{Status}
 use Rattle.model.specs.declared.Status.the-variants.{Overlapped, Hit, Separated, Failed}
 use Rattle.model64.specs.declared.BlockAnswer.{BlockAnswer}
 use Rattle.model64.specs.declared.BlockAnswer.the-variants.{Worked, Refused}
 use Rattle.model.specs.declared.Totals.{Totals}
 use Rattle.model64.specs.Work.{blockAnswer}
+use Rattle.model.specs.Blocks.{wholeBlocks, shortRest, blocks, blockAt}
+use Rattle.model.specs.Parts.{together}
 use Rattle.model.specs.Sheet.{none, oneWorked, totalLine}
-use Rattle.model64.specs.Sheet.{wholeAnswers, restAnswer, answers, answerLine, linesFrom, counted, totalsFrom, partText, sheet}
+use Rattle.model64.specs.Sheet.{answerOf, wholeAnswers, restAnswer, answers, answerLine, linesFrom, counted, totalsFrom}
+use Rattle.model64.specs.Sheet.{partText, sheet}
+use Rattle.model.proofs.Blocks.{map-append, blocks-more, blocks-in-two-parts, whole-counted, restOf, rest-short}
+use Rattle.model.proofs.Blocks as Blocks
 
 -- ---- folds over answers in two parts
 pub lines-append : (f : Format) (n : ℕ) (xs ys : List BlockAnswer) →
@@ -66,24 +74,40 @@ unfolding totalsFrom
 totals-add-up t [] h = h
 totals-add-up t (x ∷ xs) h = totals-add-up (counted t x) xs (one-sums t x h)
 
--- ---- one block more, at the end
--- the 512 bytes of block i, counted from 0
-abbrev pub blockAt : List ℕ → ℕ → List ℕ
-blockAt b i = take 512 (drop (512 * i) b)
-
-next-block : (b : List ℕ) (k : ℕ) → blockAt (drop 512 b) k ≡ blockAt b (suc k)
-next-block b k = let e : 512 + 512 * k ≡ 512 * suc k = omega arith in rw (drop-drop (512 * k) 512 b, e)
-
+-- ---- the answers of whole blocks, and of a rest
 pub answers-more : (f : Format) (k : ℕ) (b : List ℕ) → wholeAnswers f (suc k) b ≡ wholeAnswers f k b ++ (blockAnswer f (blockAt b k) ∷ [])
-unfolding wholeAnswers
-answers-more f zero b = refl
-answers-more f (suc k) b =
-    ap (λ (l : List BlockAnswer). blockAnswer f (take 512 b) ∷ l) (answers-more f k (drop 512 b) ∙ rw (next-block b k))
+answers-more f k b = ap (map (blockAnswer f)) (blocks-more k b) ∙ map-append (blockAnswer f) (wholeBlocks k b) (blockAt b k ∷ [])
+
+pub length-map : {A B : Type 0} (g : A → B) (l : List A) → length (map g l) ≡ length l
+length-map g [] = refl
+length-map g (x ∷ l) = ap suc (length-map g l)
 
 pub answers-counted : (f : Format) (k : ℕ) (b : List ℕ) → length (wholeAnswers f k b) ≡ k
-unfolding wholeAnswers
-answers-counted f zero b = refl
-answers-counted f (suc k) b = ap suc (answers-counted f k (drop 512 b))
+answers-counted f k b = length-map (blockAnswer f) (wholeBlocks k b) ∙ Blocks.blocks-counted k b
+
+whole-answered : (f : Format) (k : ℕ) (b : List ℕ) → 512 * k ≤ length b → map (answerOf f) (wholeBlocks k b) ≡ wholeAnswers f k b
+unfolding wholeBlocks
+whole-answered f zero b inside = refl
+whole-answered f (suc k) b inside =
+    let size : length (take 512 b) ≡ 512 = length-take-le 512 b (omega (arith, inside)) in
+    let left : 512 * k ≤ length (drop 512 b) = rw (length-drop 512 b) (omega (arith, inside)) in
+    rw (eq-eqb (length (take 512 b)) 512 size, whole-answered f k (drop 512 b) left)
+
+rest-answered : (f : Format) (b : List ℕ) (t : Bool) → map (answerOf f) (cond t [] (restOf b ∷ [])) ≡ cond t [] (Refused 0 9 ∷ [])
+rest-answered f b true = refl
+rest-answered f b false = rw (rest-short b)
+
+-- whole blocks first, then a rest
+pub answers-cut : (f : Format) (b : List ℕ) → answers f b ≡ wholeAnswers f (length b / 512) b ++ restAnswer (length b % 512)
+unfolding answers blocks
+answers-cut f b =
+    map-append (answerOf f) (wholeBlocks (length b / 512) b) (shortRest b)
+    ∙ rw (whole-answered f (length b / 512) b (omega arith), rest-answered f b (eqb (length b % 512) 0))
+
+-- where nothing is left over there are as many as blocks
+pub answers-of-whole : (f : Format) (b : List ℕ) → length b % 512 ≡ 0 → length (answers f b) ≡ length b / 512
+unfolding answers
+answers-of-whole f b h = length-map (answerOf f) (blocks b) ∙ whole-counted b h
 
 -- ---- each line from its own block
 -- the line of block i, counted from 0: its number and its 512 bytes alone
@@ -102,7 +126,7 @@ lines-more f k b =
     rw (answers-more f k b, lines-append f 0 (wholeAnswers f k b) (blockAnswer f (blockAt b k) ∷ []), count, append-nil (lineAt f b k))
 
 pub lines-by-block : (f : Format) (k : ℕ) (b : List ℕ) → linesFrom f 0 (wholeAnswers f k b) ≡ joined (lineAt f b) k
-unfolding joined linesFrom wholeAnswers
+unfolding joined linesFrom wholeBlocks
 lines-by-block f zero b = refl
 lines-by-block f (suc k) b = lines-more f k b ∙ ap (λ (l : List ℕ). l ++ lineAt f b k) (lines-by-block f k b)
 
@@ -110,37 +134,19 @@ lines-by-block f (suc k) b = lines-more f k b ∙ ap (λ (l : List ℕ). l ++ li
 pub sheet-by-block : (f : Format) (b : List ℕ) →
     let k = length b / 512 in
     sheet f b ≡ (joined (lineAt f b) k ++ linesFrom f k (restAnswer (length b % 512))) ++ totalLine (totalsFrom none (answers f b))
-unfolding sheet answers
+unfolding sheet
 sheet-by-block f b =
     let k = length b / 512 in
     let rest = restAnswer (length b % 512) in
     let count : 0 + length (wholeAnswers f k b) ≡ k = omega (arith, answers-counted f k b) in
-    let cut : linesFrom f 0 (wholeAnswers f k b ++ rest) ≡ joined (lineAt f b) k ++ linesFrom f k rest =
-    lines-append f 0 (wholeAnswers f k b) rest ∙ rw (count, lines-by-block f k b) in
+    let cut : linesFrom f 0 (answers f b) ≡ joined (lineAt f b) k ++ linesFrom f k rest =
+    ap (linesFrom f 0) (answers-cut f b) ∙ lines-append f 0 (wholeAnswers f k b) rest ∙ rw (count, lines-by-block f k b) in
     rw cut
 
 -- ---- a file in two parts, the first of whole blocks
-front : (p s : List ℕ) (j : ℕ) → length p ≡ 512 * suc j → (take 512 (p ++ s) ≡ take 512 p) × (drop 512 (p ++ s) ≡ drop 512 p ++ s) × (length (drop 512 p) ≡ 512 * j)
-front p s j h = (take-append-le 512 p s (omega arith), drop-append-le 512 p s (omega arith), rw (length-drop 512 p) (omega arith))
-
-whole-split : (f : Format) (j k : ℕ) (p s : List ℕ) → length p ≡ 512 * j → wholeAnswers f (j + k) (p ++ s) ≡ wholeAnswers f j p ++ wholeAnswers f k s
-unfolding wholeAnswers
-whole-split f zero k [] s h = let e : 0 + k ≡ k = omega arith in rw e
-whole-split f zero k (x ∷ p) s h = absurd (omega (arith, h))
-whole-split f (suc j) k p s h =
-    let cut = front p s j h in
-    let e : suc j + k ≡ suc (j + k) = omega arith in
-    rw (e, cut .0, cut .1, whole-split f j k (drop 512 p) s (cut .2))
-
 pub answers-in-two-parts : (f : Format) (p s : List ℕ) → length p % 512 ≡ 0 → answers f (p ++ s) ≡ answers f p ++ answers f s
 unfolding answers
-answers-in-two-parts f p s h =
-    let j = length p / 512 in
-    let k = length s / 512 in
-    let size : length p ≡ 512 * j = omega arith in
-    let blocks : length (p ++ s) / 512 ≡ j + k = rw length-append (omega arith) in
-    let rest : length (p ++ s) % 512 ≡ length s % 512 = rw length-append (omega arith) in
-    rw (blocks, rest, whole-split f j k p s size, h, append-nil (wholeAnswers f j p)) (append-assoc (wholeAnswers f j p) _ _)
+answers-in-two-parts f p s h = ap (map (answerOf f)) (blocks-in-two-parts p s h) ∙ map-append (answerOf f) (blocks p) (blocks s)
 
 -- ---- a file worked in parts
 -- part by part, the totals carried on; the last part ends with the totals
@@ -155,10 +161,6 @@ WholeParts [] = Unit {0}
 WholeParts (p ∷ []) = Unit {0}
 WholeParts (p ∷ q ∷ r) = (length p % 512 ≡ 0) × WholeParts (q ∷ r)
 
-unfoldable pub together : List (List ℕ) → List ℕ
-together [] = []
-together (p ∷ r) = p ++ together r
-
 pub part-first : (f : Format) (t : Totals) (p s : List ℕ) → length p % 512 ≡ 0 →
     partText f t (p ++ s) true ≡ partText f t p false ++ partText f (totalsFrom t (answers f p)) s true
 part-first f t p s h =
@@ -168,7 +170,7 @@ part-first f t p s h =
     (append-assoc (linesFrom f (t .blocks) xs) _ _)
 
 pub parts-from : (f : Format) (t : Totals) (ps : List (List ℕ)) → WholeParts ps → byParts f t ps ≡ partText f t (together ps) true
-unfolding byParts WholeParts together answers wholeAnswers linesFrom totalsFrom
+unfolding byParts WholeParts together answers blocks wholeBlocks linesFrom totalsFrom
 parts-from f t [] w = refl
 parts-from f t (p ∷ []) w = rw (append-nil p)
 parts-from f t (p ∷ q ∷ r) w =

@@ -1,3 +1,4 @@
+-- Written by tests/written/wide.py from model, in f64.
 -- What a solve keeps: of the vertices that it was given one, two or three, each as it was but for its weight. Assumes nothing.
 use Prim.Native.Nat.{ℕ, _+_, _≤_, _<_}
 use native.Mathlib.Omega.{arith}
@@ -12,7 +13,8 @@ use Rattle.model64.specs.declared.SimplexVertex.{SimplexVertex}
 use Rattle.model64.specs.declared.Solved.{Solved}
 use Rattle.model64.specs.Ground as Ground
 use Rattle.model.specs.Simplex.{Region, at1, at2, at3, on12, on13, on23, inside}
-use Rattle.model64.specs.Simplex.{slot, weighted, solved, near, far, region2, region3, kept, solveSimplex2, solveSimplex3, solve}
+use Rattle.model64.specs.Simplex.{slot, weighted, solved, near, far, region2, region3, kept}
+use Rattle.model64.specs.Simplex.{solveSimplex2, solveSimplex3, solve}
 
 -- ---- by cases on a test
 pub by-test : {A : Type 0} (P : A → Type 0) (t : Bool) {x y : A} → P x → P y → P (cond t x y)

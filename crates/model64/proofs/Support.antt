@@ -1,3 +1,4 @@
+-- Written by tests/written/wide.py from model, in f64.
 -- What `support` finds is a point of its list, and telling its index as a u32 cuts nothing off an outline's; and what is left of the list at some place
 -- gives, point by point. Assumes nothing.
 use Prim.Native.Nat.{ℕ, suc, _+_, _*_, _/_, _%_, _^_, _≤_, _<_}

@@ -1,3 +1,4 @@
+-- Written by tests/written/wide.py from model, in f64.
 -- The corners of the separation searches, beside the sweep's own definitions: those of one search, those of all searches of a sweep in their order, and
 -- a sweep's answer with the corners of the last one.
 use Prim.Native.Nat.{ℕ, zero, suc, _-_}

@@ -1,3 +1,4 @@
+-- Written by tests/written/wide.py from model, in f64.
 -- The distance call, over two flat lists of points and the pose of B in the frame of A. It ends in one of three ways:
 --   touching      the origin is within what a solve kept: distance 0, and the cache is left as it came;
 --   settled       the new support pair was held before the round: the cache takes what the solve kept;

@@ -1,3 +1,4 @@
+-- Written by tests/written/wide.py from model, in f64.
 -- The domain and the numbers of refusal, in their order. A number of 0 says that nothing is refused; -0 counts as zero everywhere.
 use Prim.Native.Nat.{ℕ, zero, suc, _%_}
 use mathlib.Core.Bool.{Bool, true, false, not, _&&_, _||_, cond}

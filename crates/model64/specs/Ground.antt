@@ -1,3 +1,4 @@
+-- Written by tests/written/wide.py from model, in f64.
 -- The ground operations, in the order of the rules. Each + - * / rounds once, in the written order, left to right; the format is the first argument of each.
 use Prim.Native.Nat.{ℕ}
 use mathlib.Core.Bool.{Bool, true, false, _&&_, _||_, cond}

@@ -1,3 +1,4 @@
+-- Written by tests/written/wide.py from model, in f64.
 -- The second index of `support`: the highest one whose value equals the winning value. Beside the first, which stays what it is.
 use Prim.Native.Nat.{ℕ, zero, suc, _+_, _%_, _^_}
 use mathlib.Core.Bool.{cond}

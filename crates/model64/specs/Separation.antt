@@ -1,3 +1,4 @@
+-- Written by tests/written/wide.py from model, in f64.
 -- The separation function: along which axis two moving outlines are held apart, and how far apart they are along it at a time.
 use Prim.Native.Nat.{ℕ}
 use mathlib.Core.Bool.{Bool, true, false, cond}

@@ -1,9 +1,10 @@
--- The printed sheet. A file is a list of answers, one for each block; its lines and its totals are folds of that list, and the text is both.
-use Prim.Native.Nat.{ℕ, zero, suc, _+_, _/_, _%_}
+-- Written by tests/written/wide.py from model, in f64.
+-- The printed sheet. A file's answers are one for each of its blocks; its lines and its totals are folds of that list, and the text is both.
+use Prim.Native.Nat.{ℕ, _+_}
 use mathlib.Core.Bool.{Bool, cond}
-use mathlib.Core.List.{List, [], _∷_, _++_}
+use mathlib.Core.List.{List, [], _∷_, _++_, map}
 use lib.Dec.{eqb}
-use lib.ListN.{length, take, drop}
+use lib.ListN.{length}
 use lib.Ieee.{Format}
 use Rattle.model.specs.declared.Status.{Status}
 use Rattle.model.specs.declared.Status.the-variants.{Overlapped, Hit, Separated, Failed}
@@ -15,6 +16,7 @@ use Rattle.model.specs.declared.Totals.{Totals}
 use Rattle.model.specs.Text.{decimal, hexFloat, line}
 use Rattle.model.specs.Separation.{noIndex}
 use Rattle.model.specs.Block.{blockSize}
+use Rattle.model.specs.Blocks.{wholeBlocks, blocks}
 use Rattle.model64.specs.Work.{blockAnswer}
 pub use Rattle.model.specs.Sheet.{letterOf}
 unfoldable pub use Rattle.model.specs.Sheet.{refusedLine}
@@ -30,17 +32,19 @@ pub use Rattle.model.specs.Sheet.{oneWorked}
 unfoldable pub use Rattle.model.specs.Sheet.{totalLine}
 
 -- ---- the answers of a file
--- of its first k blocks
-unfoldable pub wholeAnswers : Format → ℕ → List ℕ → List BlockAnswer
-wholeAnswers f zero b = []
-wholeAnswers f (suc k) b = blockAnswer f (take blockSize b) ∷ wholeAnswers f k (drop blockSize b)
-
--- a rest of fewer bytes than a block is refused by 9
-abbrev pub restAnswer : ℕ → List BlockAnswer
-restAnswer rest = cond (eqb rest 0) [] (Refused 0 9 ∷ [])
+-- of a block, by its own bytes alone; one that is short is refused by 9
+abbrev pub answerOf : Format → List ℕ → BlockAnswer
+answerOf f x = cond (eqb (length x) blockSize) (blockAnswer f x) (Refused 0 9)
 
 unfoldable pub answers : Format → List ℕ → List BlockAnswer
-answers f b = wholeAnswers f (length b / blockSize) b ++ restAnswer (length b % blockSize)
+answers f b = map (answerOf f) (blocks b)
+
+-- of its first k blocks, and of a rest of so many bytes: all of them, where the blocks are all that are whole
+abbrev pub wholeAnswers : Format → ℕ → List ℕ → List BlockAnswer
+wholeAnswers f k b = map (blockAnswer f) (wholeBlocks k b)
+
+abbrev pub restAnswer : ℕ → List BlockAnswer
+restAnswer rest = cond (eqb rest 0) [] (Refused 0 9 ∷ [])
 
 -- what a worked block printed before it told corners
 abbrev pub workedFields : Format → ℕ → ℕ → Verdict → List (List ℕ)

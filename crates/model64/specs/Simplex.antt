@@ -1,3 +1,4 @@
+-- Written by tests/written/wide.py from model, in f64.
 -- The two- and three-vertex solvers: in which region the origin lies, and what is kept of the simplex.
 --
 --           at 2                      With w1 w2 w3 for the differences, e12 = w2 - w1 and so on. The origin is nearest to

@@ -1,3 +1,4 @@
+-- Written by tests/written/wide.py from model, in f64.
 -- Points of a flat list x0 y0 x1 y1 .., and `support`: the point that lies farthest along a direction.
 use Prim.Native.Nat.{ℕ, _+_, _*_, _%_, _^_}
 use mathlib.Core.Bool.{Bool, true, false, cond}

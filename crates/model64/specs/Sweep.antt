@@ -1,3 +1,4 @@
+-- Written by tests/written/wide.py from model, in f64.
 -- Moves: the pose at a time, and the move seen from another origin.
 use lib.Ieee.{Float, Format}
 use Rattle.model64.specs.declared.Vector.{Vector}

@@ -1,3 +1,4 @@
+-- Written by tests/written/wide.py from model, in f64.
 -- The sweep: when, along two planned moves, the outlines come within the target distance. Three loops inside one another, each by the number of
 -- turns that it has left, counting as they go:
 --   advancement   at t1 a distance call; overlapped, a hit, or an axis along which to push back;

@@ -1,4 +1,5 @@
-// Written by tests/wide.py from model: the records that hold floats, in f64. The others are model's.
+// Written by tests/written/wide.py from model, in f64.
+// The records of model that hold floats, in f64. The others are model's.
 use model::Corners;
 use model::Counts;
 use model::Ending;
@@ -173,6 +174,12 @@ pub struct Verdict {
     pub contact: Contact,
     pub counts: Counts,
     pub corners: Corners,
+}
+
+// What a sweep's answer comes to: a verdict, or the number of its refusal.
+pub enum Outcome {
+    Found(Verdict),
+    Refused(u32),
 }
 
 // What a block comes to: its job with the verdict; or the job and the number of a refusal, whichever of 3 to 11 or 13 it is.

@@ -1,3 +1,4 @@
+-- Written by tests/written/wide.py from outline, in f64.
 -- The two endings of `support`: its check's refusal, and both indices. Assumes nothing.
 use Prim.Native.Nat.{ℕ}
 use mathlib.Core.List.{List}

@@ -1,4 +1,4 @@
-// Written by tests/wide.py from outline, in f64.
+// Written by tests/written/wide.py from outline, in f64.
 // Outlines as flat lists x0 y0 x1 y1 ..: their points, and which of them lies farthest along a direction.
 use domain64::check_outline;
 use domain64::refusal;

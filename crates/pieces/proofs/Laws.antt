@@ -2,7 +2,7 @@
 use Prim.Native.Nat.{ℕ, _+_, _≤_}
 use native.Mathlib.Omega.{arith}
 use Rattle.integers.specs.Signed.{ofNat, _⊠_, _≼_, _≃_}
-use Rattle.exact.specs.Plane.{dot}
+use Rattle.plane.specs.Plane.{dot}
 use Rattle.pairs.specs.declared.Vector.{Vector}
 use Rattle.pairs.specs.declared.Pair.{Pair}
 use Rattle.pairs.specs.Pairs.{intOf, pointOf}

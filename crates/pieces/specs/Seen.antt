@@ -4,7 +4,7 @@ use mathlib.Core.Logic.{_⊎_}
 use mathlib.Core.List.{List}
 use Prim.Native.Nat.{ℕ, _+_, _*_, _≤_, _<_}
 use Rattle.integers.specs.Signed.{ofNat, _⊠_, _≼_}
-use Rattle.exact.specs.Plane.{dot}
+use Rattle.plane.specs.Plane.{dot}
 use Rattle.pairs.specs.declared.Vector.{Vector}
 use Rattle.pairs.specs.Pairs.{pointOf, Sized}
 use Rattle.board.specs.declared.GridBody.{GridBody}

@@ -25,7 +25,8 @@ wall = map (ofBits binary32) (0 ∷ 3248488448 ∷ 1082130432 ∷ 3248488448 ∷
 -- no radii, all of the way, a slop of 0.005; the cart turns from (1, 0) to (0, 1) where it stands; the wall stands at 6
 abbrev numbers : List Float
 numbers = map (ofBits binary32)
-    (0 ∷ 0 ∷ 1065353216 ∷ 1000593162 ∷ 0 ∷ 0 ∷ 0 ∷ 0 ∷ 0 ∷ 0 ∷ 1065353216 ∷ 0 ∷ 0 ∷ 1065353216 ∷ 0 ∷ 0 ∷ 1086324736 ∷ 0 ∷ 1086324736 ∷ 0 ∷ 1065353216 ∷ 0 ∷ 1065353216 ∷ 0 ∷ [])
+    (0 ∷ 0 ∷ 1065353216 ∷ 1000593162 ∷ 0 ∷ 0 ∷ 0 ∷ 0 ∷ 0 ∷ 0 ∷ 1065353216 ∷ 0 ∷ 0 ∷ 1065353216 ∷ 0 ∷ 0 ∷ 1086324736 ∷ 0 ∷ 1086324736 ∷ 0 ∷ 1065353216 ∷ 0 ∷
+    1065353216 ∷ 0 ∷ [])
 
 abbrev half : Moment
 half = record { u = 1; w = 1; some = leb→le 1 2 tt }
@@ -56,7 +57,8 @@ dot1 = map (ofBits binary32) (0 ∷ 0 ∷ [])
 
 abbrev passing : List Float
 passing = map (ofBits binary32)
-    (0 ∷ 0 ∷ 1065353216 ∷ 1000593162 ∷ 0 ∷ 0 ∷ 0 ∷ 0 ∷ 1137180672 ∷ 0 ∷ 1065353216 ∷ 0 ∷ 1065353216 ∷ 0 ∷ 0 ∷ 0 ∷ 1056964608 ∷ 0 ∷ 1056964608 ∷ 0 ∷ 1065353216 ∷ 0 ∷ 1065353216 ∷ 0 ∷ [])
+    (0 ∷ 0 ∷ 1065353216 ∷ 1000593162 ∷ 0 ∷ 0 ∷ 0 ∷ 0 ∷ 1137180672 ∷ 0 ∷ 1065353216 ∷ 0 ∷ 1065353216 ∷ 0 ∷ 0 ∷ 0 ∷ 1056964608 ∷ 0 ∷ 1056964608 ∷ 0 ∷
+    1065353216 ∷ 0 ∷ 1065353216 ∷ 0 ∷ [])
 
 abbrev early : Moment
 early = record { u = 799; w = 1; some = leb→le 1 800 tt }
@@ -71,4 +73,8 @@ still-b = record { over = 1; under = 800 * 2 ^ 149; some = leb→le 1 (800 * 2 ^
 
 not-clear-between-samples : Clear dot1 dot1 passing (ofBits binary32 0) → ⊥
 unfolding ofBits toBits size unit _⊠_ still-a still-b
-not-clear-between-samples clear = refute _ _ tt (clear early (leb→le _ _ tt) (leb→le _ _ tt) still-a still-b (record { weight = λ i. 1; some = leb→le 1 1 tt }) (record { weight = λ j. 1; some = leb→le 1 1 tt }))
+not-clear-between-samples clear = refute _ _ tt (clear early (leb→le _ _ tt) (leb→le _ _ tt) still-a still-b (record {
+  weight = λ i. 1;
+  some = leb→le 1 1
+      tt;
+}) (record { weight = λ j. 1; some = leb→le 1 1 tt }))

@@ -9,9 +9,9 @@ use Rattle.integers.specs.Signed.{Int, 0Int, ofNat, _⊞_, _⊟_, _⊠_, _≼_,
 use Rattle.integers.specs.Polynomial.{var, _:+_, _:-_, _:*_}
 use Rattle.integers.proofs.Signed.{⊠-cong, ⊠-comm}
 use Rattle.integers.proofs.Ring.{ring}
-use Rattle.exact.specs.Plane.{dot}
-use Rattle.exact.specs.Fraction.{Fraction, _≤ᶠ_, _<ᶠ_}
-use Rattle.exact.proofs.Weights.{⊠-mono}
+use Rattle.plane.specs.Plane.{dot}
+use Rattle.plane.specs.Fraction.{Fraction, _≤ᶠ_, _<ᶠ_}
+use Rattle.plane.proofs.Weights.{⊠-mono}
 use Rattle.whole_move.specs.Piece.{Moment, whole}
 use Rattle.whole_move.proofs.Turns.{cancel}
 use Rattle.whole_way.specs.Mover.{Mover, headingAt, TurnAt, share, at, AwayBetween}
@@ -33,7 +33,8 @@ at-most-trans a b c ha hb hc l m = cancel (b .bottom) (c .bottom ⊠ a .top) (a 
 ))
 
 -- what is away is so on a part of it
-pub narrower : (S clearance : ℕ) (a b : Mover) (first last from to : Fraction) → 0Int ≼ first .bottom → 0Int ≺ from .bottom → 0Int ≺ to .bottom → 0Int ≼ last .bottom
+pub narrower : (S clearance : ℕ) (a b : Mover) (first last from to : Fraction) → 0Int ≼ first .bottom → 0Int ≺ from .bottom → 0Int ≺ to .bottom → 0Int ≼
+    last .bottom
     → first ≤ᶠ from → to ≤ᶠ last → AwayBetween S clearance a b first last → AwayBetween S clearance a b from to
 narrower S clearance a b first last from to h1 h2 h3 h4 l m away g after before =
     away g (at-most-trans first from (at g) h1 h2 (omega arith) l after) (at-most-trans (at g) to last (omega arith) h3 h4 before m)
@@ -50,18 +51,22 @@ unit-above = omega (arith, unit-pos)
 
 module _ (pointsA pointsB numbers : List Float) where
   -- what is known from one 2^24-th to another
-  pub clear-between : (from : Float) (low high : ℕ) → ofNat low ⊠ ofNat unit ≼ worthOf from ⊠ ofNat 16777216 → end pointsA pointsB numbers ≤ᶠ share 16777216 high
+  pub clear-between : (from : Float) (low high : ℕ) → ofNat low ⊠ ofNat unit ≼ worthOf from ⊠ ofNat 16777216 → end pointsA pointsB numbers ≤ᶠ share
+      16777216 high
       → Away pointsA pointsB numbers (share 16777216 low) (share 16777216 high) → Clear pointsA pointsB numbers from
   clear-between from low high l m = narrower 1073741824 (keep pointsA pointsB numbers) (bodyA pointsA pointsB numbers) (bodyB pointsA pointsB numbers)
-      (share 16777216 low) (share 16777216 high) (fractionOf from) (end pointsA pointsB numbers) (omega arith) unit-above unit-above (omega arith) (share-below from low l) m
+      (share 16777216 low) (share 16777216 high) (fractionOf from) (end pointsA pointsB numbers) (omega arith) unit-above unit-above (omega arith)
+      (share-below from low l) m
 
   pub away-up-to : (from : Float) (low u : ℕ) → ofNat low ⊠ ofNat unit ≼ worthOf from ⊠ ofNat 16777216
       → Away pointsA pointsB numbers (share 16777216 low) (share 16777216 u) → Away pointsA pointsB numbers (fractionOf from) (share 16777216 u)
   away-up-to from low u l = narrower 1073741824 (keep pointsA pointsB numbers) (bodyA pointsA pointsB numbers) (bodyB pointsA pointsB numbers)
-      (share 16777216 low) (share 16777216 u) (fractionOf from) (share 16777216 u) (omega arith) unit-above (omega arith) (omega arith) (share-below from low l) (omega arith)
+      (share 16777216 low) (share 16777216 u) (fractionOf from) (share 16777216 u) (omega arith) unit-above (omega arith) (omega arith) (share-below from
+      low l) (omega arith)
 
   -- ---- the window is not empty: wherever the rotation is not 0 there is a turn
-  pub a-turn : (points : List Float) (i : ℕ) (m : Moment) → let o = bodyOf points numbers i in 0Int ≺ dot (headingAt m o) (headingAt m o) → TurnAt m 1073741824 o
+  pub a-turn : (points : List Float) (i : ℕ) (m : Moment) → let o = bodyOf points numbers i in 0Int ≺ dot (headingAt m o) (headingAt m o) → TurnAt m
+      1073741824 o
   a-turn points i m h = some-turn m 1073741824 (bodyOf points numbers i) h
 
   -- ---- no move is both clear and touching

@@ -12,8 +12,8 @@ use lib.ListN.{length}
 use Rattle.integers.specs.Signed.{Int, ofNat}
 use Rattle.model.specs.declared.Vector.{Vector}
 use Rattle.model.specs.Support.{point}
-use Rattle.exact.specs.Plane.{Point, difference}
-use Rattle.exact.specs.Fraction.{Fraction, _≤ᶠ_, _<ᶠ_}
+use Rattle.plane.specs.Plane.{Point, difference}
+use Rattle.plane.specs.Fraction.{Fraction, _≤ᶠ_, _<ᶠ_}
 use Rattle.whole_move.specs.Piece.{Moment}
 use Rattle.whole_way.specs.Mover.{Mover, share, AwayBetween}
 use Rattle.whole_touch.specs.Touch.{TouchAt}

@@ -1,8 +1,20 @@
 // Table 4: blocks with their lines. A row has 168 words: a block, and as its answer 39 words of the line that it has as that block of a file, zeros
 // after the line's end, and the line's kind, as of a sweep.
-use crate::sweeps::kind;
+use crate::sweeps::status_number;
 use crate::words::Words;
 use crate::words::put;
+use model::BlockAnswer;
+
+// The kind of a row that has this answer.
+fn kind(answer: BlockAnswer) -> u32 {
+    match answer {
+        BlockAnswer::Worked(_, v) => {
+            let status = v.status;
+            status_number(status)
+        }
+        BlockAnswer::Refused(_, number) => number,
+    }
+}
 
 pub fn answer(row: &[u8], n: u64, words: &mut Words) {
     if row.len() < 512 {
@@ -12,7 +24,7 @@ pub fn answer(row: &[u8], n: u64, words: &mut Words) {
     let end: usize = 512;
     let answer = work::answer_block(&row[start..end]);
     let mut text = [0u8; 240];
-    lines::write_line(n, answer, &mut text);
+    sheet_lines::write_line(n, answer, &mut text);
     let mut i: usize = 0;
     while i < 39 {
         put(words, i, wire::word(&text, 4 * i));

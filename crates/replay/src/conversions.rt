@@ -10,7 +10,7 @@ pub fn answer(row: &[u8], words: &mut Words) {
     }
     let mut file = io::large_buffer();
     let mut text = io::buffer();
-    let converted = forms::convert_part(&row[start..end], 0, &mut file, &mut text);
+    let converted = convert_forms::convert_part(&row[start..end], 0, &mut file, &mut text);
     let file_end = converted.file;
     let text_end = converted.text;
     if file_end > 65536 {

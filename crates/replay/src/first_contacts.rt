@@ -14,9 +14,9 @@ pub fn answer(row: &[u8], words: &mut Words) {
         return;
     }
     let end = start + size;
-    let searched = contacts::search_part(&row[start..end], before);
+    let searched = any_contact_search::search_part(&row[start..end], before);
     let mut text = [0u8; 24];
-    contacts::write_found(searched.found, &mut text);
+    any_contact_search::write_found(searched.found, &mut text);
     let mut i: usize = 0;
     while i < 6 {
         put(words, i, wire::word(&text, 4 * i));

@@ -1,7 +1,7 @@
 // Table 8: cases of `pack`. The input is handed on in pieces of 32 bytes, so that a line goes through many.
 use crate::cases;
 use crate::words::Words;
-use job_text::Held;
+use pack_lines::Held;
 ghost use Prim.Native.Nat.{_≤_, _<_};
 ghost use lib.ListN.{length};
 
@@ -29,7 +29,7 @@ fn pack_piece(piece: &[u8], texts: Texts, out: &mut [u8], err: &mut [u8]) -> Tex
     let mut more = io::large_buffer();
     let mut told = io::large_buffer();
     let held = texts.held;
-    let packed = job_text::pack_part(piece, held, &mut more, &mut told);
+    let packed = pack_lines::pack_part(piece, held, &mut more, &mut told);
     let line = packed.held;
     Texts {
         held: line,
@@ -39,7 +39,7 @@ fn pack_piece(piece: &[u8], texts: Texts, out: &mut [u8], err: &mut [u8]) -> Tex
 }
 
 fn pack_input(input: &[u8], out: &mut [u8], err: &mut [u8]) -> Texts {
-    let none = job_text::no_line();
+    let none = pack_lines::no_line();
     let mut texts = Texts {
         held: none,
         at: 0,
@@ -65,7 +65,7 @@ pub fn answer(row: &[u8], words: &mut Words) {
     let texts = pack_input(&row[start..end], &mut out, &mut err);
     let held = texts.held;
     let mut last = [0u8; 64];
-    let n = job_text::tell_last(held, &mut last);
+    let n = pack_lines::tell_last(held, &mut last);
     let told = cases::append(&mut err, texts.told, &last, n);
     cases::tell_first(row, end, &out, texts.at, &err, told, words);
 }

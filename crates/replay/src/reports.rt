@@ -5,6 +5,12 @@ use crate::words::Words;
 // A row has at most so many batches.
 const MOST: usize = 8;
 
+// The text of the report of batches that stand one behind another.
+fn write_batches(batches: &[u8], sizes: &[u32], out: &mut [u8]) -> usize {
+    let report = report_batches::report_batches(batches, sizes);
+    report_lines::write_report(report, out)
+}
+
 pub fn answer(row: &[u8], words: &mut Words) {
     let start = cases::INPUT;
     let end = cases::input_end(row);
@@ -26,6 +32,6 @@ pub fn answer(row: &[u8], words: &mut Words) {
         return;
     }
     let mut text = io::buffer();
-    let n = monthly::write_batches(&row[from..end], &sizes[..count], &mut text);
+    let n = write_batches(&row[from..end], &sizes[..count], &mut text);
     cases::tell_first(row, end, &text, n, b"", 0, words);
 }

@@ -2,14 +2,14 @@
 use crate::cases;
 use crate::packed::piece_end;
 use crate::words::Words;
-use route_text::Reader;
+use route_read::Reader;
 
 fn read_input(input: &[u8], floats: &mut [f32], lengths: &mut [u32]) -> Reader {
-    let mut reader = route_text::no_text();
+    let mut reader = route_read::no_text();
     let mut from: usize = 0;
     while from < input.len() {
         let end = piece_end(from, input.len());
-        reader = route_text::read_part(&input[from..end], reader, floats, lengths);
+        reader = route_read::read_part(&input[from..end], reader, floats, lengths);
         from = end;
     }
     reader

@@ -2,7 +2,7 @@
 use crate::cases;
 use crate::packed::piece_end;
 use crate::words::Words;
-use salvaging::Walk;
+use salvage_walk::Walk;
 
 struct Texts {
     left: usize,
@@ -23,7 +23,7 @@ fn salvage_piece(
     let mut kept = io::buffer();
     let walk = texts.walk;
     let count = text::put_text(buffer, texts.left, piece);
-    let salvaged = salvaging::salvage_part(buffer, count, walk, &mut kept, &mut more);
+    let salvaged = salvage_walk::salvage_part(buffer, count, walk, &mut kept, &mut more);
     let walk = salvaged.walk;
     Texts {
         left: salvaged.left,
@@ -60,9 +60,9 @@ fn salvage_input(input: &[u8], out: &mut [u8], file: &mut [u8]) -> Texts {
 fn tell_end(texts: Texts, out: &mut [u8]) -> usize {
     let mut last = [0u8; 64];
     let walk = texts.walk;
-    let n = salvaging::tell_last_run(texts.left, walk, &mut last);
+    let n = salvage_walk::tell_last_run(texts.left, walk, &mut last);
     let at = cases::append(out, texts.at, &last, n);
-    let m = salvaging::tell_total(texts.left, walk, &mut last);
+    let m = salvage_walk::tell_total(texts.left, walk, &mut last);
     cases::append(out, at, &last, m)
 }
 

@@ -8,11 +8,11 @@ use crate::words::Words;
 use crate::words::put;
 use crate::words::put_float;
 use crate::words::put_vector;
-use model::BlockAnswer;
+use model::Outcome;
 use model::Status;
 use model::Verdict;
 
-fn status_number(s: Status) -> u32 {
+pub fn status_number(s: Status) -> u32 {
     match s {
         Status::Overlapped => 16,
         Status::Hit => 17,
@@ -22,13 +22,13 @@ fn status_number(s: Status) -> u32 {
 }
 
 // The kind of a row that has this answer.
-pub fn kind(answer: BlockAnswer) -> u32 {
+fn kind(answer: Outcome) -> u32 {
     match answer {
-        BlockAnswer::Worked(_, v) => {
+        Outcome::Found(v) => {
             let status = v.status;
             status_number(status)
         }
-        BlockAnswer::Refused(_, number) => number,
+        Outcome::Refused(number) => number,
     }
 }
 
@@ -49,10 +49,10 @@ pub fn answer(row: &[u8], pool: &[u8], numbers: &[f32], words: &mut Words) {
     let a = outline(numbers, pool, index(row, 0));
     let b = outline(numbers, pool, index(row, 1));
     let request = request(row, numbers);
-    let answer = work::told(0, work::sweep_of(a, b, &request));
+    let answer = sweep_numbers::told(sweep_numbers::sweep_of(a, b, &request));
     put(words, 0, kind(answer));
     match answer {
-        BlockAnswer::Worked(_, v) => put_verdict(words, v),
-        BlockAnswer::Refused(_, _) => {}
+        Outcome::Found(v) => put_verdict(words, v),
+        Outcome::Refused(_) => {}
     }
 }

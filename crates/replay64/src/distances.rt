@@ -1,3 +1,4 @@
+// Written by tests/written/wide.py from replay, in f64.
 // Table 2: distance calls. A row has 20 words: bytes 0 to 3, 8 and 9 are outline A, outline B, pose, cache, radii, and whether the radii are used; word 2 is
 // the caller's number of the pair; the answer from word 3 on is the kind (the number of refusal, or 16 touching, 17 settled, 18 round limit), the
 // rounds, seven floats, and the cache.

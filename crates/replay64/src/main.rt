@@ -13,12 +13,12 @@ use libc::STDIN_FILENO;
 // The table whose parts are pools.
 const POOL: u32 = 0;
 
-// A proved loop has to end, and nothing says that the input does: so the turns are counted, to a number that no run reaches.
+// A proved loop has to end, and nothing says that the input does: so the reads are counted, to a number that no run reaches.
 fn main() {
     let mut pool = io::large_buffer();
     let mut numbers = pool::numbers(&pool);
     let mut counts = tally::nothing();
-    for turn in 0..u64::MAX {
+    for reads in 0..u64::MAX {
         let mut part = io::large_buffer();
         let n = io::read_full(STDIN_FILENO, &mut part);
         if n == 0 {

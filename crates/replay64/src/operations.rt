@@ -1,3 +1,4 @@
+// Written by tests/written/wide.py from replay, in f64.
 // Table 1: the ground operations by their numbers. A row has 16 words: the operation, eight inputs, and up to four answers from word 9 on.
 use crate::long::long;
 use crate::words::Words;

@@ -1,3 +1,4 @@
+// Written by tests/written/wide.py from replay, in f64.
 // The pool that rows refer to by bytes. Its words after a part's first four: where each of 128 outlines starts and how many numbers it has, poses of
 // four, caches of eight, radii of two, moves of ten, fractions, slops, and then the outlines' numbers.
 use crate::long::long;

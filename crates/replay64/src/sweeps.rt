@@ -1,3 +1,4 @@
+// Written by tests/written/wide.py from replay, in f64.
 // Table 3: sweeps. A row has 15 words: bytes 0 to 3 and 8 to 10 are outline A, outline B, move A, move B, radii, max fraction and slop; the answer from word 2
 // on is the kind (the number of refusal, or 16 O, 17 H, 18 S, 19 F), fraction, point, normal, the three counts, and the first and second corner of A
 // and of B.
@@ -9,10 +10,10 @@ use crate::words::put;
 use crate::words::put_float;
 use crate::words::put_vector;
 use model::Status;
-use model64::BlockAnswer;
+use model64::Outcome;
 use model64::Verdict;
 
-fn status_number(s: Status) -> u32 {
+pub fn status_number(s: Status) -> u32 {
     match s {
         Status::Overlapped => 16,
         Status::Hit => 17,
@@ -22,13 +23,13 @@ fn status_number(s: Status) -> u32 {
 }
 
 // The kind of a row that has this answer.
-pub fn kind(answer: BlockAnswer) -> u32 {
+fn kind(answer: Outcome) -> u32 {
     match answer {
-        BlockAnswer::Worked(_, v) => {
+        Outcome::Found(v) => {
             let status = v.status;
             status_number(status)
         }
-        BlockAnswer::Refused(_, number) => number,
+        Outcome::Refused(number) => number,
     }
 }
 
@@ -49,10 +50,10 @@ pub fn answer(row: &[u8], pool: &[u8], numbers: &[f64], words: &mut Words) {
     let a = outline(numbers, pool, index(row, 0));
     let b = outline(numbers, pool, index(row, 1));
     let request = request(row, numbers);
-    let answer = work64::told(0, work64::sweep_of(a, b, &request));
+    let answer = sweep_numbers64::told(sweep_numbers64::sweep_of(a, b, &request));
     put(words, 0, kind(answer));
     match answer {
-        BlockAnswer::Worked(_, v) => put_verdict(words, v),
-        BlockAnswer::Refused(_, _) => {}
+        Outcome::Found(v) => put_verdict(words, v),
+        Outcome::Refused(_) => {}
     }
 }

@@ -1,3 +1,4 @@
+// Written by tests/written/wide.py from replay, in f64.
 // Counts of rows by their table and kind.
 use libc::STDOUT_FILENO;
 ghost use Prim.Native.Nat.{_+_, _≤_};

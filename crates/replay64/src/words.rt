@@ -1,3 +1,4 @@
+// Written by tests/written/wide.py from replay, in f64.
 // An answer as words, and its comparison with the row's.
 use crate::long::long;
 use model64::Vector;

@@ -1,7 +1,7 @@
 // Prints the monthly report over the batches in the files that its arguments name, in their order; without an argument standard input is the one
 // batch. A file that cannot be read is told on standard error under its name, and then nothing is printed. It reads in parts of 64 KiB.
 use libc::STDIN_FILENO;
-use summary::Report;
+use report_counts::Report;
 
 // The report so far, whether there is more to read, and whether a read failed.
 struct Step {
@@ -22,12 +22,12 @@ fn failed(name: &[u8], report: Report) -> Step {
 // Works the next part of an open batch into its report.
 fn next_part(fd: i32, name: &[u8], so_far: Report) -> Step {
     let mut buffer = io::large_buffer();
-    let filled = input::fill(fd, &mut buffer);
+    let filled = streams::fill(fd, &mut buffer);
     if filled.failed {
         return failed(name, so_far);
     }
     let n = filled.count;
-    let added = monthly::add_part(so_far, &buffer[..n]);
+    let added = report_batches::add_part(so_far, &buffer[..n]);
     let report = added.report;
     Step {
         report,
@@ -36,11 +36,11 @@ fn next_part(fd: i32, name: &[u8], so_far: Report) -> Step {
     }
 }
 
-// The report of an open batch. A proved loop has to end, and nothing says that the input does: so the turns are counted, to a number that no run
+// The report of an open batch. A proved loop has to end, and nothing says that the input does: so the reads are counted, to a number that no run
 // reaches.
 fn batch(fd: i32, name: &[u8]) -> Step {
-    let mut so_far = summary::opened();
-    for turn in 0..u64::MAX {
+    let mut so_far = report_counts::opened();
+    for reads in 0..u64::MAX {
         let step = next_part(fd, name, so_far);
         if !step.more {
             return step;
@@ -55,7 +55,7 @@ fn batch(fd: i32, name: &[u8]) -> Step {
 fn file(name: &[u8]) -> Step {
     let fd = os::open_read(name);
     if fd < 0 {
-        return failed(name, summary::empty());
+        return failed(name, report_counts::empty());
     }
     let step = batch(fd, name);
     libc::close(fd);
@@ -67,7 +67,7 @@ fn named(i: usize) -> Step {
     let mut name = io::buffer();
     let n = os::arg(i, &mut name);
     if os::errno() != 0 {
-        return failed(&name, summary::empty());
+        return failed(&name, report_counts::empty());
     }
     file(&name[..n])
 }
@@ -75,18 +75,18 @@ fn named(i: usize) -> Step {
 fn print(report: Report) {
     let mut text = io::buffer();
     let n = report_lines::write_report(report, &mut text);
-    input::write_to_output(&text, n);
+    streams::write_to_output(&text, n);
 }
 
 fn print_files(count: usize) {
-    let mut whole = summary::empty();
+    let mut whole = report_counts::empty();
     for i in 1..count {
         let step = named(i);
         if step.failed {
             return;
         }
         let one = step.report;
-        whole = summary::merge(whole, one);
+        whole = report_counts::merge(whole, one);
     }
     print(whole);
 }
@@ -102,5 +102,5 @@ fn main() {
         return;
     }
     let one = step.report;
-    print(summary::merge(summary::empty(), one));
+    print(report_counts::merge(report_counts::empty(), one));
 }

@@ -11,8 +11,8 @@ use lib.ListN.{length, getD, take, length-append}
 use lib.Seq.{take-all}
 use Rattle.text.specs.Put.{Put, whereRoom, number}
 use Rattle.text.proofs.Lengths.{length-number, roomy}
-use Rattle.summary.specs.declared.most.Most.{Most}
-use Rattle.summary.specs.declared.most.Most.the-variants.{Nowhere, At}
+use Rattle.report_counts.specs.declared.most.Most.{Most}
+use Rattle.report_counts.specs.declared.most.Most.the-variants.{Nowhere, At}
 use Rattle.report_lines.specs.Text.{labels, rowText, rowsText, placeText, mostText, namedText}
 
 -- ---- names

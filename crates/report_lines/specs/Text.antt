@@ -2,10 +2,10 @@
 use Prim.Native.Nat.{ℕ}
 use mathlib.Core.List.{List, [], _∷_, _++_}
 use Rattle.text.specs.Put.{whereRoom, number}
-use Rattle.summary.specs.declared.most.Most.{Most}
-use Rattle.summary.specs.declared.most.Most.the-variants.{Nowhere, At}
-use Rattle.summary.specs.declared.most.Largest.{Largest}
-use Rattle.summary.specs.declared.counting.Report.{Report}
+use Rattle.report_counts.specs.declared.most.Most.{Most}
+use Rattle.report_counts.specs.declared.most.Most.the-variants.{Nowhere, At}
+use Rattle.report_counts.specs.declared.most.Largest.{Largest}
+use Rattle.report_counts.specs.declared.counting.Report.{Report}
 
 -- ---- the names, each with the blank after it
 unfoldable pub labels : List (List ℕ)

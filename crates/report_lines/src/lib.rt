@@ -1,7 +1,7 @@
 // A report as text, in lent bytes.
-use summary::Largest;
-use summary::Most;
-use summary::Report;
+use report_counts::Largest;
+use report_counts::Most;
+use report_counts::Report;
 ghost use Prim.Native.Nat.{_+_, _<_, _≤_};
 ghost use mathlib.Core.List.{[]};
 ghost use lib.ListN.{length, getD};

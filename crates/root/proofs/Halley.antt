@@ -3,7 +3,8 @@
 -- From the first, (g + t) (g + t) is at most n; from the second, the root is less than half a unit past g + t + 1. Assumes nothing.
 use mathlib.Core.Path.{_≡_, refl, sym, ap, _∙_, subst}
 use Prim.Native.Nat.{ℕ, zero, suc, _+_, _-_, _*_, _/_, _%_, _≤_, _<_}
-use native.Mathlib.Nat.{mul-add, add-mul, mul-comm, mul-assoc, mul-left-comm, mul-one, two-mul, add-assoc, add-comm, add-left-comm, mul-le-mul, mul-le-mul-left, mul-le-mul-right, le-trans, div-mul-le-self, div-lt-iff-lt-mul, lt-suc-self, lt-of-lt-of-le, add-sub-of-le}
+use native.Mathlib.Nat.{mul-add, add-mul, mul-comm, mul-assoc, mul-left-comm, mul-one, two-mul, add-assoc, add-comm, add-left-comm, mul-le-mul}
+use native.Mathlib.Nat.{mul-le-mul-left, mul-le-mul-right, le-trans, div-mul-le-self, div-lt-iff-lt-mul, lt-suc-self, lt-of-lt-of-le, add-sub-of-le}
 use native.Mathlib.Numerals.{add-one}
 use native.Mathlib.Decide.{decLe}
 use native.Mathlib.Omega.{arith}

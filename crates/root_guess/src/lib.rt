@@ -1,4 +1,4 @@
-// Made by tests/root_list.py of the table in root_list: its entries as the arms of a `match`, of which the back end makes a read-only table.
+// Made by tests/written/root_list.py of the table in root_list: its entries as the arms of a `match`, of which the back end makes a read-only table.
 ghost use mathlib.Core.Path.{_≡_};
 ghost use Prim.Native.Nat.{_≤_, _<_};
 ghost use lib.ListN.{getD};

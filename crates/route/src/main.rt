@@ -1,8 +1,6 @@
 // Reads a route as text from standard input and prints its answer, one line. A read that fails is told on standard error, and then nothing is printed.
-use route_text::Reader;
-
-// A shorter part is the last one.
-const PART_SIZE: usize = 65536;
+use model::PART_SIZE;
+use route_read::Reader;
 
 // Numbers and lengths that can matter: a slop, 129 of the cart, four for each of 33 waypoints, 129 for each of 32 outlines; one outline more.
 const NUMBERS: usize = 4390;
@@ -18,12 +16,12 @@ struct Step {
 fn tell(reader: Reader, floats: &[f32], lengths: &[u32]) {
     let mut text = [0u8; 128];
     let n = route_text::write_answer(reader, floats, lengths, &mut text);
-    input::write_to_output(&text, n);
+    streams::write_to_output(&text, n);
 }
 
 fn next_part(reader: Reader, floats: &mut [f32], lengths: &mut [u32]) -> Step {
     let mut buffer = io::large_buffer();
-    let filled = input::fill_from_input(&mut buffer);
+    let filled = streams::fill_from_input(&mut buffer);
     if filled.failed {
         return Step {
             more: false,
@@ -31,7 +29,7 @@ fn next_part(reader: Reader, floats: &mut [f32], lengths: &mut [u32]) -> Step {
         };
     }
     let n = filled.count;
-    let after = route_text::read_part(&buffer[..n], reader, floats, lengths);
+    let after = route_read::read_part(&buffer[..n], reader, floats, lengths);
     if n < PART_SIZE {
         tell(after, floats, lengths);
     }
@@ -41,15 +39,15 @@ fn next_part(reader: Reader, floats: &mut [f32], lengths: &mut [u32]) -> Step {
     }
 }
 
-// A proved loop has to end, and nothing says that the input does: so the turns are counted, to a number that no run reaches.
+// A proved loop has to end, and nothing says that the input does: so the reads are counted, to a number that no run reaches.
 fn main() {
-    if !input::no_argument(b"route") {
+    if !streams::no_argument(b"route") {
         return;
     }
     let mut floats = [0.0f32; NUMBERS];
     let mut lengths = [0u32; LENGTHS];
-    let mut reader = route_text::no_text();
-    for turn in 0..u64::MAX {
+    let mut reader = route_read::no_text();
+    for reads in 0..u64::MAX {
         let step = next_part(reader, &mut floats, &mut lengths);
         let after = step.reader;
         reader = after;

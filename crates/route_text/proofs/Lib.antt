@@ -1,4 +1,2 @@
-pub mod Runs
 pub mod Lines
-pub mod Shown
-pub mod Written
+pub mod Run

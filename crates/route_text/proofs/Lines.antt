@@ -15,14 +15,16 @@ use Rattle.model.specs.Sheet.{letterOf}
 use Rattle.model.specs.Text.{line}
 use Rattle.text.specs.Put.{Put, number}
 use Rattle.text.proofs.Lengths.{length-number}
-use Rattle.lines.specs.Pieces.{floats}
-use Rattle.legs.specs.declared.Stop.{Stop}
-use Rattle.legs.specs.declared.RouteAnswer.{RouteAnswer}
-use Rattle.legs.specs.Route.{route}
-use Rattle.route_text.specs.declared.read.Kept.{Kept}
-use Rattle.route_text.specs.declared.read.Reader.{Reader}
-use Rattle.route_text.specs.Read.{nextLine}
-use Rattle.route_text.specs.Answer.{least, cut, wholeEnd, routeOf, isRoute, two, clearLine, endedLine, refusedLine, wrongLine, noRouteLine, answerLine, longestLine, textFor}
+use Rattle.fields.specs.Floats.{floats}
+use Rattle.route_legs.specs.declared.Stop.{Stop}
+use Rattle.route_legs.specs.declared.RouteAnswer.{RouteAnswer}
+use Rattle.route_legs.specs.Route.{route}
+use Rattle.route_read.specs.declared.Kept.{Kept}
+use Rattle.route_read.specs.declared.Reader.{Reader}
+use Rattle.route_line.specs.Line.{isRoute}
+use Rattle.route_read.specs.Read.{nextLine}
+use Rattle.route_text.specs.Answer.{least, cut, wholeEnd, routeOf, two, clearLine, endedLine, refusedLine, wrongLine, noRouteLine, answerLine}
+use Rattle.route_text.specs.Answer.{longestLine, textFor}
 
 pub two-is : (a b end : ℕ) → two a b end ≡ number a 32 ++ number b end
 unfolding two

@@ -11,17 +11,14 @@ use Rattle.model.specs.Support.{point}
 use Rattle.model.specs.Sheet.{letterOf}
 use Rattle.model.specs.Text.{decimal, hexFloat, line}
 use Rattle.text.specs.Put.{number, whereRoom}
-use Rattle.legs.specs.declared.Stop.{Stop}
-use Rattle.legs.specs.declared.RouteAnswer.{RouteAnswer}
-use Rattle.legs.specs.declared.RouteAnswer.the-variants.{Clear, Ended, Refused, Wrong}
-use Rattle.legs.specs.Route.{route}
-use Rattle.route_text.specs.declared.line.Kind.{Kind}
-use Rattle.route_text.specs.declared.line.Kind.the-variants.{Nothing, Slop, Cart, At, Still}
-use Rattle.route_text.specs.declared.line.Line.{Line}
-use Rattle.route_text.specs.declared.read.Kept.{Kept}
-use Rattle.route_text.specs.declared.read.Reader.{Reader}
-use Rattle.route_text.specs.Line.{between}
-use Rattle.route_text.specs.Read.{Run, run, noText, nextLine, runOver}
+use Rattle.route_legs.specs.declared.Stop.{Stop}
+use Rattle.route_legs.specs.declared.RouteAnswer.{RouteAnswer}
+use Rattle.route_legs.specs.declared.RouteAnswer.the-variants.{Clear, Ended, Refused, Wrong}
+use Rattle.route_legs.specs.Route.{route}
+use Rattle.route_read.specs.declared.Kept.{Kept}
+use Rattle.route_read.specs.declared.Reader.{Reader}
+use Rattle.route_line.specs.Line.{isRoute}
+use Rattle.route_read.specs.Read.{Run, run, noText, nextLine, runOver, textBy}
 
 -- ---- the route
 abbrev pub least : ℕ → ℕ → ℕ
@@ -43,17 +40,6 @@ routeOf k floats lengths =
     let cart = least (k .«cart_end») ways in
     route binary32 (cut floats (least 1 cart) cart) (cut floats cart (wholeEnd cart ways)) (cut floats ways used)
     (take (least (k .outlines) (length lengths)) lengths) (point floats 0 .x)
-
-abbrev pub hasCart : Kind → Bool
-hasCart Nothing = false
-hasCart Slop = false
-hasCart Cart = true
-hasCart At = true
-hasCart Still = true
-
--- whether a text may end here: with a whole line, and not before the cart's
-abbrev pub isRoute : Line → Bool
-isRoute l = eqb (l .place) between && hasCart (l .kind)
 
 -- ---- its line
 unfoldable pub clearLine : ℕ → List ℕ
@@ -106,6 +92,10 @@ abbrev pub answerText : List Float → List ℕ → List ℕ → List ℕ
 answerText floats lengths text =
     let s = runOver (run noText floats lengths) text in
     answerOf (s .reader) (s .floats) (s .lengths)
+
+-- the same by parts of such a length, with so much room for the answer
+abbrev pub answerBy : ℕ → ℕ → List Float → List ℕ → List (List ℕ) → List ℕ
+answerBy size room floats lengths = textBy size (λ s. textFor (s .reader) (s .floats) (s .lengths) room) (run noText floats lengths)
 
 -- ---- pieces
 unfoldable pub two : ℕ → ℕ → ℕ → List ℕ

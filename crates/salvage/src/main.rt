@@ -1,6 +1,6 @@
 // Copies the blocks of a damaged batch on standard input to the file that its argument names, and prints where bytes were skipped. The file is
 // replaced only by a run that succeeded. It reads in parts of at most 64 KiB, each behind what the one before it left.
-use salvaging::Walk;
+use salvage_walk::Walk;
 
 // Whether the run goes on, whether something failed, how many bytes stand at the start of the buffer, and the walk so far.
 struct Turn {
@@ -24,15 +24,15 @@ fn write_part(name: &[u8], fd: i32, buffer: &mut [u8], count: usize, walk: Walk)
     let mut file = io::large_buffer();
     let mut text = io::large_buffer();
     let more = count == buffer.len();
-    let salvaged = salvaging::salvage_part(buffer, count, walk, &mut file, &mut text);
+    let salvaged = salvage_walk::salvage_part(buffer, count, walk, &mut file, &mut text);
     let walk = salvaged.walk;
     if !salvaged.done {
         return failed(walk);
     }
-    if !input::write_to(fd, name, &file, salvaged.file) {
+    if !streams::write_to(fd, name, &file, salvaged.file) {
         return failed(walk);
     }
-    if !input::write_to_output(&text, salvaged.text) {
+    if !streams::write_to_output(&text, salvaged.text) {
         return failed(walk);
     }
     Turn {
@@ -47,14 +47,14 @@ fn next_part(name: &[u8], fd: i32, buffer: &mut [u8], left: usize, walk: Walk) -
     if left > buffer.len() {
         return failed(walk);
     }
-    let filled = input::fill_from_input(&mut buffer[left..]);
+    let filled = streams::fill_from_input(&mut buffer[left..]);
     if filled.failed {
         return failed(walk);
     }
     write_part(name, fd, buffer, left + filled.count, walk)
 }
 
-// The turn that the run ends with. A proved loop has to end, and nothing says that the input does: so the turns are counted, to a number that no run
+// The turn that the run ends with. A proved loop has to end, and nothing says that the input does: so the reads are counted, to a number that no run
 // reaches.
 fn walk_all(name: &[u8], fd: i32) -> Turn {
     let mut buffer = io::large_buffer();
@@ -64,7 +64,7 @@ fn walk_all(name: &[u8], fd: i32) -> Turn {
         skipped: 0,
         run: 0,
     };
-    for turn in 0..u64::MAX {
+    for reads in 0..u64::MAX {
         let turned = next_part(name, fd, &mut buffer, left, walk);
         if !turned.more {
             return turned;
@@ -77,14 +77,14 @@ fn walk_all(name: &[u8], fd: i32) -> Turn {
 
 fn tell_last_run(left: usize, walk: Walk) -> bool {
     let mut text = io::buffer();
-    let n = salvaging::tell_last_run(left, walk, &mut text);
-    input::write_to_output(&text, n)
+    let n = salvage_walk::tell_last_run(left, walk, &mut text);
+    streams::write_to_output(&text, n)
 }
 
 fn tell_total(left: usize, walk: Walk) -> bool {
     let mut text = io::buffer();
-    let n = salvaging::tell_total(left, walk, &mut text);
-    input::write_to_output(&text, n)
+    let n = salvage_walk::tell_total(left, walk, &mut text);
+    streams::write_to_output(&text, n)
 }
 
 // Collects what is to be written and tells the runs. The totals come when all is written, and then the file takes its place.
@@ -105,14 +105,14 @@ fn replace(name: &[u8], beside: &mut [u8]) {
         return;
     }
     if tell_total(turned.left, walk) {
-        outfile::put_in_place(name, beside);
+        outfile::put_in_place(name, beside, fd);
     } else {
         outfile::abandon(beside);
     }
 }
 
 fn run(name: &[u8]) {
-    if !input::streams_open() {
+    if !streams::streams_open() {
         return;
     }
     if !outfile::may_be_replaced(name) {

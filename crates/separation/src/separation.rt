@@ -10,6 +10,7 @@ use ground::sub;
 use ground::transform_point;
 use model::Corners;
 use model::MinSeparation;
+use model::NO_CORNER;
 use model::Pose;
 use model::Search;
 use model::SeparationFunction;
@@ -25,9 +26,6 @@ ghost use lib.Ieee.{binary32};
 ghost use Rattle.model.specs.Separation as Separation;
 ghost use Rattle.model.specs.Corners.{noCorner, cornersA, cornersB};
 ghost use Rattle.separation.specs.ByPoses as ByPoses;
-
-// The index that a face has no corner for.
-const INVALID_INDEX: u32 = 4294967295;
 
 // The unit vector across the edge from u to w.
 fn across(u: Vector, w: Vector) -> Vector
@@ -65,7 +63,8 @@ fn of_points(
     index_a: u32,
     index_b: u32,
 ) -> SeparationFunction
-    ensures { λ r. ⌜ r ≡ Separation.ofPoints binary32 «sweep_a» «sweep_b» (now («points_a» .entry)) (now («points_b» .entry)) «xf_a» «xf_b» «index_a» «index_b» ⌝ }
+    ensures { λ r. ⌜ r ≡ Separation.ofPoints binary32 «sweep_a» «sweep_b» (now («points_a» .entry)) (now («points_b» .entry)) «xf_a» «xf_b» «index_a»
+        «index_b» ⌝ }
 {
     let point_a = transform_point(xf_a, point(points_a, index_a));
     let point_b = transform_point(xf_b, point(points_b, index_b));
@@ -92,7 +91,8 @@ fn of_face_a(
     index_a2: u32,
     index_b: u32,
 ) -> SeparationFunction
-    ensures { λ r. ⌜ r ≡ Separation.ofFaceA binary32 «sweep_a» «sweep_b» (now («points_a» .entry)) (now («points_b» .entry)) «xf_a» «xf_b» «index_a1» «index_a2» «index_b» ⌝ }
+    ensures { λ r. ⌜ r ≡ Separation.ofFaceA binary32 «sweep_a» «sweep_b» (now («points_a» .entry)) (now («points_b» .entry)) «xf_a» «xf_b» «index_a1»
+        «index_a2» «index_b» ⌝ }
 {
     let local_point1 = point(points_a, index_a1);
     let local_point2 = point(points_a, index_a2);
@@ -125,7 +125,8 @@ fn of_face_b(
     index_b1: u32,
     index_b2: u32,
 ) -> SeparationFunction
-    ensures { λ r. ⌜ r ≡ Separation.ofFaceB binary32 «sweep_a» «sweep_b» (now («points_a» .entry)) (now («points_b» .entry)) «xf_a» «xf_b» «index_a» «index_b1» «index_b2» ⌝ }
+    ensures { λ r. ⌜ r ≡ Separation.ofFaceB binary32 «sweep_a» «sweep_b» (now («points_a» .entry)) (now («points_b» .entry)) «xf_a» «xf_b» «index_a»
+        «index_b1» «index_b2» ⌝ }
 {
     let local_point1 = point(points_b, index_b1);
     let local_point2 = point(points_b, index_b2);
@@ -243,8 +244,8 @@ fn no_corner() -> SupportPair
     ensures { λ r. ⌜ r ≡ noCorner ⌝ }
 {
     SupportPair {
-        first: INVALID_INDEX,
-        second: INVALID_INDEX,
+        first: NO_CORNER,
+        second: NO_CORNER,
     }
 }
 

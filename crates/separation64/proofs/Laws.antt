@@ -1,3 +1,4 @@
+-- Written by tests/written/wide.py from separation, in f64.
 -- The separation by poses and points is the one of `model`, where the poses are those of the moves at a time and the points those of the corners.
 -- Assumes nothing.
 use Prim.Native.Nat.{ℕ}

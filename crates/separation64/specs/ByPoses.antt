@@ -1,3 +1,4 @@
+-- Written by tests/written/wide.py from separation, in f64.
 -- The separation function and the separation by poses that are worked out already, and between two points that are fetched already: what
 -- `model` says of a time, cut where a sweep does the same work again and again.
 use Prim.Native.Nat.{ℕ}

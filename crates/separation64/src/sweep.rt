@@ -1,3 +1,4 @@
+// Written by tests/written/wide.py from separation, in f64.
 // Moves: the pose at a time, and the move seen from another origin.
 use ground64::lerp;
 use ground64::nlerp;

@@ -18,7 +18,8 @@ use Rattle.model.specs.Support.{point}
 use Rattle.model.proofs.Domain.{test-passed}
 use Rattle.shapes.specs.declared.Built.{Built}
 use Rattle.shapes.specs.declared.Built.the-variants.{Corners, Refused}
-use Rattle.shapes.specs.Shapes.{plateCorner, plateCorners, barCorners, placed, flat, plateRefusal, barRefusal, told, left, plateTold, plateLeft, placedPlateTold, placedPlateLeft, barTold, barLeft, placedBarTold, placedBarLeft}
+use Rattle.shapes.specs.Shapes.{plateCorner, plateCorners, barCorners, placed, flat, plateRefusal, barRefusal, told, left, plateTold, plateLeft}
+use Rattle.shapes.specs.Shapes.{placedPlateTold, placedPlateLeft, barTold, barLeft, placedBarTold, placedBarLeft}
 use Rattle.shapes.proofs.Endings.{flat-length}
 
 -- ---- what an answer says of the list

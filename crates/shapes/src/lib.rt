@@ -58,7 +58,8 @@ fn build_four(
     p3: Vector,
     out: &mut [f32],
 ) -> Built
-    ensures { λ r. ⌜ (r ≡ Shapes.told refused (p0 ∷ p1 ∷ p2 ∷ p3 ∷ []) (now (out .entry))) × (now (out .exit) ≡ Shapes.left refused (p0 ∷ p1 ∷ p2 ∷ p3 ∷ []) (now (out .entry))) ⌝ }
+    ensures { λ r. ⌜ (r ≡ Shapes.told refused (p0 ∷ p1 ∷ p2 ∷ p3 ∷ []) (now (out .entry)))
+        × (now (out .exit) ≡ Shapes.left refused (p0 ∷ p1 ∷ p2 ∷ p3 ∷ []) (now (out .entry))) ⌝ }
 {
     if refused != 0 {
         return Built::Refused(refused);
@@ -96,7 +97,8 @@ fn build_two(refusal: u32, p0: Vector, p1: Vector, out: &mut [f32]) -> Built
 
 // A plate about the origin. Corner k has the half sizes, x negated where bit 0 of k is set and y where bit 1 is.
 pub fn plate(half_x: f32, half_y: f32, out: &mut [f32]) -> Built
-    ensures { λ r. ⌜ (r ≡ Shapes.plateTold binary32 «half_x» «half_y» (now (out .entry))) × (now (out .exit) ≡ Shapes.plateLeft binary32 «half_x» «half_y» (now (out .entry))) ⌝ }
+    ensures { λ r. ⌜ (r ≡ Shapes.plateTold binary32 «half_x» «half_y» (now (out .entry)))
+        × (now (out .exit) ≡ Shapes.plateLeft binary32 «half_x» «half_y» (now (out .entry))) ⌝ }
 {
     let refused = plate_refusal(half_x, half_y);
     let p0 = Vector {
@@ -128,7 +130,8 @@ pub fn bar(a: Vector, b: Vector, out: &mut [f32]) -> Built
 
 // The plate, each corner moved by the pose.
 pub fn placed_plate(half_x: f32, half_y: f32, pose: Pose, out: &mut [f32]) -> Built
-    ensures { λ r. ⌜ (r ≡ Shapes.placedPlateTold binary32 «half_x» «half_y» pose (now (out .entry))) × (now (out .exit) ≡ Shapes.placedPlateLeft binary32 «half_x» «half_y» pose (now (out .entry))) ⌝ }
+    ensures { λ r. ⌜ (r ≡ Shapes.placedPlateTold binary32 «half_x» «half_y» pose (now (out .entry)))
+        × (now (out .exit) ≡ Shapes.placedPlateLeft binary32 «half_x» «half_y» pose (now (out .entry))) ⌝ }
 {
     let refused = placed_refusal(plate_refusal(half_x, half_y), pose);
     let q0 = transform_point(
@@ -164,7 +167,8 @@ pub fn placed_plate(half_x: f32, half_y: f32, pose: Pose, out: &mut [f32]) -> Bu
 
 // The bar, both ends moved by the pose.
 pub fn placed_bar(a: Vector, b: Vector, pose: Pose, out: &mut [f32]) -> Built
-    ensures { λ r. ⌜ (r ≡ Shapes.placedBarTold binary32 a b pose (now (out .entry))) × (now (out .exit) ≡ Shapes.placedBarLeft binary32 a b pose (now (out .entry))) ⌝ }
+    ensures { λ r. ⌜ (r ≡ Shapes.placedBarTold binary32 a b pose (now (out .entry)))
+        × (now (out .exit) ≡ Shapes.placedBarLeft binary32 a b pose (now (out .entry))) ⌝ }
 {
     let refused = placed_refusal(bar_refusal(a, b), pose);
     let q0 = transform_point(pose, a);

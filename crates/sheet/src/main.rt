@@ -1,4 +1,4 @@
 // Prints the sheet of the batch on standard input.
 fn main() {
-    batch::run();
+    sheet_run::run();
 }

@@ -1,4 +1,4 @@
 // Prints the sheet of the batch on standard input, worked in f64.
 fn main() {
-    batch64::run();
+    sheet_run64::run();
 }

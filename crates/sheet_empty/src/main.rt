@@ -1,4 +1,4 @@
 // The sheet of no input.
 fn main() {
-    batch::run();
+    sheet_run::run();
 }

@@ -1,4 +1,4 @@
 // The sheet of the rules' whole example.
 fn main() {
-    batch::run();
+    sheet_run::run();
 }

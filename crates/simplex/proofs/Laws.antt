@@ -8,7 +8,8 @@ use Rattle.model.specs.declared.Vector.{Vector}
 use Rattle.model.specs.declared.SimplexVertex.{SimplexVertex}
 use Rattle.model.specs.Ground.{one, negate, origin}
 use Rattle.model.specs.Ground as Ground
-use Rattle.model.specs.Simplex.{slot, weigh, moved, solved, Region, at1, at2, at3, on12, on13, on23, inside, near, far, opposite, offEdge, region2, region3, kept}
+use Rattle.model.specs.Simplex.{slot, weigh, moved, solved, Region, at1, at2, at3, on12, on13, on23, inside, near, far, opposite, offEdge, region2, region3}
+use Rattle.model.specs.Simplex.{kept}
 
 -- ---- two vertices
 module _ (f : Format) (w1 w2 : Vector) (x y : Float) (ex : x ≡ near f w1 w2) (ey : y ≡ far f w1 w2) where

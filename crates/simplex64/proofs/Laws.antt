@@ -1,3 +1,4 @@
+-- Written by tests/written/wide.py from simplex, in f64.
 -- The solvers' endings, one law each: which region the tests on the numbers tell, and what the stores of that region keep. Assumes nothing.
 use Prim.Native.Nat.{ℕ}
 use mathlib.Core.Bool.{Bool, true, false, _&&_, cond}
@@ -9,7 +10,8 @@ use Rattle.model64.specs.declared.SimplexVertex.{SimplexVertex}
 use Rattle.model64.specs.Ground.{one, negate, origin}
 use Rattle.model64.specs.Ground as Ground
 use Rattle.model.specs.Simplex.{Region, at1, at2, at3, on12, on13, on23, inside}
-use Rattle.model64.specs.Simplex.{slot, weigh, moved, solved, near, far, opposite, offEdge, region2, region3, kept}
+use Rattle.model64.specs.Simplex.{slot, weigh, moved, solved, near, far, opposite, offEdge, region2, region3}
+use Rattle.model64.specs.Simplex.{kept}
 
 -- ---- two vertices
 module _ (f : Format) (w1 w2 : Vector) (x y : Float) (ex : x ≡ near f w1 w2) (ey : y ≡ far f w1 w2) where

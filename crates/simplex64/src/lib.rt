@@ -1,4 +1,4 @@
-// Written by tests/wide.py from simplex, in f64.
+// Written by tests/written/wide.py from simplex, in f64.
 // The solvers: which vertices of a simplex are nearest to the origin, with which weights, and where to search next.
 mod solvers;
 mod witness;

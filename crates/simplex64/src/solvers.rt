@@ -1,3 +1,4 @@
+// Written by tests/written/wide.py from simplex, in f64.
 // The two- and three-vertex solvers. The regions are tried in the order of model/specs/Simplex.antt, whose drawing names them.
 use ground64::add;
 use ground64::dot;

@@ -1,3 +1,4 @@
+// Written by tests/written/wide.py from simplex, in f64.
 // The two points that a simplex names by its weights.
 use ground64::add;
 use ground64::scale;

@@ -12,8 +12,8 @@ use Rattle.integers.specs.Polynomial.{var, lit, _:+_, _:-_, _:*_}
 use Rattle.integers.proofs.Signed.{⊠-nonneg, ⊠-square, ⊠-cong, ⊠-zero, ⊠-comm}
 use Rattle.integers.proofs.Ring.{ring}
 use Rattle.integers.proofs.Sized.{within-product}
-use Rattle.exact.specs.Plane.{Point, sum, difference, scaled, dot}
-use Rattle.exact.proofs.Weights.{⊠-mono}
+use Rattle.plane.specs.Plane.{Point, sum, difference, scaled, dot}
+use Rattle.plane.proofs.Weights.{⊠-mono}
 use Rattle.whole_move.specs.Blend.{twice, thrice, line}
 use Rattle.whole_move.specs.Piece.{Controls, Body, turnedBy, control, LongAtLeast, LongAtMost, Near, Shown, Disc, ShownAs}
 use Rattle.whole_move.proofs.Forms.{enlarged}
@@ -39,7 +39,8 @@ use Rattle.standing.proofs.Numbers as numbers
 -- ---- turns made larger
 module _ (k : Int) (p q : Point) where
   dot-enlarged : dot (scaled k p) (scaled k q) ≃ k ⊠ k ⊠ dot p q
-  dot-enlarged = ring (var 0 :* var 1 :* (var 0 :* var 3) :+ var 0 :* var 2 :* (var 0 :* var 4)) (var 0 :* var 0 :* (var 1 :* var 3 :+ var 2 :* var 4)) (k ∷ p .x ∷ p .y ∷ q .x ∷ q .y ∷ []) tt
+  dot-enlarged = ring (var 0 :* var 1 :* (var 0 :* var 3) :+ var 0 :* var 2 :* (var 0 :* var 4)) (var 0 :* var 0 :* (var 1 :* var 3 :+ var 2 :* var 4)) (k
+      ∷ p .x ∷ p .y ∷ q .x ∷ q .y ∷ []) tt
 
 three-of : (k m : Int) → k ⊠ thrice m ≃ thrice (k ⊠ m)
 three-of k m = ring (var 0 :* (var 1 :+ var 1 :+ var 1)) (var 0 :* var 1 :+ var 0 :* var 1 :+ var 0 :* var 1) (k ∷ m ∷ []) tt
@@ -142,10 +143,26 @@ zero-cut s t x y P hs ht cut = omega (
 
 -- a part of a corner's control point, of a turn that is 0
 minus-gone : (e : ℕ) (c b d z z' p q : Int) → z ≃ 0Int → z' ≃ 0Int → Within e (p ⊟ q) → Within e (p ⊟ (q ⊞ (c ⊠ z ⊠ b ⊟ c ⊠ z' ⊠ d)))
-minus-gone e c b d z z' p q h h' n = record { upper = omega (arith, n .upper, gone c z b h, gone c z' d h'); lower = omega (arith, n .lower, gone c z b h, gone c z' d h') }
+minus-gone e c b d z z' p q h h' n = record {
+  upper = omega (arith, n .upper, gone c z b h, gone c z' d h');
+  lower = omega (
+    arith,
+    n .lower,
+    gone c z b h,
+    gone c z' d h',
+  );
+}
 
 plus-gone : (e : ℕ) (c b d z z' p q : Int) → z ≃ 0Int → z' ≃ 0Int → Within e (p ⊟ q) → Within e (p ⊟ (q ⊞ (c ⊠ z ⊠ b ⊞ c ⊠ z' ⊠ d)))
-plus-gone e c b d z z' p q h h' n = record { upper = omega (arith, n .upper, gone c z b h, gone c z' d h'); lower = omega (arith, n .lower, gone c z b h, gone c z' d h') }
+plus-gone e c b d z z' p q h h' n = record {
+  upper = omega (arith, n .upper, gone c z b h, gone c z' d h');
+  lower = omega (
+    arith,
+    n .lower,
+    gone c z b h,
+    gone c z' d h',
+  );
+}
 
 module _ (U G : ℕ) (some : 0 < U) (k0 k1 : ℕ) (start : k0 ≤ 16777216) (end : k1 ≤ 16777216) (body : GridBody) (xs ys : List ℕ) (o : Mover)
     (stands : StandsForBody U G body xs ys o) (inside : Inside (body .reach) xs ys (length xs)) where
@@ -169,15 +186,19 @@ module _ (U G : ℕ) (some : 0 < U) (k0 k1 : ℕ) (start : k0 ≤ 16777216) (end
 
   -- ---- headings and turns
   heading-x : (k : ℕ) → k ≤ 16777216 → (L : Vector) → MidVector k (body .q1) (body .q2) L
-      → Within (33554432 * U) (ofNat 1073741824 ⊠ line (ofNat (16777216 - k)) (ofNat k) (o .heading1 .x) (o .heading2 .x) ⊟ ofNat 16777216 ⊠ (ofNat U ⊠ intOf (L .x)))
+      → Within (33554432 * U) (ofNat 1073741824 ⊠ line (ofNat (16777216 - k)) (ofNat k) (o .heading1 .x) (o .heading2 .x) ⊟ ofNat 16777216 ⊠ (ofNat U ⊠
+      intOf (L .x)))
   heading-x k h L mid =
-      let n = mid-near U (ofNat 1073741824) U k h (o .heading1 .x) (o .heading2 .x) (body .q1 .x) (body .q2 .x) (L .x) (stands .heading1 .x) (stands .heading2 .x) (mid .x) in
+      let n = mid-near U (ofNat 1073741824) U k h (o .heading1 .x) (o .heading2 .x) (body .q1 .x) (body .q2 .x) (L .x) (stands .heading1 .x)
+      (stands .heading2 .x) (mid .x) in
       record { upper = omega (arith, n .upper); lower = omega (arith, n .lower) }
 
   heading-y : (k : ℕ) → k ≤ 16777216 → (L : Vector) → MidVector k (body .q1) (body .q2) L
-      → Within (33554432 * U) (ofNat 1073741824 ⊠ line (ofNat (16777216 - k)) (ofNat k) (o .heading1 .y) (o .heading2 .y) ⊟ ofNat 16777216 ⊠ (ofNat U ⊠ intOf (L .y)))
+      → Within (33554432 * U) (ofNat 1073741824 ⊠ line (ofNat (16777216 - k)) (ofNat k) (o .heading1 .y) (o .heading2 .y) ⊟ ofNat 16777216 ⊠ (ofNat U ⊠
+      intOf (L .y)))
   heading-y k h L mid =
-      let n = mid-near U (ofNat 1073741824) U k h (o .heading1 .y) (o .heading2 .y) (body .q1 .y) (body .q2 .y) (L .y) (stands .heading1 .y) (stands .heading2 .y) (mid .y) in
+      let n = mid-near U (ofNat 1073741824) U k h (o .heading1 .y) (o .heading2 .y) (body .q1 .y) (body .q2 .y) (L .y) (stands .heading1 .y)
+      (stands .heading2 .y) (mid .y) in
       record { upper = omega (arith, n .upper); lower = omega (arith, n .lower) }
 
   module _ (l0 l1 r : ℕ) (a : Arc) (is : ArcAt body l0 l1 k0 k1 a) (blur : Blurred l0 l1 r) where
@@ -236,7 +257,15 @@ module _ (U G : ℕ) (some : 0 < U) (k0 k1 : ℕ) (start : k0 ≤ 16777216) (end
       turn-roomy =
           let e = enlarged c (turnOf a) in
           let s = turn-small in
-          record { x0 = roomy (e .p0 .x) (s .x0); y0 = roomy (e .p0 .y) (s .y0); x1 = roomy (e .p1 .x) (s .x1); y1 = roomy (e .p1 .y) (s .y1); x2 = roomy (e .p2 .x) (s .x2); y2 = roomy (e .p2 .y) (s .y2) }
+          record {
+            x0 = roomy (e .p0 .x) (s .x0);
+            y0 = roomy (e .p0 .y) (s .y0);
+            x1 = roomy (e .p1 .x) (s .x1);
+            y1 = roomy (e .p1 .y) (s .y1);
+            x2 = roomy
+                (e .p2 .x) (s .x2);
+            y2 = roomy (e .p2 .y) (s .y2);
+          }
 
       planned-roomy : Small most (planned l0 l1 .turn)
       planned-roomy =
@@ -263,11 +292,13 @@ module _ (U G : ℕ) (some : 0 < U) (k0 k1 : ℕ) (start : k0 ≤ 16777216) (end
 
         long : LongAtLeast (FF ⊟ ofNat off) (planned l0 l1 .turn)
         long = long-rounded (turnBlur U r) most (planned l0 l1 .turn) (enlarged c (turnOf a)) turn-near planned-roomy turn-roomy (FF ⊟ ofNat off)
-            (long-enlarged c (ofNat 2147483648 ⊠ ofNat 2147483648 ⊟ ofNat (4294967296 * y)) (FF ⊟ ofNat off ⊞ ofNat (4 * (turnBlur U r * most))) (turnOf a) (numbers.long-law U some y r) (steady .long))
+            (long-enlarged c (ofNat 2147483648 ⊠ ofNat 2147483648 ⊟ ofNat (4294967296 * y)) (FF ⊟ ofNat off ⊞ ofNat (4 * (turnBlur U r * most))) (turnOf a)
+            (numbers.long-law U some y r) (steady .long))
 
         short : LongAtMost (FF ⊞ ofNat off) (planned l0 l1 .turn)
         short = short-rounded (turnBlur U r) most (planned l0 l1 .turn) (enlarged c (turnOf a)) turn-near planned-roomy turn-roomy (FF ⊞ ofNat off)
-            (short-enlarged c (ofNat 2147483648 ⊠ ofNat 2147483648 ⊞ ofNat (4294967296 * y)) (FF ⊞ ofNat off ⊟ ofNat (4 * (turnBlur U r * most))) (turnOf a) (numbers.short-law U some y r) (steady .short))
+            (short-enlarged c (ofNat 2147483648 ⊠ ofNat 2147483648 ⊞ ofNat (4294967296 * y)) (FF ⊞ ofNat off ⊟ ofNat (4 * (turnBlur U r * most))) (turnOf
+            a) (numbers.short-law U some y r) (steady .short))
 
   -- ---- corners
   module _ (i : ℕ) (h : i < length xs) where
@@ -304,7 +335,13 @@ module _ (U G : ℕ) (some : 0 < U) (k0 k1 : ℕ) (start : k0 ≤ 16777216) (end
         let sy = square-within (second .y) (ofNat (2 * U)) (omega (arith, stands .corner i h .y .upper)) (omega (arith, stands .corner i h .y .lower)) in
         let scaled-short = ⊠-mono (k ⊠ k) (dot v v) (ofNat R ⊠ ofNat R) (⊠-square k) (inside i h) in
         let both = longer first second (k ⊠ ofNat R) (ofNat (3 * U)) (⊠-nonneg k (ofNat R) (omega arith) (omega arith)) (omega arith)
-        (omega (arith, scaled-short, dot-enlarged k v v, ring (var 0 :* var 0 :* (var 1 :* var 1)) (var 0 :* var 1 :* (var 0 :* var 1)) (k ∷ ofNat R ∷ []) tt)) (omega (arith, sx, sy, eight-nine U)) in
+        (omega (
+          arith,
+          scaled-short,
+          dot-enlarged k v v,
+          ring (var 0 :* var 0 :* (var 1 :* var 1)) (var 0 :* var 1 :* (var 0 :* var 1)) (k ∷ ofNat R ∷ [])
+              tt,
+        )) (omega (arith, sx, sy, eight-nine U)) in
         omega (
           arith,
           both,
@@ -337,8 +374,10 @@ module _ (U G : ℕ) (some : 0 < U) (k0 k1 : ℕ) (start : k0 ≤ 16777216) (end
             short = short l0 l1 r a is b arc y (t .steady);
             inside = λ i l. corner-inside i (index i l);
             window = numbers.window-law U some R (y + 5 * r) tame;
-            near = λ i l. control-near (2 * h0) (turnBlur U r) (2 * U) (largestPart U R) (turnPart U) (planned l0 l1) (enlargedBody U centre a xs ys) i near (turn-near l0 l1 r a is b)
-                (stands .corner i (index i l) .x) (stands .corner i (index i l) .y) (corner-x i (index i l)) (corner-y i (index i l)) (turn-small l0 l1 r a is b arc);
+            near = λ i l. control-near (2 * h0) (turnBlur U r) (2 * U) (largestPart U R) (turnPart U) (planned l0 l1) (enlargedBody U centre a xs ys) i
+                near (turn-near l0 l1 r a is b)
+                (stands .corner i (index i l) .x) (stands .corner i (index i l) .y) (corner-x i (index i l)) (corner-y i (index i l)) (turn-small l0 l1 r a
+                is b arc);
             rounding = numbers.rounding-law U some h0 (cornerBlur U R r);
             enough = numbers.enough-law U some R y r E c h0 (t .reach) small;
           }
@@ -348,8 +387,10 @@ module _ (U G : ℕ) (some : 0 < U) (k0 k1 : ℕ) (start : k0 ≤ 16777216) (end
           let p = planned 1 1 .centre in
           let z = turnOf a in
           let k = ofNat (1048576 * U) in
-          let none : (L L' : Pair) (P : Pair) → Cut 67108864 (ofNat l0 ⊠ intOf L ⊞ ofNat 0 ⊠ intOf L') P → intOf P ⊞ intOf P ≃ 0Int = λ L L' P cut. omega (arith, zero-cut l0 0 (intOf L) (intOf L') P (t .none0) refl cut) in
-          let none' : (L L' : Pair) (P : Pair) → Cut 67108864 (ofNat l1 ⊠ intOf L ⊞ ofNat 0 ⊠ intOf L') P → intOf P ⊞ intOf P ≃ 0Int = λ L L' P cut. omega (arith, zero-cut l1 0 (intOf L) (intOf L') P (t .none1) refl cut) in
+          let none : (L L' : Pair) (P : Pair) → Cut 67108864 (ofNat l0 ⊠ intOf L ⊞ ofNat 0 ⊠ intOf L') P → intOf P ⊞ intOf P ≃ 0Int = λ L L' P cut. omega
+          (arith, zero-cut l0 0 (intOf L) (intOf L') P (t .none0) refl cut) in
+          let none' : (L L' : Pair) (P : Pair) → Cut 67108864 (ofNat l1 ⊠ intOf L ⊞ ofNat 0 ⊠ intOf L') P → intOf P ⊞ intOf P ≃ 0Int = λ L L' P cut. omega
+          (arith, zero-cut l1 0 (intOf L) (intOf L') P (t .none1) refl cut) in
           let x0 : z .p0 .x ≃ 0Int = none (is .start .x) (is .start .x) (a .p0 .x) (is .is .p0 .x) in
           let y0 : z .p0 .y ≃ 0Int = none (is .start .y) (is .start .y) (a .p0 .y) (is .is .p0 .y) in
           let x1 : z .p1 .x ≃ 0Int = zero-cut l0 l1 (intOf (is .end .x)) (intOf (is .start .x)) (a .t .x) (t .none0) (t .none1) (is .is .t .x) in

@@ -10,7 +10,7 @@ use Rattle.integers.specs.Polynomial.{var, lit, _:+_, _:-_, _:*_}
 use Rattle.integers.proofs.Signed.{⊠-cong, ⊠-cong-r}
 use Rattle.integers.proofs.Ring.{ring}
 use Rattle.integers.proofs.Sized.{within-product}
-use Rattle.exact.specs.Plane.{Point, sum, difference, scaled, dot}
+use Rattle.plane.specs.Plane.{Point, sum, difference, scaled, dot}
 use Rattle.whole_move.specs.Blend.{twice, thrice, line}
 use Rattle.whole_move.specs.Piece.{Controls, turnedBy, control, form0, form1, form2, form3, Away, Near}
 use Rattle.whole_move.proofs.Forms.{enlarged, away-enlarged}
@@ -44,11 +44,13 @@ along n p s q h k = omega (
   arith,
   ⊠-cong-r (n .x) (p .x) (s .x ⊞ q .x) h,
   ⊠-cong-r (n .y) (p .y) (s .y ⊞ q .y) k,
-  ring (var 0 :* (var 2 :+ var 4) :+ var 1 :* (var 3 :+ var 5)) (var 0 :* var 2 :+ var 1 :* var 3 :+ (var 0 :* var 4 :+ var 1 :* var 5)) (n .x ∷ n .y ∷ s .x ∷ s .y ∷ q .x ∷ q .y ∷ []) tt,
+  ring (var 0 :* (var 2 :+ var 4) :+ var 1 :* (var 3 :+ var 5)) (var 0 :* var 2 :+ var 1 :* var 3 :+ (var 0 :* var 4 :+ var 1 :* var 5)) (n .x ∷ n .y ∷
+      s .x ∷ s .y ∷ q .x ∷ q .y ∷ []) tt,
 )
 
 -- what stays apart stays so where both are moved and made larger alike
-pub away-carried : (n0 n1 : Point) (k K c : Int) (s a b a' b' : Controls) → 0Int ≺ c → K ≼ c ⊠ k → Same a' (placed c s a) → Same b' (placed c s b) → Away n0 n1 k a b → Away n0 n1 K a' b'
+pub away-carried : (n0 n1 : Point) (k K c : Int) (s a b a' b' : Controls) → 0Int ≺ c → K ≼ c ⊠ k → Same a' (placed c s a) → Same b' (placed c s b) → Away
+    n0 n1 k a b → Away n0 n1 K a' b'
 away-carried n0 n1 k K c s a b a' b' some less sa sb far =
     let f = away-enlarged n0 n1 k c a b some far in
     let ea = enlarged c a in
@@ -89,7 +91,8 @@ module _ (U : ℕ) where
     h,
     ⊠-cong step (ofNat (1048576 * U) ⊠ ofNat U) (p ⊠ v ⊟ p' ⊠ v') (p ⊠ v ⊟ p' ⊠ v') step-is refl,
     ring (var 0 :* (var 1 :+ var 2)) (var 0 :* var 1 :+ var 0 :* var 2) (step ∷ q ∷ (p ⊠ v ⊟ p' ⊠ v') ∷ []) tt,
-    ring (var 0 :* var 2 :* (var 1 :* var 4) :- var 0 :* var 3 :* (var 1 :* var 5)) (var 0 :* var 1 :* (var 2 :* var 4 :- var 3 :* var 5)) (ofNat (1048576 * U) ∷ ofNat U ∷ p ∷ p' ∷ v ∷ v' ∷ []) tt,
+    ring (var 0 :* var 2 :* (var 1 :* var 4) :- var 0 :* var 3 :* (var 1 :* var 5)) (var 0 :* var 1 :* (var 2 :* var 4 :- var 3 :* var 5)) (ofNat (1048576
+        * U) ∷ ofNat U ∷ p ∷ p' ∷ v ∷ v' ∷ []) tt,
   )
 
   plus-part : (s c q p p' v v' : Int) → c ≃ s ⊞ step ⊠ q
@@ -99,11 +102,13 @@ module _ (U : ℕ) where
     h,
     ⊠-cong step (ofNat (1048576 * U) ⊠ ofNat U) (p ⊠ v ⊞ p' ⊠ v') (p ⊠ v ⊞ p' ⊠ v') step-is refl,
     ring (var 0 :* (var 1 :+ var 2)) (var 0 :* var 1 :+ var 0 :* var 2) (step ∷ q ∷ (p ⊠ v ⊞ p' ⊠ v') ∷ []) tt,
-    ring (var 0 :* var 2 :* (var 1 :* var 4) :+ var 0 :* var 3 :* (var 1 :* var 5)) (var 0 :* var 1 :* (var 2 :* var 4 :+ var 3 :* var 5)) (ofNat (1048576 * U) ∷ ofNat U ∷ p ∷ p' ∷ v ∷ v' ∷ []) tt,
+    ring (var 0 :* var 2 :* (var 1 :* var 4) :+ var 0 :* var 3 :* (var 1 :* var 5)) (var 0 :* var 1 :* (var 2 :* var 4 :+ var 3 :* var 5)) (ofNat (1048576
+        * U) ∷ ofNat U ∷ p ∷ p' ∷ v ∷ v' ∷ []) tt,
   )
 
   -- a body about a centre that is s, and what the grid has
-  pub same-controls : (s centre : Controls) (d0 d2 : Point) (a : Arc) (xs ys : List ℕ) → Same centre (placed step s (gridBody d0 d2 a xs ys .centre)) → (i : ℕ)
+  pub same-controls : (s centre : Controls) (d0 d2 : Point) (a : Arc) (xs ys : List ℕ) → Same centre (placed step s (gridBody d0 d2 a xs ys .centre)) → (i
+      : ℕ)
       → Same (control (enlargedBody U centre a xs ys) i) (placed step s (control (gridBody d0 d2 a xs ys) i))
   same-controls s centre d0 d2 a xs ys h i =
       let g = gridBody d0 d2 a xs ys in
@@ -163,8 +168,10 @@ module _ (U : ℕ) where
       ⊠-cong f f' atA atA (units 67108864) refl,
       ⊠-cong f f' (off G k B1 B2 A1 A2 d) (off G k B1 B2 A1 A2 d) (units 67108864) refl,
       ⊠-cong step (ofNat 1048576 ⊠ (ofNat U ⊠ ofNat U)) (ofNat 1073741824 ⊠ d) (ofNat 1073741824 ⊠ d) step-square refl,
-      ring (lit (ofNat 67108864) :* var 0 :* (var 1 :* (var 3 :* var 4) :+ var 2 :* (var 3 :* var 5)) :- lit (ofNat 67108864) :* var 0 :* (var 1 :* (var 3 :* var 6) :+ var 2 :* (var 3 :* var 7)))
-          (lit (ofNat 67108864) :* var 0 :* (var 3 :* (var 1 :* (var 4 :- var 6) :+ var 2 :* (var 5 :- var 7)) :- lit (ofNat 16777216) :* (var 0 :* var 8)) :+ lit (ofNat 1048576) :* (var 0 :* var 0) :* (lit (ofNat 1073741824) :* var 8))
+      ring (lit (ofNat 67108864) :* var 0 :* (var 1 :* (var 3 :* var 4) :+ var 2 :* (var 3 :* var 5)) :- lit (ofNat 67108864) :* var 0 :* (var 1 :* (var 3
+          :* var 6) :+ var 2 :* (var 3 :* var 7)))
+          (lit (ofNat 67108864) :* var 0 :* (var 3 :* (var 1 :* (var 4 :- var 6) :+ var 2 :* (var 5 :- var 7)) :- lit (ofNat 16777216) :* (var 0 :* var 8))
+          :+ lit (ofNat 1048576) :* (var 0 :* var 0) :* (lit (ofNat 1073741824) :* var 8))
           (ofNat U ∷ j ∷ ofNat k ∷ ofNat G ∷ B1 ∷ B2 ∷ A1 ∷ A2 ∷ d ∷ []) tt,
     )
 
@@ -178,10 +185,12 @@ module _ (U : ℕ) where
   twice-left x y = omega arith
 
   half-steps : (d : Int) → step ⊠ (ofNat 2147483648 ⊠ d) ≃ twice (step ⊠ (ofNat 1073741824 ⊠ d))
-  half-steps d = ring (var 0 :* (lit (ofNat 2147483648) :* var 1)) (var 0 :* (lit (ofNat 1073741824) :* var 1) :+ var 0 :* (lit (ofNat 1073741824) :* var 1)) (step ∷ d ∷ []) tt
+  half-steps d = ring (var 0 :* (lit (ofNat 2147483648) :* var 1)) (var 0 :* (lit (ofNat 1073741824) :* var 1) :+ var 0 :* (lit (ofNat 1073741824) :* var
+      1)) (step ∷ d ∷ []) tt
 
   both-steps : (d d' : Int) → step ⊠ (ofNat 1073741824 ⊠ (d ⊞ d')) ≃ step ⊠ (ofNat 1073741824 ⊠ d) ⊞ step ⊠ (ofNat 1073741824 ⊠ d')
-  both-steps d d' = ring (var 0 :* (lit (ofNat 1073741824) :* (var 1 :+ var 2))) (var 0 :* (lit (ofNat 1073741824) :* var 1) :+ var 0 :* (lit (ofNat 1073741824) :* var 2)) (step ∷ d ∷ d' ∷ []) tt
+  both-steps d d' = ring (var 0 :* (lit (ofNat 1073741824) :* (var 1 :+ var 2))) (var 0 :* (lit (ofNat 1073741824) :* var 1) :+ var 0 :* (lit (ofNat
+      1073741824) :* var 2)) (step ∷ d ∷ d' ∷ []) tt
 
   abbrev pub centreOff : ℕ
   centreOff = 1125899906842624 * (U * U * 3)
@@ -197,7 +206,8 @@ module _ (U : ℕ) where
       record { upper = omega (arith, w .upper, e, tb, ta, s); lower = omega (arith, w .lower, e, tb, ta, s) }
 
   pub middle-part : (G k0 k1 : ℕ) (B1 B2 A1 A2 d d' : Int) → Within (50331648 * U) (off G k0 B1 B2 A1 A2 d) → Within (50331648 * U) (off G k1 B1 B2 A1 A2 d')
-      → Within (2 * centreOff) (f ⊠ atB G k1 B1 B2 A1 A2 d' ⊞ f ⊠ atB G k0 B1 B2 A1 A2 d ⊟ (f ⊠ atA G k1 B1 B2 A1 A2 d' ⊞ f ⊠ atA G k0 B1 B2 A1 A2 d ⊞ step ⊠ (ofNat 1073741824 ⊠ (d ⊞ d'))))
+      → Within (2 * centreOff) (f ⊠ atB G k1 B1 B2 A1 A2 d' ⊞ f ⊠ atB G k0 B1 B2 A1 A2 d ⊟ (f ⊠ atA G k1 B1 B2 A1 A2 d' ⊞ f ⊠ atA G k0 B1 B2 A1 A2 d ⊞
+      step ⊠ (ofNat 1073741824 ⊠ (d ⊞ d'))))
   middle-part G k0 k1 B1 B2 A1 A2 d d' h h' =
       let w = times-off G k0 B1 B2 A1 A2 d h in
       let w' = times-off G k1 B1 B2 A1 A2 d' h' in

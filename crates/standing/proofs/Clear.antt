@@ -9,7 +9,7 @@ use lib.ListN.{length}
 use Rattle.integers.specs.Signed.{Int, 0Int, ofNat, _⊞_, _⊟_, _⊠_, _≼_, _≺_, _≃_}
 use Rattle.integers.specs.Whole.{Within}
 use Rattle.integers.proofs.Signed.{⊠-zero, ⊠-cong-r}
-use Rattle.exact.specs.Plane.{Point, scaled, sum}
+use Rattle.plane.specs.Plane.{Point, scaled, sum}
 use Rattle.whole_move.specs.Blend.{twice}
 use Rattle.whole_move.specs.Piece.{Controls, Body, control, Away, Near, Checked}
 use Rattle.whole_way.specs.Mover.{Mover, Piece, pieceFrom, onPiece, share, AwayBetween, Settled, resized}
@@ -26,7 +26,8 @@ use Rattle.standing.proofs.Numbers as numbers
 use Rattle.standing.proofs.Bodies.{enlargedBody, planned, shown, Shows, shows}
 use Rattle.standing.proofs.Centres.{placed, Same, away-carried, step, same-controls, centreOff, off-near, end-part, middle-part}
 
-module _ (job : GridJob) (k0 k1 : ℕ) (p : Proposal) (axs ays bxs bys : List ℕ) (fits : Fits job axs ays bxs bys) (seen : PieceSeen job k0 k1 p axs ays bxs bys)
+module _ (job : GridJob) (k0 k1 : ℕ) (p : Proposal) (axs ays bxs bys : List ℕ) (fits : Fits job axs ays bxs bys) (seen : PieceSeen job k0 k1 p axs ays bxs
+    bys)
     (U G : ℕ) (a b : Mover) (keep : ℕ) (stands : StandsFor U G job axs ays bxs bys a b keep) where
   start : k0 ≤ 16777216
   start = omega (arith, seen .order, seen .ends)
@@ -70,10 +71,14 @@ module _ (job : GridJob) (k0 k1 : ℕ) (p : Proposal) (axs ays bxs bys : List �
   nearB =
       let s = seen .start in
       let e = seen .end in
-      let x0 = off-near U G k0 start (b .centre1 .x) (b .centre2 .x) (a .centre1 .x) (a .centre2 .x) (job .d1 .x) (job .d2 .x) (s .x) (stands .centre1 .x) (stands .centre2 .x) (seen .at-start .x) in
-      let y0 = off-near U G k0 start (b .centre1 .y) (b .centre2 .y) (a .centre1 .y) (a .centre2 .y) (job .d1 .y) (job .d2 .y) (s .y) (stands .centre1 .y) (stands .centre2 .y) (seen .at-start .y) in
-      let x1 = off-near U G k1 (seen .ends) (b .centre1 .x) (b .centre2 .x) (a .centre1 .x) (a .centre2 .x) (job .d1 .x) (job .d2 .x) (e .x) (stands .centre1 .x) (stands .centre2 .x) (seen .at-end .x) in
-      let y1 = off-near U G k1 (seen .ends) (b .centre1 .y) (b .centre2 .y) (a .centre1 .y) (a .centre2 .y) (job .d1 .y) (job .d2 .y) (e .y) (stands .centre1 .y) (stands .centre2 .y) (seen .at-end .y) in
+      let x0 = off-near U G k0 start (b .centre1 .x) (b .centre2 .x) (a .centre1 .x) (a .centre2 .x) (job .d1 .x) (job .d2 .x) (s .x) (stands .centre1 .x)
+      (stands .centre2 .x) (seen .at-start .x) in
+      let y0 = off-near U G k0 start (b .centre1 .y) (b .centre2 .y) (a .centre1 .y) (a .centre2 .y) (job .d1 .y) (job .d2 .y) (s .y) (stands .centre1 .y)
+      (stands .centre2 .y) (seen .at-start .y) in
+      let x1 = off-near U G k1 (seen .ends) (b .centre1 .x) (b .centre2 .x) (a .centre1 .x) (a .centre2 .x) (job .d1 .x) (job .d2 .x) (e .x)
+      (stands .centre1 .x) (stands .centre2 .x) (seen .at-end .x) in
+      let y1 = off-near U G k1 (seen .ends) (b .centre1 .y) (b .centre2 .y) (a .centre1 .y) (a .centre2 .y) (job .d1 .y) (job .d2 .y) (e .y)
+      (stands .centre1 .y) (stands .centre2 .y) (seen .at-end .y) in
       record {
         x0 = end-part U G k0 (b .centre1 .x) (b .centre2 .x) (a .centre1 .x) (a .centre2 .x) (intOf (s .x)) x0;
         y0 = end-part U G k0 (b .centre1 .y) (b .centre2 .y) (a .centre1 .y) (a .centre2 .y) (intOf (s .y)) y0;
@@ -87,15 +92,19 @@ module _ (job : GridJob) (k0 k1 : ℕ) (p : Proposal) (axs ays bxs bys : List �
   noneOff : 0 ≤ 1125899906842624 * (U * U * 0)
   noneOff = omega arith
 
-  bodyA : Shows U G some k0 k1 start (seen .ends) (job .a) axs ays a (stands .bodyA) (fits .bodyA .inside) centreA 0 0 noneOff (seen .arcA) (p .a0) (p .a1) nearA (seen .isA) (seen .seenA .arc) (seen .ea)
-  bodyA = shows U G some k0 k1 start (seen .ends) (job .a) axs ays a (stands .bodyA) (fits .bodyA .inside) centreA 0 0 noneOff (seen .arcA) (p .a0) (p .a1) nearA (seen .isA) (seen .seenA .arc) (seen .ea)
+  bodyA : Shows U G some k0 k1 start (seen .ends) (job .a) axs ays a (stands .bodyA) (fits .bodyA .inside) centreA 0 0 noneOff (seen .arcA) (p .a0) (p .a1)
+      nearA (seen .isA) (seen .seenA .arc) (seen .ea)
+  bodyA = shows U G some k0 k1 start (seen .ends) (job .a) axs ays a (stands .bodyA) (fits .bodyA .inside) centreA 0 0 noneOff (seen .arcA) (p .a0) (p .a1)
+      nearA (seen .isA) (seen .seenA .arc) (seen .ea)
       (fits .bodyA .near) (seen .seenA .kind)
 
   someOff : centreOff U ≤ 1125899906842624 * (U * U * 3)
   someOff = omega arith
 
-  bodyB : Shows U G some k0 k1 start (seen .ends) (job .b) bxs bys b (stands .bodyB) (fits .bodyB .inside) centreB (centreOff U) 3 someOff (seen .arcB) (p .b0) (p .b1) nearB (seen .isB) (seen .seenB .arc) (seen .eb)
-  bodyB = shows U G some k0 k1 start (seen .ends) (job .b) bxs bys b (stands .bodyB) (fits .bodyB .inside) centreB (centreOff U) 3 someOff (seen .arcB) (p .b0) (p .b1) nearB (seen .isB) (seen .seenB .arc) (seen .eb)
+  bodyB : Shows U G some k0 k1 start (seen .ends) (job .b) bxs bys b (stands .bodyB) (fits .bodyB .inside) centreB (centreOff U) 3 someOff (seen .arcB)
+      (p .b0) (p .b1) nearB (seen .isB) (seen .seenB .arc) (seen .eb)
+  bodyB = shows U G some k0 k1 start (seen .ends) (job .b) bxs bys b (stands .bodyB) (fits .bodyB .inside) centreB (centreOff U) 3 someOff (seen .arcB)
+      (p .b0) (p .b1) nearB (seen .isB) (seen .seenB .arc) (seen .eb)
       (fits .bodyB .near) (seen .seenB .kind)
 
   -- ---- corners
@@ -119,12 +128,14 @@ module _ (job : GridJob) (k0 k1 : ℕ) (p : Proposal) (axs ays bxs bys : List �
   someStep = omega (arith, numbers.someSquare U some)
 
   far : (i j : ℕ) → i < a .count → j < b .count
-      → Away (pointOf (p .n0)) (pointOf (p .n1)) (ofNat 268435456 ⊠ (ofNat (margin U (job .up)) ⊞ ofNat (margin U (seen .ea + 7 + 2 * 0)) ⊞ ofNat (margin U (seen .eb + 7 + 2 * 3))))
+      → Away (pointOf (p .n0)) (pointOf (p .n1)) (ofNat 268435456 ⊠ (ofNat (margin U (job .up)) ⊞ ofNat (margin U (seen .ea + 7 + 2 * 0)) ⊞ ofNat (margin U
+      (seen .eb + 7 + 2 * 3))))
       (control (enlargedBody U centreA (seen .arcA) axs ays) i) (control (enlargedBody U centreB (seen .arcB) bxs bys) j)
   far i j h l = away-carried (pointOf (p .n0)) (pointOf (p .n1))
       (record { plus = 2147483648 * (268435456 * (job .up + seen .ea + seen .eb + 28)); minus = 4611686018427387904 })
       (ofNat 268435456 ⊠ (ofNat (margin U (job .up)) ⊞ ofNat (margin U (seen .ea + 7 + 2 * 0)) ⊞ ofNat (margin U (seen .eb + 7 + 2 * 3))))
-      (step U) centreA (control (gridBody origin origin (seen .arcA) axs ays) i) (control (gridBody (pointOf (seen .start)) (pointOf (seen .end)) (seen .arcB) bxs bys) j)
+      (step U) centreA (control (gridBody origin origin (seen .arcA) axs ays) i) (control (gridBody (pointOf (seen .start)) (pointOf (seen .end))
+      (seen .arcB) bxs bys) j)
       (control (enlargedBody U centreA (seen .arcA) axs ays) i) (control (enlargedBody U centreB (seen .arcB) bxs bys) j)
       someStep (numbers.away-law U some (job .up) (seen .ea) (seen .eb))
       (same-controls U centreA centreA origin origin (seen .arcA) axs ays sameA i)
@@ -163,8 +174,10 @@ module _ (job : GridJob) (k0 k1 : ℕ) (p : Proposal) (axs ays bxs bys : List �
   }
 
 -- the theorem
-pub seen-is-clear : (job : GridJob) (k0 k1 : ℕ) (p : Proposal) (axs ays bxs bys : List ℕ) → Fits job axs ays bxs bys → PieceSeen job k0 k1 p axs ays bxs bys → ClearBetween job k0 k1 axs ays bxs bys
+pub seen-is-clear : (job : GridJob) (k0 k1 : ℕ) (p : Proposal) (axs ays bxs bys : List ℕ) → Fits job axs ays bxs bys → PieceSeen job k0 k1 p axs ays bxs
+    bys → ClearBetween job k0 k1 axs ays bxs bys
 seen-is-clear job k0 k1 p axs ays bxs bys fits seen unit finer a b keep stands =
     between-resized 1073741824 keep finer a b (share 16777216 k0) (share 16777216 k1) (stands .someFiner)
     (settled-between 1073741824 (finer * keep) (resized finer a) (resized finer b) (omega arith) 16777216 k0 k1 (omega arith)
-    (start job k0 k1 p axs ays bxs bys fits seen unit finer a b keep stands) (seen .ends) (seen .order) (settled job k0 k1 p axs ays bxs bys fits seen unit finer a b keep stands))
+    (start job k0 k1 p axs ays bxs bys fits seen unit finer a b keep stands) (seen .ends) (seen .order) (settled job k0 k1 p axs ays bxs bys fits seen unit
+    finer a b keep stands))

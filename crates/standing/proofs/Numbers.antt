@@ -53,7 +53,8 @@ tame-plain S Y Z y s e h =
     let below : y ≤ 134217727 = omega arith in
     omega (arith, mul-le-mul-left Z below)
 
-disc-plain : (a b : Int) (k R : ℕ) → R ≤ 805306368 → a ≃ ofNat (k * (1073741825 * ((R + 3) * (R + 3)))) → b ≃ ofNat (k * (1073741824 * ((R + 4) * (R + 4)))) → a ≼ b
+disc-plain : (a b : Int) (k R : ℕ) → R ≤ 805306368 → a ≃ ofNat (k * (1073741825 * ((R + 3) * (R + 3)))) → b ≃ ofNat (k * (1073741824 * ((R + 4) * (R +
+    4)))) → a ≼ b
 disc-plain a b k R h ea eb =
     let below : 1073741825 * ((R + 3) * (R + 3)) ≤ 1073741824 * ((R + 4) * (R + 4)) = omega (arith, mul-le-mul-left R h) in
     omega (arith, mul-le-mul-left k below)
@@ -85,7 +86,8 @@ module _ (U : ℕ) (some : 0 < U) where
   tame-law y h = tame-plain (F ⊠ F) (lengthOff U y) (windowWidth U) y squared (off-is y) h
 
   linear-law : (R y : ℕ) → y < 134217728
-      → ofNat 8 ⊠ (ofNat (farthest U R) ⊠ (F ⊠ (ofNat (2097152 * (U * y)) ⊞ ofNat (2097152 * U)))) ≼ ofNat 15 ⊠ ((F ⊟ ofNat (2097152 * (U * y))) ⊠ ofNat (carried U R y))
+      → ofNat 8 ⊠ (ofNat (farthest U R) ⊠ (F ⊠ (ofNat (2097152 * (U * y)) ⊞ ofNat (2097152 * U)))) ≼ ofNat 15 ⊠ ((F ⊟ ofNat (2097152 * (U * y))) ⊠ ofNat
+      (carried U R y))
   unfolding _⊠_
   linear-law R y h =
       let k = U * U * U * ((R + 3) * (y + 1)) in
@@ -119,7 +121,8 @@ module _ (U : ℕ) (some : 0 < U) where
       → (F ⊠ F ⊞ slack) ⊠ (ofNat (farthest U R) ⊠ ofNat (farthest U R)) ≼ ofNat (margin U (R + 4)) ⊠ ofNat (margin U (R + 4))
   unfolding _⊠_
   disc-law R h =
-      disc-plain ((F ⊠ F ⊞ slack) ⊠ (ofNat (farthest U R) ⊠ ofNat (farthest U R))) (ofNat (margin U (R + 4)) ⊠ ofNat (margin U (R + 4))) (windowWidth U * (U * U)) R h (omega arith) (omega arith)
+      disc-plain ((F ⊠ F ⊞ slack) ⊠ (ofNat (farthest U R) ⊠ ofNat (farthest U R))) (ofNat (margin U (R + 4)) ⊠ ofNat (margin U (R + 4))) (windowWidth U *
+      (U * U)) R h (omega arith) (omega arith)
 
   pub wide-law : F ⊠ F ≼ slack ⊠ ofNat 1073741824
   unfolding _⊠_

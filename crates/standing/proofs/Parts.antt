@@ -42,7 +42,8 @@ module _ (U : ℕ) where
       let b = within-product k e (ofNat k) d2 (natural-within k) h2 in
       let c = within-product U 16777216 (ofNat U) d3 (natural-within U) (cut-within 16777216 z r (mid .cut)) in
       let same = ring (var 0 :* (var 1 :* var 3 :+ var 2 :* var 4) :- lit (ofNat 16777216) :* (var 5 :* var 8))
-      (var 1 :* (var 0 :* var 3 :- var 5 :* var 6) :+ var 2 :* (var 0 :* var 4 :- var 5 :* var 7) :+ var 5 :* (var 1 :* var 6 :+ var 2 :* var 7 :- lit (ofNat 16777216) :* var 8))
+      (var 1 :* (var 0 :* var 3 :- var 5 :* var 6) :+ var 2 :* (var 0 :* var 4 :- var 5 :* var 7) :+ var 5 :* (var 1 :* var 6 :+ var 2 :* var 7 :- lit
+      (ofNat 16777216) :* var 8))
       (m ∷ ofNat j ∷ ofNat k ∷ Q1 ∷ Q2 ∷ ofNat U ∷ intOf q1 ∷ intOf q2 ∷ intOf r ∷ []) tt in
       record {
         upper = omega (arith, a .upper, b .upper, c .upper, same, both-shares k e h);
@@ -57,24 +58,29 @@ module _ (U : ℕ) where
   unfolding _⊠_
   one-unit T = omega arith
 
-  at-end : (s Y P : Int) → twice s ⊠ Y ⊟ ofNat (1048576 * U) ⊠ (P ⊞ P) ≃ s ⊠ Y ⊞ ofNat 0 ⊠ Y ⊞ (s ⊠ Y ⊞ ofNat 0 ⊠ Y) ⊟ ofNat 1048576 ⊠ (ofNat U ⊠ P ⊞ ofNat U ⊠ P)
+  at-end : (s Y P : Int) → twice s ⊠ Y ⊟ ofNat (1048576 * U) ⊠ (P ⊞ P) ≃ s ⊠ Y ⊞ ofNat 0 ⊠ Y ⊞ (s ⊠ Y ⊞ ofNat 0 ⊠ Y) ⊟ ofNat 1048576 ⊠ (ofNat U ⊠ P ⊞ ofNat
+      U ⊠ P)
   unfolding _⊠_
   at-end s Y P = omega arith
 
   -- a control point of a turn, from headings that are each within 2 of a grid's step
   stretched-near : (s t : ℕ) (Y0 Y1 : Int) (L0 L1 T : Pair)
-      → Within (33554432 * U) (ofNat 1073741824 ⊠ Y0 ⊟ ofNat 16777216 ⊠ (ofNat U ⊠ intOf L0)) → Within (33554432 * U) (ofNat 1073741824 ⊠ Y1 ⊟ ofNat 16777216 ⊠ (ofNat U ⊠ intOf L1))
+      → Within (33554432 * U) (ofNat 1073741824 ⊠ Y0 ⊟ ofNat 16777216 ⊠ (ofNat U ⊠ intOf L0)) → Within (33554432 * U) (ofNat 1073741824 ⊠ Y1 ⊟ ofNat
+      16777216 ⊠ (ofNat U ⊠ intOf L1))
       → Cut 67108864 (ofNat s ⊠ intOf L0 ⊞ ofNat t ⊠ intOf L1) T
-      → Within (s * (33554432 * U) + t * (33554432 * U) + 16777216 * U * 67108864) (ofNat 1073741824 ⊠ (ofNat s ⊠ Y0 ⊞ ofNat t ⊠ Y1) ⊟ ofNat 1125899906842624 ⊠ (ofNat U ⊠ intOf T))
+      → Within (s * (33554432 * U) + t * (33554432 * U) + 16777216 * U * 67108864) (ofNat 1073741824 ⊠ (ofNat s ⊠ Y0 ⊞ ofNat t ⊠ Y1) ⊟ ofNat
+      1125899906842624 ⊠ (ofNat U ⊠ intOf T))
   stretched-near s t Y0 Y1 L0 L1 T h0 h1 cut =
       let d0 = ofNat 1073741824 ⊠ Y0 ⊟ ofNat 16777216 ⊠ (ofNat U ⊠ intOf L0) in
       let d1 = ofNat 1073741824 ⊠ Y1 ⊟ ofNat 16777216 ⊠ (ofNat U ⊠ intOf L1) in
       let z = ofNat s ⊠ intOf L0 ⊞ ofNat t ⊠ intOf L1 in
       let a = within-product s (33554432 * U) (ofNat s) d0 (natural-within s) h0 in
       let b = within-product t (33554432 * U) (ofNat t) d1 (natural-within t) h1 in
-      let c = within-product (16777216 * U) 67108864 (ofNat (16777216 * U)) (z ⊟ ofNat 67108864 ⊠ intOf T) (natural-within (16777216 * U)) (cut-within 67108864 z T cut) in
+      let c = within-product (16777216 * U) 67108864 (ofNat (16777216 * U)) (z ⊟ ofNat 67108864 ⊠ intOf T) (natural-within (16777216 * U)) (cut-within
+      67108864 z T cut) in
       let same = ring (lit (ofNat 1073741824) :* (var 0 :* var 2 :+ var 1 :* var 3) :- lit (ofNat 1125899906842624) :* (var 4 :* var 7))
-      (var 0 :* (lit (ofNat 1073741824) :* var 2 :- lit (ofNat 16777216) :* (var 4 :* var 5)) :+ var 1 :* (lit (ofNat 1073741824) :* var 3 :- lit (ofNat 16777216) :* (var 4 :* var 6))
+      (var 0 :* (lit (ofNat 1073741824) :* var 2 :- lit (ofNat 16777216) :* (var 4 :* var 5)) :+ var 1 :* (lit (ofNat 1073741824) :* var 3 :- lit (ofNat
+      16777216) :* (var 4 :* var 6))
       :+ lit (ofNat 16777216) :* var 4 :* (var 0 :* var 5 :+ var 1 :* var 6 :- lit (ofNat 67108864) :* var 7))
       (ofNat s ∷ ofNat t ∷ Y0 ∷ Y1 ∷ ofNat U ∷ intOf L0 ∷ intOf L1 ∷ intOf T ∷ []) tt in
       let big = big-unit (z ⊟ ofNat 67108864 ⊠ intOf T) in
@@ -110,7 +116,8 @@ module _ (U : ℕ) where
 
   -- between the ends
   pub middle-near : (r s t : ℕ) (Y0 Y1 : Int) (L0 L1 T : Pair) → s + 33554432 ≤ 33554432 * r → t + 33554432 ≤ 33554432 * r
-      → Within (33554432 * U) (ofNat 1073741824 ⊠ Y0 ⊟ ofNat 16777216 ⊠ (ofNat U ⊠ intOf L0)) → Within (33554432 * U) (ofNat 1073741824 ⊠ Y1 ⊟ ofNat 16777216 ⊠ (ofNat U ⊠ intOf L1))
+      → Within (33554432 * U) (ofNat 1073741824 ⊠ Y0 ⊟ ofNat 16777216 ⊠ (ofNat U ⊠ intOf L0)) → Within (33554432 * U) (ofNat 1073741824 ⊠ Y1 ⊟ ofNat
+      16777216 ⊠ (ofNat U ⊠ intOf L1))
       → Cut 67108864 (ofNat s ⊠ intOf L0 ⊞ ofNat t ⊠ intOf L1) T
       → Within (2097152 * (U * r)) (ofNat s ⊠ Y0 ⊞ ofNat t ⊠ Y1 ⊟ ofNat (1048576 * U) ⊠ intOf T)
   middle-near r s t Y0 Y1 L0 L1 T room room' h h' cut =

@@ -2,12 +2,10 @@
 -- last; here is one law for each way that a turn goes on from there. Assumes nothing.
 use Prim.Native.Nat.{ℕ, zero, suc, _+_, _-_, _≤_}
 use native.Mathlib.Omega.{arith}
-use mathlib.Core.Bool.{Bool, true, false, _&&_, _||_}
+use mathlib.Core.Bool.{Bool, true, false, _&&_}
 use mathlib.Core.List.{List, [], _++_}
 use mathlib.Core.Path.{_≡_, refl, sym, ap, subst, _∙_}
-use lib.Dec.{eqb}
 use lib.Ieee.{Float, Format, le}
-use borrow.Author.Tests.{eqb-true, eqb-false}
 use Rattle.model.specs.declared.Sweep.{Sweep}
 use Rattle.model.specs.declared.SimplexCache.{SimplexCache}
 use Rattle.model.specs.declared.SeparationFunction.{SeparationFunction}
@@ -20,7 +18,7 @@ use Rattle.model.specs.declared.Swept.{Swept}
 use Rattle.model.specs.Ground as Ground
 use Rattle.model.specs.Sweep.{transformAt}
 use Rattle.model.specs.Separation.{function, newSeparation}
-use Rattle.model.specs.SweepToi.{called, overlapped, hit, failedAt, PushEnd, moved, onward}
+use Rattle.model.specs.SweepToi.{called, overlapped, hit, separated, failed, failedAt, PushEnd, onward}
 use Rattle.model.specs.Corners.{noSearch, lastOf, afterwards, pushSearches, searchesBy, searchesFrom, swept, advanced}
 use Rattle.model.specs.SweepToi.{noCorners, noCounts, closestAt, high, pushFrom, advanceBy, advanceFrom}
 use Rattle.model.specs.Repeats.{since, further}
@@ -29,12 +27,8 @@ use Rattle.model.proofs.Repeats.{FixedCall, calls-repeat, call-corners-stay}
 use Rattle.separation.specs.ByPoses.{newSeparationBy}
 use Rattle.separation.proofs.Laws.{Keeps, moves-are-kept, new-at}
 use Rattle.sweep_toi.specs.declared.moment.Moment.{Moment}
-use Rattle.sweep_toi.specs.declared.push_back.PushKind.{PushKind}
-use Rattle.sweep_toi.specs.declared.push_back.PushKind.the-variants.{Separated, Failed, Hit, Landed, Held}
-use Rattle.sweep_toi.specs.declared.push_back.Pushed.{Pushed}
-use Rattle.sweep_toi.specs.Rounds.{momentAt, closestIn, pushBy, isOver, isHeld, endBy}
+use Rattle.sweep_toi.specs.Rounds.{momentAt, closestIn, PushKind, Separated, Failed, Hit, Landed, Held, Pushed, pushed, pushBy}
 use Rattle.sweep_toi.proofs.Rounds.{clash, closest-in, toldAs, PushedAs, push-is, Grown, round-grows}
-use Rattle.sweep_toi.proofs.Steps.{both-true}
 
 none-left : (n : Counts) → n .«distance_calls» ≡ 20 → 20 - n .«distance_calls» ≡ 0
 none-left n h = omega (arith, h)
@@ -133,44 +127,36 @@ module _ {f : Format} {w : SweepTask} {a b : List Float} {t1 : Float} {k : Simpl
           (last-append e made (afterwards f end then) ∙ ap (λ (c : Corners). lastOf c (afterwards f end then)) last))
           ∙ by
 
--- ---- after a round
+-- ---- after a round without a verdict; h says whether t1 was held where it was
+abbrev pub kindOf : Bool → PushKind
+kindOf true = Held
+kindOf false = Landed
+
 module _ (f : Format) (w : SweepTask) (a b : List Float) (t1 : Float) (x : Closest) where
-  -- it has the answer, or was the last
-  pub round-ends : (kind : PushKind) (m : Moment) (n : Counts) (c : Corners) → (isHeld kind ≡ true → m .t ≡ t1) →
-      Resumes f w a b t1 x kind m n c (20 - n .«distance_calls») → (isOver kind || eqb (n .«distance_calls») 20) ≡ true →
-      endBy f w t1 x kind m n c ≡ advanced f w a b
+  -- it was the last
+  pub round-ends : (h : Bool) (m : Moment) (n : Counts) (c : Corners) → (h ≡ true → m .t ≡ t1) →
+      Resumes f w a b t1 x (kindOf h) m n c (20 - n .«distance_calls») → n .«distance_calls» ≡ 20 → swept (failedAt (m .t) x n) c ≡ advanced f w a b
   unfolding after searchesAfter lastOf
-  round-ends Separated m n c at r d = r
-  round-ends Failed m n c at r d = r
-  round-ends Hit m n c at r d = r
-  round-ends Landed m n c at r d = rw (none-left n (eqb-true _ _ d)) at r
-  round-ends Held m n c at r d = ap (λ (t : Float). swept (failedAt t x n) c) (at refl) ∙ (rw (none-left n (eqb-true _ _ d)) at r)
+  round-ends true m n c at r d = ap (λ (t : Float). swept (failedAt t x n) c) (at refl) ∙ (rw (none-left n d) at r)
+  round-ends false m n c at r d = rw (none-left n d) at r
 
   -- a call follows it
-  pub round-goes-on : (kind : PushKind) (m : Moment) (n : Counts) (c : Corners) → (isHeld kind ≡ true → m .t ≡ t1) → n .«distance_calls» ≤ 20 →
-      Resumes f w a b t1 x kind m n c (20 - n .«distance_calls») → (isOver kind || eqb (n .«distance_calls») 20) ≡ false →
+  pub round-goes-on : (h : Bool) (m : Moment) (n : Counts) (c : Corners) → (h ≡ true → m .t ≡ t1) → n .«distance_calls» ≤ 20 →
+      Resumes f w a b t1 x (kindOf h) m n c (20 - n .«distance_calls») → (n .«distance_calls» ≡ 20 → ⊥) →
       calling f w a b (m .t) (x .cache) n c ≡ advanced f w a b
   unfolding after searchesAfter calling
-  round-goes-on Separated m n c at few r d = absurd (clash (sym d))
-  round-goes-on Failed m n c at few r d = absurd (clash (sym d))
-  round-goes-on Hit m n c at few r d = absurd (clash (sym d))
-  round-goes-on Landed m n c at few r d = rw (one-left n few (eqb-false _ _ d)) at r
-  round-goes-on Held m n c at few r d =
-      ap (λ (t : Float). calling f w a b t (x .cache) n c) (at refl) ∙ (rw (one-left n few (eqb-false _ _ d)) at r)
+  round-goes-on true m n c at few r d = ap (λ (t : Float). calling f w a b t (x .cache) n c) (at refl) ∙ (rw (one-left n few d) at r)
+  round-goes-on false m n c at few r d = rw (one-left n few d) at r
 
 -- ---- the calls that are left where the time and the cache stay
 module _ {f : Format} {w : SweepTask} {a b : List Float} {t1 : Float} {k : SimplexCache} {x : Closest} {n m : Counts}
     (fixed : FixedCall f w a b t1 k x n m) (few : m .«distance_calls» ≤ 20) where
-  pub calls-stay : (kind : PushKind) (i : Moment) (c : Corners) → isHeld kind ≡ true →
+  pub calls-stay : (i : Moment) (c : Corners) →
       lastOf noSearch (pushSearches f w a b (newSeparation f (w .«sweep_a») (w .«sweep_b») a b (x .cache) t1) t1 8 (w .«t_max»)) ≡ c →
-      Resumes f w a b t1 x kind i m c (20 - m .«distance_calls») → (m .«distance_calls» ≡ 20 → ⊥) →
+      Resumes f w a b t1 x Held i m c (20 - m .«distance_calls») → (m .«distance_calls» ≡ 20 → ⊥) →
       swept (failedAt t1 x (further m (20 - m .«distance_calls») (since n m))) c ≡ advanced f w a b
   unfolding after searchesAfter
-  calls-stay Separated i c is last r d = absurd (clash is)
-  calls-stay Failed i c is last r d = absurd (clash is)
-  calls-stay Hit i c is last r d = absurd (clash is)
-  calls-stay Landed i c is last r d = absurd (clash is)
-  calls-stay Held i c is last r d =
+  calls-stay i c last r d =
       let j = 19 - m .«distance_calls» in
       let z : 20 - m .«distance_calls» ≡ j + 1 = omega (arith, few, d) in
       ap (λ (q : ℕ). swept (failedAt t1 x (further m q (since n m))) c) z ∙ sym (stays j) ∙ (rw (one-left m few d) at r)
@@ -190,6 +176,14 @@ made-of : (w : SweepTask) (s : SeparationFunction) → s .«sweep_a» ≡ w .«s
 made-of w s p q =
     ap (λ (y : Sweep). function y (s .«sweep_b») (s .«local_point») (s .axis) (s .ty)) p
     ∙ ap (λ (y : Sweep). function (w .«sweep_a») y (s .«local_point») (s .axis) (s .ty)) q
+
+module _ (f : Format) (w : SweepTask) where
+  pub at-moment : (m : Moment) (t : Float) → m ≡ momentAt f w t → m ≡ momentAt f w (m .t)
+  at-moment m t is = is ∙ ap (λ (i : Moment). momentAt f w (i .t)) (sym is)
+
+  -- two moments of one time
+  pub same-moment : (m i : Moment) → m ≡ momentAt f w (m .t) → i ≡ momentAt f w (i .t) → m .t ≡ i .t → m ≡ i
+  same-moment m i p q e = p ∙ ap (momentAt f w) e ∙ sym q
 
 module _ (f : Format) (w : SweepTask) (a b : List Float) where
   pub closest-there : (m : Moment) (c : SimplexCache) (x : Closest) → m ≡ momentAt f w (m .t) → x ≡ closestIn f w a b m c → x ≡ closestAt f w a b (m .t) c
@@ -245,18 +239,6 @@ module _ (f : Format) (w : SweepTask) (a b : List Float) where
       subst (λ (y : Counts). Grown 8 y (p .counts)) counted
       (subst (λ (q : Pushed). Grown 8 o (q .counts)) (sym made) (round-grows f w a b g m1 8 end o))
 
-held-told : (f : Format) (w : SweepTask) (t1 : Float) (x : Closest) (kind : PushKind) (m : Moment) (n : Counts) → isHeld kind ≡ true →
-    toldAs f w t1 x kind m n ≡ moved t1 n
-held-told f w t1 x Separated m n h = absurd (clash h)
-held-told f w t1 x Failed m n h = absurd (clash h)
-held-told f w t1 x Hit m n h = absurd (clash h)
-held-told f w t1 x Landed m n h = absurd (clash h)
-held-told f w t1 x Held m n h = refl
-
-not-last : (v : Bool) (k : ℕ) → (v || eqb k 20) ≡ false → k ≡ 20 → ⊥
-not-last true k d = absurd (clash (sym d))
-not-last false k d = eqb-false k 20 d
-
 pub record Rounded (f : Format) (w : SweepTask) (a b : List Float) (m1 : Moment) (k : SimplexCache) (n : Counts) (e : Corners) (x : Closest) (o : Counts)
     (p : Pushed) : Type 0 where
   pub call : Called f w a b (m1 .t) k n e x o
@@ -277,39 +259,50 @@ module _ {f : Format} {w : SweepTask} {a b : List Float} {m1 : Moment} {k : Simp
   pub calls-counted : p .counts .«distance_calls» ≤ 20
   calls-counted = omega (arith, made .grown .calls, made .few)
 
-  -- v says whether it is over
-  module _ (v : Bool) (is : v ≡ isOver (p .kind)) where
-    as-it-is : {t : Bool} → (v || eqb (p .counts .«distance_calls») 20) ≡ t → (isOver (p .kind) || eqb (p .counts .«distance_calls») 20) ≡ t
-    as-it-is d = ap (λ (y : Bool). y || eqb (p .counts .«distance_calls») 20) (sym is) ∙ d
+-- ---- with a verdict, that is the answer
+module _ {f : Format} {w : SweepTask} {a b : List Float} {m1 : Moment} {k : SimplexCache} {n : Counts} {e : Corners} {x : Closest} {o : Counts} where
+  module _ {m : Moment} {i : Counts} {c : Corners} where
+    pub round-separates : Rounded f w a b m1 k n e x o (pushed Separated m i c) → swept (separated f (w .«t_max») i) c ≡ advanced f w a b
+    unfolding lastOf
+    round-separates made = resumes made
 
-    pub ends-there : (v || eqb (p .counts .«distance_calls») 20) ≡ true →
-        endBy f w (m1 .t) x (p .kind) (p .at) (p .counts) (p .corners) ≡ advanced f w a b
-    ends-there d = round-ends f w a b (m1 .t) x (p .kind) (p .at) (p .counts) (p .corners) (made .told .held) resumes (as-it-is d)
+    pub round-fails : Rounded f w a b m1 k n e x o (pushed Failed m i c) → swept (failed f (m1 .t) i) c ≡ advanced f w a b
+    unfolding lastOf
+    round-fails made = resumes made
 
-    module _ (d : (v || eqb (p .counts .«distance_calls») 20) ≡ false) where
-      pub call-left : p .counts .«distance_calls» ≤ 19
-      call-left = omega (arith, calls-counted, not-last v (p .counts .«distance_calls») d)
+    pub round-hits : Rounded f w a b m1 k n e x o (pushed Hit m i c) → swept (hit (m1 .t) x i) c ≡ advanced f w a b
+    unfolding lastOf
+    round-hits made = resumes made
 
-      pub goes-on-there : calling f w a b (p .at .t) (x .cache) (p .counts) (p .corners) ≡ advanced f w a b
-      goes-on-there =
-          round-goes-on f w a b (m1 .t) x (p .kind) (p .at) (p .counts) (p .corners) (made .told .held) calls-counted resumes (as-it-is d)
+  -- ---- without one
+  held-at : (h : Bool) (m : Moment) (i : Counts) (c : Corners) → Rounded f w a b m1 k n e x o (pushed (kindOf h) m i c) → h ≡ true → m .t ≡ m1 .t
+  held-at true m i c made is = made .told .held refl
+  held-at false m i c made is = absurd (clash is)
 
-      -- h says whether it was held, and s that the cache is the same
-      pub stays-there : (h s : Bool) → h ≡ isHeld (p .kind) → (s ≡ true → k ≡ x .cache) → (h && s) ≡ true →
-          swept (failedAt (m1 .t) x (further (p .counts) (20 - p .counts .«distance_calls») (since n (p .counts)))) (p .corners) ≡ advanced f w a b
-      stays-there h s eh es both =
-          let u = both-true h s both in
-          let held = sym eh ∙ u .0 in
-          let g = newSeparation f (w .«sweep_a») (w .«sweep_b») a b (x .cache) (m1 .t) in
-          calls-stay
-          (record {
-            there = made .call .there;
-            kept = sym (es (u .1));
-            apart = made .apart;
-            far = made .far;
-            held =
-                ap (λ (y : Counts). pushFrom f w a b g (m1 .t) x 8 (w .«t_max») y) (sym (made .call .counted))
-                ∙ made .told .same
-                ∙ held-told f w (m1 .t) x (p .kind) (p .at) (p .counts) held;
-          })
-          calls-counted (p .kind) (p .at) (p .corners) held (made .told .last) resumes (not-last v (p .counts .«distance_calls») d)
+  module _ (h : Bool) {m : Moment} {i : Counts} {c : Corners} (made : Rounded f w a b m1 k n e x o (pushed (kindOf h) m i c)) where
+    pub ends-there : i .«distance_calls» ≡ 20 → swept (failedAt (m .t) x i) c ≡ advanced f w a b
+    ends-there = round-ends f w a b (m1 .t) x h m i c (held-at h m i c made) (resumes made)
+
+    module _ (more : i .«distance_calls» ≡ 20 → ⊥) where
+      pub call-left : i .«distance_calls» ≤ 19
+      call-left = let few = calls-counted made in omega (arith, few, more)
+
+      pub goes-on-there : calling f w a b (m .t) (x .cache) i c ≡ advanced f w a b
+      goes-on-there = round-goes-on f w a b (m1 .t) x h m i c (held-at h m i c made) (calls-counted made) (resumes made) more
+
+  -- s says that the cache is the same
+  pub stays-there : (h s : Bool) (m : Moment) (i : Counts) (c : Corners) → Rounded f w a b m1 k n e x o (pushed (kindOf h) m i c) →
+      (i .«distance_calls» ≡ 20 → ⊥) → (s ≡ true → k ≡ x .cache) → (h && s) ≡ true →
+      swept (failedAt (m1 .t) x (further i (20 - i .«distance_calls») (since n i))) c ≡ advanced f w a b
+  stays-there true s m i c made more same is =
+      let g = newSeparation f (w .«sweep_a») (w .«sweep_b») a b (x .cache) (m1 .t) in
+      calls-stay
+      (record {
+        there = made .call .there;
+        kept = sym (same is);
+        apart = made .apart;
+        far = made .far;
+        held = ap (λ (y : Counts). pushFrom f w a b g (m1 .t) x 8 (w .«t_max») y) (sym (made .call .counted)) ∙ made .told .same;
+      })
+      (calls-counted made) m c (made .told .last) (resumes made) more
+  stays-there false s m i c made more same is = absurd (clash is)

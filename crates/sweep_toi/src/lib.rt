@@ -1,7 +1,6 @@
 // The sweep: when, along two planned moves, two outlines come within the target distance.
+mod bracket;
 mod moment;
-mod push_back;
-mod root_search;
 mod sweep_toi;
 mod trail;
 

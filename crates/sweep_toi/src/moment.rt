@@ -5,6 +5,7 @@ use ground::inv_mul;
 use ground::rotate_vec;
 use ground::scale;
 use ground::sub;
+use ground::to_bits;
 use ground::transform_point;
 use model::Closest;
 use model::Measurement;
@@ -13,6 +14,7 @@ use model::SimplexCache;
 use model::SweepTask;
 use separation::transform_at;
 ghost use mathlib.Core.Path.{_≡_};
+ghost use mathlib.Core.Bool.{true};
 ghost use lib.Ieee.{binary32};
 ghost use Rattle.model.specs.SweepToi as SweepToi;
 ghost use Rattle.sweep_toi.specs.Rounds.{momentAt, closestIn};
@@ -32,6 +34,12 @@ pub fn at_time(task: SweepTask, t: f32) -> Moment
     let xf_a = transform_at(task.sweep_a, t);
     let xf_b = transform_at(task.sweep_b, t);
     Moment { t, xf_a, xf_b }
+}
+
+pub fn same_time(x: f32, y: f32) -> bool
+    ensures { λ r. ⌜ (r ≡ true → x ≡ y) ⌝ }
+{
+    to_bits(x) == to_bits(y)
 }
 
 // What a distance call tells, put into the world by the pose of A: the normal, and the point midway between the two rounded outlines.

@@ -1,3 +1,4 @@
+-- Written by tests/written/wide.py from sweep_toi, in f64.
 mod Call
 mod Laws
 mod Rounds

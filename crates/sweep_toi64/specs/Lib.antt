@@ -1,1 +1,2 @@
+-- Written by tests/written/wide.py from sweep_toi, in f64.
 pub mod Rounds

@@ -1,8 +1,7 @@
-// Written by tests/wide.py from sweep_toi, in f64.
+// Written by tests/written/wide.py from sweep_toi, in f64.
 // The sweep: when, along two planned moves, two outlines come within the target distance.
+mod bracket;
 mod moment;
-mod push_back;
-mod root_search;
 mod sweep_toi;
 mod trail;
 

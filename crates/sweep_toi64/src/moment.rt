@@ -1,3 +1,4 @@
+// Written by tests/written/wide.py from sweep_toi, in f64.
 // A time of a sweep with the poses of both outlines at it, worked out once, and the distance call there.
 use distance64::proxy_distance::measure;
 use ground64::add;
@@ -5,6 +6,7 @@ use ground64::inv_mul;
 use ground64::rotate_vec;
 use ground64::scale;
 use ground64::sub;
+use ground64::to_bits;
 use ground64::transform_point;
 use model::SimplexCache;
 use model64::Closest;
@@ -13,6 +15,7 @@ use model64::Pose;
 use model64::SweepTask;
 use separation64::transform_at;
 ghost use mathlib.Core.Path.{_≡_};
+ghost use mathlib.Core.Bool.{true};
 ghost use lib.Ieee.{binary64};
 ghost use Rattle.model64.specs.SweepToi as SweepToi;
 ghost use Rattle.sweep_toi64.specs.Rounds.{momentAt, closestIn};
@@ -32,6 +35,12 @@ pub fn at_time(task: SweepTask, t: f64) -> Moment
     let xf_a = transform_at(task.sweep_a, t);
     let xf_b = transform_at(task.sweep_b, t);
     Moment { t, xf_a, xf_b }
+}
+
+pub fn same_time(x: f64, y: f64) -> bool
+    ensures { λ r. ⌜ (r ≡ true → x ≡ y) ⌝ }
+{
+    to_bits(x) == to_bits(y)
 }
 
 // What a distance call tells, put into the world by the pose of A: the normal, and the point midway between the two rounded outlines.

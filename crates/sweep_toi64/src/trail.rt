@@ -1,3 +1,4 @@
+// Written by tests/written/wide.py from sweep_toi, in f64.
 // The trail of a sweep: its counts.
 use model::Counts;
 ghost use Prim.Native.Nat.{_<_, _≤_, _+_, _-_};

@@ -11,7 +11,7 @@ use lib.Dec.{ltb}
 use lib.ListN.{length, drop, getD, set}
 use lib.Seq.{drop-cons, drop-length, sets}
 use Rattle.model.specs.Text.{decimalBy, decimal, capital, hexBy}
-use Rattle.text.specs.Read.{digit, baseAt, nextCount, nextValue, nextWords, stored}
+use Rattle.text.specs.Read.{hexDigit, baseAt, nextCount, nextValue, nextWords, stored}
 
 -- ---- the loop's turn and its end
 pub stored-one : (d k v : ℕ) (words line : List ℕ) (i : ℕ) → i < length line →
@@ -45,7 +45,7 @@ Digits (x ∷ xs) = (48 ≤ x) × Digits xs
 
 unfoldable pub valueOf : ℕ → ℕ → List ℕ → ℕ
 valueOf base v [] = v
-valueOf base v (x ∷ xs) = valueOf base ((v * base + digit x) % 2 ^ 32) xs
+valueOf base v (x ∷ xs) = valueOf base ((v * base + hexDigit x) % 2 ^ 32) xs
 
 pub digits-then : (xs ys : List ℕ) → Digits xs → Digits ys → Digits (xs ++ ys)
 unfolding Digits
@@ -55,10 +55,10 @@ digits-then (x ∷ xs) ys h g = (h .0, digits-then xs ys (h .1) g)
 value-then : (base v : ℕ) (xs ys : List ℕ) → valueOf base v (xs ++ ys) ≡ valueOf base (valueOf base v xs) ys
 unfolding valueOf
 value-then base v [] ys = refl
-value-then base v (x ∷ xs) ys = value-then base ((v * base + digit x) % 2 ^ 32) xs ys
+value-then base v (x ∷ xs) ys = value-then base ((v * base + hexDigit x) % 2 ^ 32) xs ys
 
 stored-digit : (d k v : ℕ) (words : List ℕ) (x : ℕ) (xs : List ℕ) → 48 ≤ x →
-    stored d k v words (x ∷ xs) ≡ stored d k ((v * baseAt d k + digit x) % 2 ^ 32) words xs
+    stored d k v words (x ∷ xs) ≡ stored d k ((v * baseAt d k + hexDigit x) % 2 ^ 32) words xs
 unfolding stored
 stored-digit d k v words x xs high = rw (le-ltb x 48 high)
 
@@ -72,14 +72,15 @@ pub stored-number : (d k v : ℕ) (words xs : List ℕ) (end : ℕ) (rest : List
 unfolding stored Digits valueOf
 stored-number d k v words [] end rest h low = stored-end d k v words end rest low
 stored-number d k v words (x ∷ xs) end rest h low =
-    stored-digit d k v words x (xs ++ (end ∷ rest)) (h .0) ∙ stored-number d k ((v * baseAt d k + digit x) % 2 ^ 32) words xs end rest (h .1) low
+    stored-digit d k v words x (xs ++ (end ∷ rest)) (h .0) ∙ stored-number d k ((v * baseAt d k + hexDigit x) % 2 ^ 32) words xs end rest (h .1) low
 
 -- ---- decimal
-decimal-digit : (n : ℕ) → n < 10 → digit (48 + n) ≡ n
+decimal-digit : (n : ℕ) → n < 10 → hexDigit (48 + n) ≡ n
 decimal-digit n small =
-    let low : 48 + n < 65 = omega arith in
+    let least : 48 ≤ 48 + n = omega arith in
+    let low : 48 + n < 58 = omega arith in
     let e : 48 + n - 48 ≡ n = omega arith in
-    rw (lt-ltb (48 + n) 65 low) e
+    rw (le-ltb (48 + n) 48 least, lt-ltb (48 + n) 58 low) e
 
 pub decimal-digits : (k n : ℕ) → Digits (decimalBy k n)
 unfolding decimalBy Digits
@@ -95,7 +96,8 @@ unfolding decimalBy valueOf
 decimal-value zero n below fits = omega (arith, below)
 decimal-value (suc k) n below fits = go (ltb n 10) refl (decimal-value k (n / 10) (omega (arith, below)) (omega arith))
   where
-    go : (b : Bool) → ltb n 10 ≡ b → valueOf 10 0 (decimalBy k (n / 10)) ≡ n / 10 → valueOf 10 0 (cond b ((48 + n) ∷ []) (decimalBy k (n / 10) ++ ((48 + n % 10) ∷ []))) ≡ n
+    go : (b : Bool) → ltb n 10 ≡ b → valueOf 10 0 (decimalBy k (n / 10)) ≡ n / 10
+        → valueOf 10 0 (cond b ((48 + n) ∷ []) (decimalBy k (n / 10) ++ ((48 + n % 10) ∷ []))) ≡ n
     go true e rest =
         let same : (0 + n) % 4294967296 ≡ n = omega arith in
         rw (decimal-digit n (ltb-true n 10 e)) same
@@ -113,15 +115,30 @@ capital-least d = go (ltb d 10)
     go true = omega arith
     go false = omega arith
 
-capital-value : (d : ℕ) → d < 16 → digit (capital d) ≡ d
+pub capital-value : (d : ℕ) → d < 16 → hexDigit (capital d) ≡ d
 capital-value d small = go (ltb d 10) refl
   where
-    go : (b : Bool) → ltb d 10 ≡ b → digit (cond b (48 + d) (55 + d)) ≡ d
+    go : (b : Bool) → ltb d 10 ≡ b → hexDigit (cond b (48 + d) (55 + d)) ≡ d
     go true e = decimal-digit d (ltb-true d 10 e)
     go false e =
-        let high : 65 ≤ 55 + d = omega (arith, ltb-false d 10 e) in
+        let large : 10 ≤ d = ltb-false d 10 e in
+        let digits : 48 ≤ 55 + d = omega arith in
+        let past : 58 ≤ 55 + d = omega arith in
+        let high : 65 ≤ 55 + d = omega arith in
+        let last : 55 + d < 71 = omega arith in
         let same : 55 + d - 55 ≡ d = omega arith in
-        rw (le-ltb (55 + d) 65 high) same
+        rw (le-ltb (55 + d) 48 digits, le-ltb (55 + d) 58 past, le-ltb (55 + d) 65 high, lt-ltb (55 + d) 71 last) same
+
+-- a digit is small
+pub hex-most : (x : ℕ) → hexDigit x ≤ 16
+hex-most x = go (ltb x 48) (ltb x 58) (ltb x 65) (ltb x 71) refl refl
+  where
+    go : (a b c d : Bool) → ltb x 58 ≡ b → ltb x 71 ≡ d → cond a 16 (cond b (x - 48) (cond c 16 (cond d (x - 55) 16))) ≤ 16
+    go true b c d f g = omega arith
+    go false true c d f g = omega (arith, ltb-true x 58 f)
+    go false false true d f g = omega arith
+    go false false false true f g = omega (arith, ltb-true x 71 g)
+    go false false false false f g = omega arith
 
 pub hex-digits : (k n : ℕ) → Digits (hexBy k n)
 unfolding hexBy Digits

@@ -5,9 +5,9 @@ use mathlib.Core.List.{List, [], _∷_}
 use lib.Dec.{ltb}
 use lib.ListN.{set}
 
--- 0 to 9 and A to F stand for what they are; what the others stand for is nobody's concern
-abbrev pub digit : ℕ → ℕ
-digit x = cond (ltb x 65) (x - 48) (x - 55)
+-- 0 to 9 and A to F; 16 for any other byte
+abbrev pub hexDigit : ℕ → ℕ
+hexDigit x = cond (ltb x 48) 16 (cond (ltb x 58) (x - 48) (cond (ltb x 65) 16 (cond (ltb x 71) (x - 55) 16)))
 
 -- so many numbers are decimal, and those after them hexadecimal
 abbrev pub baseAt : ℕ → ℕ → ℕ
@@ -18,7 +18,7 @@ abbrev pub nextCount : ℕ → ℕ → ℕ
 nextCount x k = cond (ltb x 48) (k + 1) k
 
 abbrev pub nextValue : ℕ → ℕ → ℕ → ℕ → ℕ
-nextValue decimals x k v = cond (ltb x 48) 0 ((v * baseAt decimals k + digit x) % 2 ^ 32)
+nextValue decimals x k v = cond (ltb x 48) 0 ((v * baseAt decimals k + hexDigit x) % 2 ^ 32)
 
 abbrev pub nextWords : ℕ → ℕ → ℕ → List ℕ → List ℕ
 nextWords x k v words = cond (ltb x 48) (set words k v) words

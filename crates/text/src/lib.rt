@@ -7,4 +7,5 @@ pub use put::put_hex;
 pub use put::put_number;
 pub use put::put_text;
 pub use put::put_wide_hex;
+pub use read::hex_digit;
 pub use read::read_numbers;

@@ -10,7 +10,8 @@ ghost use Rattle.text.specs.Put.{Put, whereRoom, number, hex, wideHex};
 
 // A text as it stands.
 pub fn put_text(out: &mut [u8], at: usize, text: &[u8]) -> usize
-    ensures { λ r. ⌜ Put (now (out .entry)) at (whereRoom (at + length (now (text .entry))) (length (now (out .entry))) (now (text .entry))) (now (out .exit)) r ⌝ }
+    ensures { λ r. ⌜ Put (now (out .entry)) at (whereRoom (at + length (now (text .entry))) (length (now (out .entry))) (now (text .entry)))
+        (now (out .exit)) r ⌝ }
 {
     if lacks(out.len(), at, text.len()) {
         return at;

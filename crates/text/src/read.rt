@@ -1,17 +1,25 @@
 // Numbers read from a line into lent words, byte by byte. Nothing is refused here: who asks prints what was read, and compares.
 ghost use mathlib.Core.Path.{_≡_};
 ghost use Prim.Native.Nat.{_≤_, _<_};
-ghost use Rattle.text.specs.Read.{digit, baseAt, nextCount, nextValue, nextWords, stored};
+ghost use Rattle.text.specs.Read.{hexDigit, baseAt, nextCount, nextValue, nextWords, stored};
 
-// What a byte from 48 on stands for as a digit.
-fn digit_of(x: u8) -> u64
-    requires { ⌜ 48 ≤ x ⌝ }
-    ensures { λ r. ⌜ (r ≡ digit x) × (r < 256) ⌝ }
+// What a byte stands for as a digit, 0 to 9 and A to F; 16 where it is none.
+pub fn hex_digit(x: u8) -> u64
+    ensures { λ r. ⌜ r ≡ hexDigit x ⌝ }
 {
-    if x < 65 {
+    if x < 48 {
+        return 16;
+    }
+    if x < 58 {
         return x as u64 - 48;
     }
-    x as u64 - 55
+    if x < 65 {
+        return 16;
+    }
+    if x < 71 {
+        return x as u64 - 55;
+    }
+    16
 }
 
 // The first numbers are decimal, the others hexadecimal.
@@ -28,7 +36,7 @@ fn next_value(decimals: usize, x: u8, k: usize, value: u32) -> u32
     if x < 48 {
         return 0;
     }
-    ((value as u64 * base_at(decimals, k) + digit_of(x)) % 0x1_0000_0000) as u32
+    ((value as u64 * base_at(decimals, k) + hex_digit(x)) % 0x1_0000_0000) as u32
 }
 
 fn next_count(x: u8, k: usize) -> usize

@@ -58,7 +58,8 @@ pub fn proxy_distance<'a, 'b>(
     pair: u32,
     cache: SimplexCache,
 ) -> Distance
-    ensures { λ r. ⌜ r ≡ proxyDistance binary32 pos12 (now («proxy_a» .entry .points)) («proxy_a» .entry .radius) (now («proxy_b» .entry .points)) («proxy_b» .entry .radius) «use_radii» pair cache ⌝ }
+    ensures { λ r. ⌜ r ≡ proxyDistance binary32 pos12 (now («proxy_a» .entry .points)) («proxy_a» .entry .radius) (now («proxy_b» .entry .points))
+        («proxy_b» .entry .radius) «use_radii» pair cache ⌝ }
 {
     distance::proxy_distance::proxy_distance(
         pos12,
@@ -81,7 +82,8 @@ pub fn sweep_time_of_impact<'a, 'b>(
     max_fraction: f32,
     linear_slop: f32,
 ) -> Swept
-    ensures { λ r. ⌜ r ≡ sweep binary32 (now («proxy_a» .entry .points)) («proxy_a» .entry .radius) «sweep_a» (now («proxy_b» .entry .points)) («proxy_b» .entry .radius) «sweep_b» «max_fraction» «linear_slop» ⌝ }
+    ensures { λ r. ⌜ r ≡ sweep binary32 (now («proxy_a» .entry .points)) («proxy_a» .entry .radius) «sweep_a» (now («proxy_b» .entry .points))
+        («proxy_b» .entry .radius) «sweep_b» «max_fraction» «linear_slop» ⌝ }
 {
     sweep_toi::sweep_time_of_impact(
         proxy_a.points,

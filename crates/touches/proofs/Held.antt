@@ -11,9 +11,9 @@ use Rattle.integers.specs.Polynomial.{var, lit, _:+_, _:-_, _:*_}
 use Rattle.integers.proofs.Signed.{⊠-cong, ⊠-nonneg, ⊠-square}
 use Rattle.integers.proofs.Sized.{within-product}
 use Rattle.integers.proofs.Ring.{ring}
-use Rattle.exact.specs.Plane.{Point, sum, difference, scaled, dot, total, sumBelow}
-use Rattle.exact.specs.Outline.{PointOf, divisor, dividend}
-use Rattle.exact.proofs.Weights.{⊠-mono, onCorners, moved-to-corners}
+use Rattle.plane.specs.Plane.{Point, sum, difference, scaled, dot, total, sumBelow}
+use Rattle.plane.specs.Outline.{PointOf, divisor, dividend}
+use Rattle.plane.proofs.Weights.{⊠-mono, onCorners, moved-to-corners}
 use Rattle.whole_move.proofs.Lengths.{longer}
 use Rattle.whole_move.proofs.Turns.{square-within}
 use Rattle.whole_way.specs.Mover.{Mover}
@@ -66,8 +66,13 @@ corner-inside unit R X v hx hy h =
     let M = ofNat (2 * unit) in
     let nR = n ⊠ ofNat R in
     let t = ofNat (3 * unit) in
-    let d-short : dot d d ≼ t ⊠ t = omega (arith, nine unit, square-within (d .x) M (omega (arith, hx .upper)) (omega (arith, hx .lower)), square-within
-        (d .y) M (omega (arith, hy .upper)) (omega (arith, hy .lower))) in
+    let d-short : dot d d ≼ t ⊠ t = omega (
+      arith,
+      nine unit,
+      square-within (d .x) M (omega (arith, hx .upper)) (omega (arith, hx .lower)),
+      square-within
+          (d .y) M (omega (arith, hy .upper)) (omega (arith, hy .lower)),
+    ) in
     let both = longer big d nR t (⊠-nonneg n (ofNat R) (omega arith) (omega arith)) (omega arith) (scaled-within n (ofNat R) v h) d-short in
     let all : nR ⊞ t ≃ ofNat (unit * (R + 3)) = omega (arith, nat-product unit R) in
     omega (
@@ -90,8 +95,14 @@ near-small k s e a z h l =
 
 -- made `finer` times as large, with other centres
 abbrev pub sized : ℕ → Point → Point → Mover → Mover
-sized finer c d o = record { count = o .count; corner = λ i. scaled (ofNat finer) (o .corner i); centre1 = c; centre2 = d; heading1 = o .heading1;
-    heading2 = o .heading2 }
+sized finer c d o = record {
+  count = o .count;
+  corner = λ i. scaled (ofNat finer) (o .corner i);
+  centre1 = c;
+  centre2 = d;
+  heading1 = o .heading1;
+  heading2 = o .heading2;
+}
 
 abbrev pub wholeAt : ℕ → ℕ
 wholeAt k = momentAt k .u + momentAt k .w
@@ -162,8 +173,13 @@ module _ (k unit finer : ℕ) (early : k ≤ 16777216) (some-unit : 0 < unit) wh
       seen-small =
           let px = within-product U 1207959552 (ofNat U) (intOf (P .x)) (itself U) (size-within 1207959552 (P .x) (small .x)) in
           let py = within-product U 1207959552 (ofNat U) (intOf (P .y)) (itself U) (size-within 1207959552 (P .y) (small .y)) in
-          record { x = record { upper = omega (arith, px .upper); lower = omega (arith, px .lower) }; y = record { upper = omega (arith, py .upper);
-              lower = omega (arith, py .lower) } }
+          record {
+            x = record { upper = omega (arith, px .upper); lower = omega (arith, px .lower) };
+            y = record {
+              upper = omega (arith, py .upper);
+              lower = omega (arith, py .lower);
+            };
+          }
 
       module _ (z E : ℕ) (tame : z ≤ 134217728) (reach : 5 * ((g .reach + 3) * (z + 1)) ≤ 8589934592 * E)
           (long : ofNat 1152921504606846976 ⊞ ofNat (Window.spread U z r) ≼ dot (pointOf P) (pointOf P) ⊞ ofNat (1073741824 * z))
@@ -174,7 +190,7 @@ module _ (k unit finer : ℕ) (early : k ≤ 16777216) (some-unit : 0 < unit) wh
         within i h =
             let h' : i < length xs = omega (arith, stands .count) in
             corner-inside unit (g .reach) (scaled (ofNat finer) (o .corner i)) (cornerOf xs ys i) (stands .corner i h' .x) (stands .corner i h' .y) (inside
-                i h')
+            i h')
 
         abbrev seen : Seen (momentAt k) (Window.F U z r) (Window.slack U z r) (1073741824 * l) body p (U * unit * (1073741824 * E)) (scaled (ofNat U)
             (pointOf P))
@@ -225,13 +241,22 @@ module _ (k unit finer : ℕ) (early : k ≤ 16777216) (some-unit : 0 < unit) wh
             let mx = moved-to-corners X (three i0 i1 i2) (o .count) 3 (three w0 w1 w2) named .1 in
             let my = moved-to-corners Y (three i0 i1 i2) (o .count) 3 (three w0 w1 w2) named .1 in
             let px = point-part w0 w1 w2 unit heldTotal (X i0) (X i1) (X i2) (cornerOf xs ys i0 .x) (cornerOf xs ys i1 .x) (cornerOf xs ys i2 .x) (intOf
-                (a .x)) (omega (arith, all, total-is)) (stands .corner i0 h0 .x) (stands .corner i1 h1 .x) (stands .corner i2 h2 .x)
+            (a .x)) (omega (arith, all, total-is)) (stands .corner i0 h0 .x) (stands .corner i1 h1 .x) (stands .corner i2 h2 .x)
             (retold (ofNat w0 ⊠ cornerOf xs ys i0 .x ⊞ ofNat w1 ⊠ cornerOf xs ys i1 .x ⊞ ofNat w2 ⊠ cornerOf xs ys i2 .x) (a .x) cut-x) in
             let py = point-part w0 w1 w2 unit heldTotal (Y i0) (Y i1) (Y i2) (cornerOf xs ys i0 .y) (cornerOf xs ys i1 .y) (cornerOf xs ys i2 .y) (intOf
-                (a .y)) (omega (arith, all, total-is)) (stands .corner i0 h0 .y) (stands .corner i1 h1 .y) (stands .corner i2 h2 .y)
+            (a .y)) (omega (arith, all, total-is)) (stands .corner i0 h0 .y) (stands .corner i1 h1 .y) (stands .corner i2 h2 .y)
             (retold (ofNat w0 ⊠ cornerOf xs ys i0 .y ⊞ ofNat w1 ⊠ cornerOf xs ys i1 .y ⊞ ofNat w2 ⊠ cornerOf xs ys i2 .y) (a .y) cut-y) in
-            record { x = record { upper = omega (arith, mx, px .upper); lower = omega (arith, mx, px .lower) }; y = record { upper = omega (arith, my,
-                py .upper); lower = omega (arith, my, py .lower) } }
+            record {
+              x = record { upper = omega (arith, mx, px .upper); lower = omega (arith, mx, px .lower) };
+              y = record {
+                upper = omega (
+                  arith,
+                  my,
+                  py .upper,
+                );
+                lower = omega (arith, my, py .lower);
+              };
+            }
 
         pub point-small : Small (unit * heldTotal * 536870912 + 3 * (unit * heldTotal)) (dividend (frame body) heldPoint)
         point-small = record {

@@ -9,7 +9,7 @@ use lib.ListN.{length}
 use Rattle.integers.specs.Signed.{Int, ofNat, _⊞_, _⊟_, _⊠_, _≼_, _≃_}
 use Rattle.integers.specs.Polynomial.{var, _:+_, _:*_}
 use Rattle.integers.proofs.Ring.{ring}
-use Rattle.exact.specs.Plane.{Point, dot}
+use Rattle.plane.specs.Plane.{Point, dot}
 use Rattle.pairs.specs.declared.Vector.{Vector}
 use Rattle.pairs.specs.Pairs.{pointOf, Sized}
 use Rattle.board.specs.declared.GridBody.{GridBody}
@@ -73,7 +73,7 @@ held-by o xs ys k l i0 i1 i2 w0 w1 w2 r E arc point place some at seen blur weig
 
 pub gripped-by : (job : GridJob) (k : ℕ) (g : Grip) (axs ays bxs bys : List ℕ) (a b : Hold) → k ≤ 16777216 → Names g (length axs) (length bxs)
     → HeldAt (job .a) axs ays k (g .la) (g .i0) (g .i1) (g .i2) (g .w0) (g .w1) (g .w2) a → HeldAt (job .b) bxs bys k (g .lb) (g .j0) (g .j1) (g .j2)
-        (g .w0) (g .w1) (g .w2) b
+    (g .w0) (g .w1) (g .w2) b
     → Decided job k a b → Gripped job k g axs ays bxs bys
 gripped-by job k g axs ays bxs bys a b early names ha hb d = record {
   early = early;

@@ -44,23 +44,48 @@ turn-part T u w l unit H r h1 h2 q1 q2 L P whole c1 c2 c3 c4 blur =
     let d4 = k ⊠ L ⊟ c ⊠ P in
     let x1 = within-product u unit U d1 (itself u) c1 in
     let x2 = within-product w unit W d2 (itself w) c2 in
-    let x12 : Within (u * unit + w * unit) (U ⊠ d1 ⊞ W ⊠ d2) = record { upper = omega (arith, x1 .upper, x2 .upper); lower = omega (arith, x1 .lower,
-        x2 .lower) } in
+    let x12 : Within (u * unit + w * unit) (U ⊠ d1 ⊞ W ⊠ d2) = record {
+      upper = omega (arith, x1 .upper, x2 .upper);
+      lower = omega (
+        arith,
+        x1 .lower,
+        x2 .lower,
+      );
+    } in
     let y1 = within-product l (u * unit + w * unit) k (U ⊠ d1 ⊞ W ⊠ d2) (itself l) x12 in
     let y2 = within-product l (unit * H) k (n ⊠ d3) (itself l) (within-product unit H n d3 (itself unit) c3) in
     let y3 = within-product unit (H * 67108864) n (h ⊠ d4) (itself unit) (within-product H 67108864 h d4 (itself H) c4) in
     let same = ring (var 0 :* var 1 :* (var 2 :* var 3 :+ var 4 :* var 5) :- var 6 :* (var 7 :* var 8) :* var 9)
     (var 1 :* (var 2 :* (var 0 :* var 3 :- var 6 :* var 10) :+ var 4 :* (var 0 :* var 5 :- var 6 :* var 11)) :+ var 1 :* (var 6 :* (var 2 :* var 10 :+ var
-        4 :* var 11 :- var 7 :* var 12)) :+ var 6 :* (var 7 :* (var 1 :* var 12 :- var 8 :* var 9)))
+    4 :* var 11 :- var 7 :* var 12)) :+ var 6 :* (var 7 :* (var 1 :* var 12 :- var 8 :* var 9)))
     (t ∷ k ∷ U ∷ h1 ∷ W ∷ h2 ∷ n ∷ h ∷ c ∷ P ∷ q1 ∷ q2 ∷ L ∷ []) tt in
     let X = U ⊠ h1 ⊞ W ⊠ h2 in
     let s-is = ⊠-cong (ofNat (T * l)) (t ⊠ k) X X (nat-product T l) (omega arith) in
-    let U-is = ⊠-cong (ofNat (unit * (H * 67108864))) (n ⊠ (h ⊠ c)) P P (omega (arith, nat-product unit (H * 67108864), ⊠-cong n n (ofNat (H * 67108864))
-        (h ⊠ c) (omega arith) (nat-product H 67108864))) (omega arith) in
-    let room : l * (u * unit + w * unit) + l * (unit * H) + unit * (H * 67108864) ≤ unit * (H * 67108864) * r = omega (arith, ap (λ (j : ℕ). l * unit * j)
-        whole, mul-le-mul-left (unit * H * 2) blur) in
-    record { upper = omega (arith, same, s-is, U-is, room, y1 .upper, y2 .upper, y3 .upper); lower = omega (arith, same, s-is, U-is, room, y1 .lower,
-        y2 .lower, y3 .lower) }
+    let U-is = ⊠-cong (ofNat (unit * (H * 67108864))) (n ⊠ (h ⊠ c)) P P (omega (
+      arith,
+      nat-product unit (H * 67108864),
+      ⊠-cong n n (ofNat (H * 67108864))
+          (h ⊠ c) (omega arith) (nat-product H 67108864),
+    )) (omega arith) in
+    let room : l * (u * unit + w * unit) + l * (unit * H) + unit * (H * 67108864) ≤ unit * (H * 67108864) * r = omega (
+      arith,
+      ap (λ (j : ℕ). l * unit * j)
+          whole,
+      mul-le-mul-left (unit * H * 2) blur,
+    ) in
+    record {
+      upper = omega (arith, same, s-is, U-is, room, y1 .upper, y2 .upper, y3 .upper);
+      lower = omega (
+        arith,
+        same,
+        s-is,
+        U-is,
+        room,
+        y1 .lower,
+        y2 .lower,
+        y3 .lower,
+      );
+    }
 
 -- the centre, u c1 + w c2
 pub centre-part : (u w unit H : ℕ) (c1 c2 d1 d2 D : Int) → u + w ≡ H → Within (2 * unit) (c1 ⊟ ofNat unit ⊠ d1) → Within (2 * unit) (c2 ⊟ ofNat unit ⊠ d2)
@@ -77,11 +102,21 @@ centre-part u w unit H c1 c2 d1 d2 D whole h1 h2 h3 =
     let y2 = within-product w (2 * unit) W e2 (itself w) h2 in
     let y3 = within-product unit H n e3 (itself unit) h3 in
     let same = ring (var 0 :* var 1 :+ var 2 :* var 3 :- var 4 :* var 5 :* var 6) (var 0 :* (var 1 :- var 4 :* var 7) :+ var 2 :* (var 3 :- var 4 :* var 8)
-        :+ var 4 :* (var 0 :* var 7 :+ var 2 :* var 8 :- var 5 :* var 6)) (U ∷ c1 ∷ W ∷ c2 ∷ n ∷ h ∷ D ∷ d1 ∷ d2 ∷ []) tt in
+    :+ var 4 :* (var 0 :* var 7 :+ var 2 :* var 8 :- var 5 :* var 6)) (U ∷ c1 ∷ W ∷ c2 ∷ n ∷ h ∷ D ∷ d1 ∷ d2 ∷ []) tt in
     let n-is = ⊠-cong (ofNat (unit * H)) (n ⊠ h) D D (nat-product unit H) (omega arith) in
     let room : u * (2 * unit) + w * (2 * unit) + unit * H ≤ 3 * (unit * H) = omega (arith, ap (λ (j : ℕ). unit * j) whole) in
-    record { upper = omega (arith, same, n-is, room, y1 .upper, y2 .upper, y3 .upper); lower = omega (arith, same, n-is, room, y1 .lower, y2 .lower,
-        y3 .lower) }
+    record {
+      upper = omega (arith, same, n-is, room, y1 .upper, y2 .upper, y3 .upper);
+      lower = omega (
+        arith,
+        same,
+        n-is,
+        room,
+        y1 .lower,
+        y2 .lower,
+        y3 .lower,
+      );
+    }
 
 -- a weighted sum of three parts X, each within 2 unit of unit v
 pub point-part : (w0 w1 w2 unit W : ℕ) (X0 X1 X2 v0 v1 v2 a : Int) → w0 + w1 + w2 ≡ W → Within (2 * unit) (X0 ⊟ ofNat unit ⊠ v0) → Within (2 * unit) (X1 ⊟
@@ -104,12 +139,23 @@ point-part w0 w1 w2 unit W X0 X1 X2 v0 v1 v2 a whole h0 h1 h2 h3 =
     let y3 = within-product unit W n e3 (itself unit) h3 in
     let same = ring (var 0 :* var 3 :+ var 1 :* var 4 :+ var 2 :* var 5 :- var 6 :* var 7 :* var 8)
     (var 0 :* (var 3 :- var 6 :* var 9) :+ var 1 :* (var 4 :- var 6 :* var 10) :+ var 2 :* (var 5 :- var 6 :* var 11) :+ var 6 :* (var 0 :* var 9 :+ var 1
-        :* var 10 :+ var 2 :* var 11 :- var 7 :* var 8))
+    :* var 10 :+ var 2 :* var 11 :- var 7 :* var 8))
     (a0 ∷ a1 ∷ a2 ∷ X0 ∷ X1 ∷ X2 ∷ n ∷ t ∷ a ∷ v0 ∷ v1 ∷ v2 ∷ []) tt in
     let n-is = ⊠-cong (ofNat (unit * W)) (n ⊠ t) a a (nat-product unit W) (omega arith) in
     let room : w0 * (2 * unit) + w1 * (2 * unit) + w2 * (2 * unit) + unit * W ≤ 3 * (unit * W) = omega (arith, ap (λ (j : ℕ). unit * j) whole) in
-    record { upper = omega (arith, same, n-is, room, y0 .upper, y1 .upper, y2 .upper, y3 .upper); lower = omega (arith, same, n-is, room, y0 .lower,
-        y1 .lower, y2 .lower, y3 .lower) }
+    record {
+      upper = omega (arith, same, n-is, room, y0 .upper, y1 .upper, y2 .upper, y3 .upper);
+      lower = omega (
+        arith,
+        same,
+        n-is,
+        room,
+        y0 .lower,
+        y1 .lower,
+        y2 .lower,
+        y3 .lower,
+      );
+    }
 
 -- each part of a turn of the point, and of what is left of it: the last rounding. Z is all scales together.
 pub last-part : (Z : ℕ) (pa pb xa xb d x : Int) → Within 1073741824 (pa ⊟ ofNat 1073741824 ⊠ xa) → Within 1073741824 (pb ⊟ ofNat 1073741824 ⊠ xb) → x ≃
@@ -118,10 +164,16 @@ pub last-part : (Z : ℕ) (pa pb xa xb d x : Int) → Within 1073741824 (pa ⊟ 
 last-part Z pa pb xa xb d x ha hb hx =
     let z = ofNat Z in
     let c = ofNat 1073741824 in
-    let e : Within 2147483648 (pa ⊟ c ⊠ xa ⊟ (pb ⊟ c ⊠ xb)) = record { upper = omega (arith, ha .upper, hb .lower); lower = omega (arith, ha .lower,
-        hb .upper) } in
+    let e : Within 2147483648 (pa ⊟ c ⊠ xa ⊟ (pb ⊟ c ⊠ xb)) = record {
+      upper = omega (arith, ha .upper, hb .lower);
+      lower = omega (
+        arith,
+        ha .lower,
+        hb .upper,
+      );
+    } in
     let y = within-product Z 2147483648 z (pa ⊟ c ⊠ xa ⊟ (pb ⊟ c ⊠ xb)) (itself Z) e in
     let x-is = ⊠-cong (ofNat (Z * 1073741824)) (z ⊠ c) (0Int ⊟ x) (0Int ⊟ (xb ⊞ d ⊟ xa)) (nat-product Z 1073741824) (omega (arith, hx)) in
     let same = ring (var 0 :* (var 2 :- var 1 :* var 6 :- var 3) :- var 0 :* var 1 :* (lit 0Int :- (var 5 :+ var 6 :- var 4))) (var 0 :* (var 2 :- var 1 :*
-        var 4 :- (var 3 :- var 1 :* var 5))) (z ∷ c ∷ pa ∷ pb ∷ xa ∷ xb ∷ d ∷ []) tt in
+    var 4 :- (var 3 :- var 1 :* var 5))) (z ∷ c ∷ pa ∷ pb ∷ xa ∷ xb ∷ d ∷ []) tt in
     record { upper = omega (arith, same, x-is, y .upper); lower = omega (arith, same, x-is, y .lower) }

@@ -6,8 +6,8 @@ use Rattle.integers.specs.Signed.{Int, 0Int, ofNat, _⊞_, _⊟_, _⊠_, _≼_,
 use Rattle.integers.specs.Polynomial.{var, lit, _:+_, _:-_, _:*_}
 use Rattle.integers.proofs.Signed.{⊠-cong, ⊠-cong-r, ⊠-pos}
 use Rattle.integers.proofs.Ring.{ring}
-use Rattle.exact.specs.Plane.{Point, difference, scaled, dot, total, sumBelow}
-use Rattle.exact.specs.Outline.{PointOf, divisor, dividend, gap}
+use Rattle.plane.specs.Plane.{Point, difference, scaled, dot, total, sumBelow}
+use Rattle.plane.specs.Outline.{PointOf, divisor, dividend, gap}
 use Rattle.whole_move.specs.Piece.{Moment, whole}
 use Rattle.whole_way.specs.Mover.{Mover, on, headingAt, TurnAt, cornerAt}
 use Rattle.whole_move.proofs.Turns.{cancel}
@@ -16,8 +16,12 @@ use Rattle.whole_touch.specs.Touch.{AtMostApart, frame, outlineAt, carried, Tou
 -- ---- weighted sums of numbers that are k times as large, and moved by c
 moved-sum : (weight : ℕ → ℕ) (z z' : ℕ → Int) (k c : Int) → ((i : ℕ) → k ⊠ z i ≃ z' i ⊞ c) → (n : ℕ)
     → k ⊠ sumBelow n (λ i. ofNat (weight i) ⊠ z i) ≃ sumBelow n (λ i. ofNat (weight i) ⊠ z' i) ⊞ ofNat (total n weight) ⊠ c
-moved-sum weight z z' k c each zero = omega (arith, ring (var 0 :* lit 0Int) (lit 0Int :* var 1) (k ∷ c ∷ []) tt, ring (lit 0Int :* var 0) (lit 0Int) (c ∷
-    []) tt)
+moved-sum weight z z' k c each zero = omega (
+  arith,
+  ring (var 0 :* lit 0Int) (lit 0Int :* var 1) (k ∷ c ∷ []) tt,
+  ring (lit 0Int :* var 0) (lit 0Int) (c ∷
+      []) tt,
+)
 moved-sum weight z z' k c each (suc n) = omega (
   arith,
   moved-sum weight z z' k c each n,
@@ -72,14 +76,14 @@ module _ (finer : ℕ) (a b : Mover) where
           ≃ tU ⊠ (sU ⊠ (u ⊠ 0Int ⊞ w ⊠ 0Int) ⊞ over ⊠ H ⊠ (L .x ⊠ (f ⊠ v .x) ⊟ L .y ⊠ (f ⊠ v .y))) ⊞ sU ⊠ tU ⊠ (f ⊠ (u ⊠ c ⊞ w ⊠ d))
       first-x c d = ring (var 0 :* (var 1 :* (var 2 :* (var 3 :* var 4 :+ var 5 :* var 6) :+ var 7 :* var 8 :* (var 9 :* var 10 :- var 11 :* var 12))))
           (var 1 :* (var 2 :* (var 3 :* lit 0Int :+ var 5 :* lit 0Int) :+ var 7 :* var 8 :* (var 9 :* (var 0 :* var 10) :- var 11 :* (var 0 :* var 12))) :+
-              var 2 :* var 1 :* (var 0 :* (var 3 :* var 4 :+ var 5 :* var 6)))
+          var 2 :* var 1 :* (var 0 :* (var 3 :* var 4 :+ var 5 :* var 6)))
           (f ∷ tU ∷ sU ∷ u ∷ c ∷ w ∷ d ∷ over ∷ H ∷ L .x ∷ v .x ∷ L .y ∷ v .y ∷ []) tt
 
       first-y : (c d : Int) → f ⊠ (tU ⊠ (sU ⊠ (u ⊠ c ⊞ w ⊠ d) ⊞ over ⊠ H ⊠ (L .y ⊠ v .x ⊞ L .x ⊠ v .y)))
           ≃ tU ⊠ (sU ⊠ (u ⊠ 0Int ⊞ w ⊠ 0Int) ⊞ over ⊠ H ⊠ (L .y ⊠ (f ⊠ v .x) ⊞ L .x ⊠ (f ⊠ v .y))) ⊞ sU ⊠ tU ⊠ (f ⊠ (u ⊠ c ⊞ w ⊠ d))
       first-y c d = ring (var 0 :* (var 1 :* (var 2 :* (var 3 :* var 4 :+ var 5 :* var 6) :+ var 7 :* var 8 :* (var 11 :* var 10 :+ var 9 :* var 12))))
           (var 1 :* (var 2 :* (var 3 :* lit 0Int :+ var 5 :* lit 0Int) :+ var 7 :* var 8 :* (var 11 :* (var 0 :* var 10) :+ var 9 :* (var 0 :* var 12))) :+
-              var 2 :* var 1 :* (var 0 :* (var 3 :* var 4 :+ var 5 :* var 6)))
+          var 2 :* var 1 :* (var 0 :* (var 3 :* var 4 :+ var 5 :* var 6)))
           (f ∷ tU ∷ sU ∷ u ∷ c ∷ w ∷ d ∷ over ∷ H ∷ L .x ∷ v .x ∷ L .y ∷ v .y ∷ []) tt
 
       other-x : (c d c' d' : Int) → f ⊠ (sU ⊠ (tU ⊠ (u ⊠ c' ⊞ w ⊠ d') ⊞ over ⊠ H ⊠ (L .x ⊠ v .x ⊟ L .y ⊠ v .y)))
@@ -87,7 +91,7 @@ module _ (finer : ℕ) (a b : Mover) where
       other-x c d c' d' = ring (var 0 :* (var 2 :* (var 1 :* (var 3 :* var 13 :+ var 5 :* var 14) :+ var 7 :* var 8 :* (var 9 :* var 10 :- var 11 :* var
           12))))
           (var 2 :* (var 1 :* (var 3 :* (var 0 :* (var 13 :- var 4)) :+ var 5 :* (var 0 :* (var 14 :- var 6))) :+ var 7 :* var 8 :* (var 9 :* (var 0 :* var
-              10) :- var 11 :* (var 0 :* var 12))) :+ var 2 :* var 1 :* (var 0 :* (var 3 :* var 4 :+ var 5 :* var 6)))
+          10) :- var 11 :* (var 0 :* var 12))) :+ var 2 :* var 1 :* (var 0 :* (var 3 :* var 4 :+ var 5 :* var 6)))
           (f ∷ tU ∷ sU ∷ u ∷ c ∷ w ∷ d ∷ over ∷ H ∷ L .x ∷ v .x ∷ L .y ∷ v .y ∷ c' ∷ d' ∷ []) tt
 
       other-y : (c d c' d' : Int) → f ⊠ (sU ⊠ (tU ⊠ (u ⊠ c' ⊞ w ⊠ d') ⊞ over ⊠ H ⊠ (L .y ⊠ v .x ⊞ L .x ⊠ v .y)))
@@ -95,7 +99,7 @@ module _ (finer : ℕ) (a b : Mover) where
       other-y c d c' d' = ring (var 0 :* (var 2 :* (var 1 :* (var 3 :* var 13 :+ var 5 :* var 14) :+ var 7 :* var 8 :* (var 11 :* var 10 :+ var 9 :* var
           12))))
           (var 2 :* (var 1 :* (var 3 :* (var 0 :* (var 13 :- var 4)) :+ var 5 :* (var 0 :* (var 14 :- var 6))) :+ var 7 :* var 8 :* (var 11 :* (var 0 :*
-              var 10) :+ var 9 :* (var 0 :* var 12))) :+ var 2 :* var 1 :* (var 0 :* (var 3 :* var 4 :+ var 5 :* var 6)))
+          var 10) :+ var 9 :* (var 0 :* var 12))) :+ var 2 :* var 1 :* (var 0 :* (var 3 :* var 4 :+ var 5 :* var 6)))
           (f ∷ tU ∷ sU ∷ u ∷ c ∷ w ∷ d ∷ over ∷ H ∷ L .x ∷ v .x ∷ L .y ∷ v .y ∷ c' ∷ d' ∷ []) tt
 
     -- one part of the gap
@@ -150,10 +154,22 @@ module _ (finer : ℕ) (a b : Mover) where
           let tU = ofNat (t .under) in
           let sO = ofNat (s .over) in
           let tO = ofNat (t .over) in
-          let s' : TurnAt m S resizedA = record { over = s .over; under = s .under; some = s .some; long-enough = s .long-enough; short-enough =
-              s .short-enough } in
-          let t' : TurnAt m S resizedB = record { over = t .over; under = t .under; some = t .some; long-enough = t .long-enough; short-enough =
-              t .short-enough } in
+          let s' : TurnAt m S resizedA = record {
+            over = s .over;
+            under = s .under;
+            some = s .some;
+            long-enough = s .long-enough;
+            short-enough =
+                s .short-enough;
+          } in
+          let t' : TurnAt m S resizedB = record {
+            over = t .over;
+            under = t .under;
+            some = t .some;
+            long-enough = t .long-enough;
+            short-enough =
+                t .short-enough;
+          } in
           let A = divisor (frame a) p in
           let B = divisor (frame b) q in
           let LA = headingAt m a in
@@ -169,13 +185,13 @@ module _ (finer : ℕ) (a b : Mover) where
           let cx = sU ⊠ tU ⊠ (f ⊠ (u ⊠ a .centre1 .x ⊞ w ⊠ a .centre2 .x)) in
           let cy = sU ⊠ tU ⊠ (f ⊠ (u ⊠ a .centre1 .y ⊞ w ⊠ a .centre2 .y)) in
           let ax = moved-sum (p .weight) (λ i. oa .corner i .x) (λ i. ra .corner i .x) f cx (λ i. first-x sU tU sO LA (a .corner i) (a .centre1 .x)
-              (a .centre2 .x)) (a .count) in
+          (a .centre2 .x)) (a .count) in
           let ay = moved-sum (p .weight) (λ i. oa .corner i .y) (λ i. ra .corner i .y) f cy (λ i. first-y sU tU sO LA (a .corner i) (a .centre1 .y)
-              (a .centre2 .y)) (a .count) in
+          (a .centre2 .y)) (a .count) in
           let bx = moved-sum (q .weight) (λ i. ob .corner i .x) (λ i. rb .corner i .x) f cx (λ i. other-x sU tU tO LB (b .corner i) (a .centre1 .x)
-              (a .centre2 .x) (b .centre1 .x) (b .centre2 .x)) (b .count) in
+          (a .centre2 .x) (b .centre1 .x) (b .centre2 .x)) (b .count) in
           let by = moved-sum (q .weight) (λ i. ob .corner i .y) (λ i. rb .corner i .y) f cy (λ i. other-y sU tU tO LB (b .corner i) (a .centre1 .y)
-              (a .centre2 .y) (b .centre1 .y) (b .centre2 .y)) (b .count) in
+          (a .centre2 .y) (b .centre1 .y) (b .centre2 .y)) (b .count) in
           shrunk (gap oa ob pa qb) (gap ra rb pa' qb') (A ⊠ B ⊠ (sU ⊠ tU ⊠ H ⊠ ofNat keep)) (A ⊠ B ⊠ (sU ⊠ tU ⊠ H ⊠ ofNat (finer * keep))) some
           (gap-part A B cx (dividend oa pa .x) (dividend ob qb .x) (dividend ra pa' .x) (dividend rb qb' .x) ax bx)
           (gap-part A B cy (dividend oa pa .y) (dividend ob qb .y) (dividend ra pa' .y) (dividend rb qb' .y) ay by)

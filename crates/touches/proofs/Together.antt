@@ -10,7 +10,7 @@ use Rattle.integers.specs.Whole.{Within}
 use Rattle.integers.specs.Polynomial.{var, lit, _:+_, _:-_, _:*_}
 use Rattle.integers.proofs.Signed.{⊠-cong, ⊠-cong-r, ⊠-square}
 use Rattle.integers.proofs.Ring.{ring}
-use Rattle.exact.specs.Plane.{Point, difference, scaled, dot, total}
+use Rattle.plane.specs.Plane.{Point, difference, scaled, dot, total}
 use Rattle.whole_move.specs.Blend.{twice}
 use Rattle.whole_move.specs.Piece.{turnedBy, whole}
 use Rattle.whole_move.proofs.Turns.{square-within}
@@ -38,7 +38,7 @@ rounded e D h = omega (arith, mul-le-mul-left (3 * e) h, mul-le-mul-left (2 * D)
 
 in-numbers : (W U unit room ea eb ra rb down far : ℕ) → room + ea + eb + 30 + 2 * (ra + rb) ≤ down → down * unit ≤ far
     → W * (U * unit) * 1073741824 * room + W * (U * unit) * (1073741824 * (30 + 2 * (ra + rb))) + W * (U * unit * (1073741824 * ea) + U * unit *
-        (1073741824 * eb)) ≤ W * (U * 1073741824 * far)
+    (1073741824 * eb)) ≤ W * (U * 1073741824 * far)
 in-numbers W U unit room ea eb ra rb down far h l = omega (arith, mul-le-mul-left (W * (U * unit) * 1073741824) h, mul-le-mul-left (W * U * 1073741824) l)
 
 module _ (wa wb H U unit : ℕ) where
@@ -48,7 +48,7 @@ module _ (wa wb H U unit : ℕ) where
   rounding-fits : (ra rb : ℕ)
       → 3 * (wb * (U * 1073741824 * wa * 0 + H * (2 * (U * ra * (unit * wa * 536870912 + 3 * (unit * wa)) + 3 * (unit * wa) * (U * (1207959552 + ra)))))
       + wa * (U * 1073741824 * wb * (3 * (unit * H)) + H * (2 * (U * rb * (unit * wb * 536870912 + 3 * (unit * wb)) + 3 * (unit * wb) * (U * (1207959552 +
-          rb))))) + allScales * 2147483648)
+      rb))))) + allScales * 2147483648)
       ≤ 2 * (allScales * (1073741824 * (30 + 2 * (ra + rb))))
   rounding-fits ra rb = omega arith
 
@@ -58,7 +58,7 @@ module _ (wa wb H U unit : ℕ) where
 
   enough-fits : (room ea eb ra rb down far : ℕ) → room + ea + eb + 30 + 2 * (ra + rb) ≤ down → down * unit ≤ far
       → ofNat (allScales * 1073741824) ⊠ ofNat room ⊞ ofNat (allScales * (1073741824 * (30 + 2 * (ra + rb)))) ⊞ ofNat wa ⊠ ofNat wb ⊠ ofNat H ⊠ (ofNat (U *
-          unit * (1073741824 * ea)) ⊞ ofNat (U * unit * (1073741824 * eb)))
+      unit * (1073741824 * ea)) ⊞ ofNat (U * unit * (1073741824 * eb)))
       ≼ ofNat wa ⊠ ofNat wb ⊠ ofNat H ⊠ (ofNat (U * 1073741824) ⊠ ofNat far)
   enough-fits room ea eb ra rb down far h l =
       let W = wa * wb * H in
@@ -105,41 +105,49 @@ module _ (wa wb H U unit : ℕ) where
         → let F = ofNat (U * 1073741824) in
         ofNat wb ⊠ (F ⊠ ofNat wa ⊠ 0Int ⊞ ofNat H ⊠ (ofNat U ⊠ P .x ⊠ (ofNat (unit * wa) ⊠ a .x) ⊟ ofNat U ⊠ P .y ⊠ (ofNat (unit * wa) ⊠ a .y)))
         ⊟ ofNat wa ⊠ (F ⊠ ofNat wb ⊠ (ofNat (unit * H) ⊠ d) ⊞ ofNat H ⊠ (ofNat U ⊠ Q .x ⊠ (ofNat (unit * wb) ⊠ b .x) ⊟ ofNat U ⊠ Q .y ⊠ (ofNat (unit *
-            wb) ⊠ b .y)))
+        wb) ⊠ b .y)))
         ≃ ofNat allScales ⊠ (turnedBy P a .x ⊟ ofNat 1073741824 ⊠ d ⊟ turnedBy Q b .x)
     parts-x d = scaled-parts _ (turnedBy P a .x) (turnedBy Q b .x) d (ring
         (var 0 :* (var 1 :* var 2 :* lit 0Int :+ var 3 :* (var 4 :* var 5 :* (var 6 :* var 7) :- var 4 :* var 8 :* (var 6 :* var 9))) :- var 2 :* (var 1 :*
-            var 0 :* (var 10 :* var 11) :+ var 3 :* (var 4 :* var 12 :* (var 13 :* var 14) :- var 4 :* var 15 :* (var 13 :* var 16))))
+        var 0 :* (var 10 :* var 11) :+ var 3 :* (var 4 :* var 12 :* (var 13 :* var 14) :- var 4 :* var 15 :* (var 13 :* var 16))))
         (var 0 :* var 3 :* var 4 :* var 6 :* (var 5 :* var 7 :- var 8 :* var 9) :- var 2 :* var 1 :* var 0 :* var 10 :* var 11 :- var 2 :* var 3 :* var 4
-            :* var 13 :* (var 12 :* var 14 :- var 15 :* var 16))
+        :* var 13 :* (var 12 :* var 14 :- var 15 :* var 16))
         (ofNat wb ∷ ofNat (U * 1073741824) ∷ ofNat wa ∷ ofNat H ∷ ofNat U ∷ P .x ∷ ofNat (unit * wa) ∷ a .x ∷ P .y ∷ a .y ∷ ofNat (unit * H) ∷ d ∷ Q .x ∷
-            ofNat (unit * wb) ∷ b .x ∷ Q .y ∷ b .y ∷ []) tt)
+        ofNat (unit * wb) ∷ b .x ∷ Q .y ∷ b .y ∷ []) tt)
 
     parts-y : (d : Int)
         → let F = ofNat (U * 1073741824) in
         ofNat wb ⊠ (F ⊠ ofNat wa ⊠ 0Int ⊞ ofNat H ⊠ (ofNat U ⊠ P .y ⊠ (ofNat (unit * wa) ⊠ a .x) ⊞ ofNat U ⊠ P .x ⊠ (ofNat (unit * wa) ⊠ a .y)))
         ⊟ ofNat wa ⊠ (F ⊠ ofNat wb ⊠ (ofNat (unit * H) ⊠ d) ⊞ ofNat H ⊠ (ofNat U ⊠ Q .y ⊠ (ofNat (unit * wb) ⊠ b .x) ⊞ ofNat U ⊠ Q .x ⊠ (ofNat (unit *
-            wb) ⊠ b .y)))
+        wb) ⊠ b .y)))
         ≃ ofNat allScales ⊠ (turnedBy P a .y ⊟ ofNat 1073741824 ⊠ d ⊟ turnedBy Q b .y)
     parts-y d = scaled-parts _ (turnedBy P a .y) (turnedBy Q b .y) d (ring
         (var 0 :* (var 1 :* var 2 :* lit 0Int :+ var 3 :* (var 4 :* var 8 :* (var 6 :* var 7) :+ var 4 :* var 5 :* (var 6 :* var 9))) :- var 2 :* (var 1 :*
-            var 0 :* (var 10 :* var 11) :+ var 3 :* (var 4 :* var 15 :* (var 13 :* var 14) :+ var 4 :* var 12 :* (var 13 :* var 16))))
+        var 0 :* (var 10 :* var 11) :+ var 3 :* (var 4 :* var 15 :* (var 13 :* var 14) :+ var 4 :* var 12 :* (var 13 :* var 16))))
         (var 0 :* var 3 :* var 4 :* var 6 :* (var 8 :* var 7 :+ var 5 :* var 9) :- var 2 :* var 1 :* var 0 :* var 10 :* var 11 :- var 2 :* var 3 :* var 4
-            :* var 13 :* (var 15 :* var 14 :+ var 12 :* var 16))
+        :* var 13 :* (var 15 :* var 14 :+ var 12 :* var 16))
         (ofNat wb ∷ ofNat (U * 1073741824) ∷ ofNat wa ∷ ofNat H ∷ ofNat U ∷ P .x ∷ ofNat (unit * wa) ∷ a .x ∷ P .y ∷ a .y ∷ ofNat (unit * H) ∷ d ∷ Q .x ∷
-            ofNat (unit * wb) ∷ b .x ∷ Q .y ∷ b .y ∷ []) tt)
+        ofNat (unit * wb) ∷ b .x ∷ Q .y ∷ b .y ∷ []) tt)
 
 -- ---- the theorem
 abbrev origin : Point
 origin = record { x = 0Int; y = 0Int }
 
 opposite-short : (x : Point) (r : Int) → dot x x ≼ r ⊠ r → dot (difference origin x) (difference origin x) ≼ r ⊠ r
-opposite-short x r h = omega (arith, ring (var 0 :* var 0 :+ var 1 :* var 1) ((lit 0Int :- var 0) :* (lit 0Int :- var 0) :+ (lit 0Int :- var 1) :* (lit
-    0Int :- var 1)) (x .x ∷ x .y ∷ []) tt)
+opposite-short x r h = omega (
+  arith,
+  ring (var 0 :* var 0 :+ var 1 :* var 1) ((lit 0Int :- var 0) :* (lit 0Int :- var 0) :+ (lit 0Int :- var 1) :* (lit
+      0Int :- var 1)) (x .x ∷ x .y ∷ []) tt,
+)
 
 nothing : (u w : Int) → Within 0 (u ⊠ 0Int ⊞ w ⊠ 0Int ⊟ 0Int)
-nothing u w = let e = ring (var 0 :* lit 0Int :+ var 1 :* lit 0Int) (lit 0Int) (u ∷ w ∷ []) tt in record { upper = omega (arith, e); lower = omega (arith,
-    e) }
+nothing u w = let e = ring (var 0 :* lit 0Int :+ var 1 :* lit 0Int) (lit 0Int) (u ∷ w ∷ []) tt in record {
+  upper = omega (arith, e);
+  lower = omega (
+    arith,
+    e,
+  );
+}
 
 module _ (job : GridJob) (k : ℕ) (g : Grip) (axs ays bxs bys : List ℕ) (fits : Fits job axs ays bxs bys) (h : Gripped job k g axs ays bxs bys)
     (unit finer : ℕ) (a b : Mover) (keep : ℕ) (stands : StandsFor unit finer job axs ays bxs bys a b keep) where
@@ -181,17 +189,17 @@ module _ (job : GridJob) (k : ℕ) (g : Grip) (axs ays bxs bys : List ℕ) (fits
   centreB = record {
     x = centre-part (16777216 - k) k unit H (B .centre1 .x) (B .centre2 .x) (intOf (job .d1 .x)) (intOf (job .d2 .x)) (intOf (h .centre .x)) (omega arith)
         (stands .centre1 .x) (stands .centre2 .x) (mid-within k unit finer (h .early) (stands .someUnit) (job .d1 .x) (job .d2 .x) (h .centre .x)
-            (h .mid .x .cut));
+        (h .mid .x .cut));
     y = centre-part (16777216 - k) k unit H (B .centre1 .y) (B .centre2 .y) (intOf (job .d1 .y)) (intOf (job .d2 .y)) (intOf (h .centre .y)) (omega arith)
         (stands .centre1 .y) (stands .centre2 .y) (mid-within k unit finer (h .early) (stands .someUnit) (job .d1 .y) (job .d2 .y) (h .centre .y)
-            (h .mid .y .cut));
+        (h .mid .y .cut));
   }
 
   last : Near (Z * 2147483648)
       (difference (scaled (ofNat wb) (placeFrom (momentAt k) (U * 1073741824) (ofNat wa) origin (scaled (ofNat U) (pointOf (h .turnA))) (scaled (ofNat
-          (unit * wa)) (pointOf (h .pointA)))))
+      (unit * wa)) (pointOf (h .pointA)))))
       (scaled (ofNat wa) (placeFrom (momentAt k) (U * 1073741824) (ofNat wb) (scaled (ofNat (unit * H)) (pointOf (h .centre))) (scaled (ofNat U) (pointOf
-          (h .turnB))) (scaled (ofNat (unit * wb)) (pointOf (h .pointB)))))) (scaled (ofNat (Z * 1073741824)) shown)
+      (h .turnB))) (scaled (ofNat (unit * wb)) (pointOf (h .pointB)))))) (scaled (ofNat (Z * 1073741824)) shown)
   last =
       let PA = pointOf (h .turnA) in
       let PB = pointOf (h .turnB) in
@@ -201,15 +209,24 @@ module _ (job : GridJob) (k : ℕ) (g : Grip) (axs ays bxs bys : List ℕ) (fits
       let xB = h .placeB in
       let c = h .centre in
       let lx = last-part Z (turnedBy PA pa .x) (turnedBy PB pb .x) (intOf (xA .x)) (intOf (xB .x)) (intOf (c .x)) (intOf (h .way .x)) (cut-within
-          1073741824 (turnedBy PA pa .x) (xA .x) (h .heldA .placed .x)) (cut-within 1073741824 (turnedBy PB pb .x) (xB .x) (h .heldB .placed .x))
-              (h .way-x) in
+      1073741824 (turnedBy PA pa .x) (xA .x) (h .heldA .placed .x)) (cut-within 1073741824 (turnedBy PB pb .x) (xB .x) (h .heldB .placed .x))
+      (h .way-x) in
       let ly = last-part Z (turnedBy PA pa .y) (turnedBy PB pb .y) (intOf (xA .y)) (intOf (xB .y)) (intOf (c .y)) (intOf (h .way .y)) (cut-within
-          1073741824 (turnedBy PA pa .y) (xA .y) (h .heldA .placed .y)) (cut-within 1073741824 (turnedBy PB pb .y) (xB .y) (h .heldB .placed .y))
-              (h .way-y) in
+      1073741824 (turnedBy PA pa .y) (xA .y) (h .heldA .placed .y)) (cut-within 1073741824 (turnedBy PB pb .y) (xB .y) (h .heldB .placed .y))
+      (h .way-y) in
       let ex = parts-x wa wb H U unit PA pa PB pb (intOf (c .x)) in
       let ey = parts-y wa wb H U unit PA pa PB pb (intOf (c .y)) in
-      record { x = record { upper = omega (arith, ex, lx .upper); lower = omega (arith, ex, lx .lower) }; y = record { upper = omega (arith, ey,
-          ly .upper); lower = omega (arith, ey, ly .lower) } }
+      record {
+        x = record { upper = omega (arith, ex, lx .upper); lower = omega (arith, ex, lx .lower) };
+        y = record {
+          upper = omega (
+            arith,
+            ey,
+            ly .upper,
+          );
+          lower = omega (arith, ey, ly .lower);
+        };
+      }
 
   both : SeenTouch (momentAt k) 1073741824 (finer * keep) A B
   both = record {
@@ -257,7 +274,7 @@ module _ (job : GridJob) (k : ℕ) (g : Grip) (axs ays bxs bys : List ℕ) (fits
       rounding : let e = wb * offBy (momentAt k) (U * 1073741824) wa 0 (heldA .seen .e) (3 * (unit * wa)) (unit * wa * 536870912 + 3 * (unit * wa))
           (heldA .seen .K)
           + wa * offBy (momentAt k) (U * 1073741824) wb (3 * (unit * H)) (heldB .seen .e) (3 * (unit * wb)) (unit * wb * 536870912 + 3 * (unit * wb))
-              (heldB .seen .K) + Z * 2147483648 in
+          (heldB .seen .K) + Z * 2147483648 in
           twice (ofNat e ⊠ ofNat e) ≼ ofNat (Z * (1073741824 * (30 + 2 * (h .ra + h .rb)))) ⊠ ofNat (Z * (1073741824 * (30 + 2 * (h .ra + h .rb))))
       rounding = rw (heldA .e-is, heldA .K-is, heldB .e-is, heldB .K-is) (rounded _ _ (rounding-fits wa wb H U unit (h .ra) (h .rb)))
 

@@ -7,8 +7,8 @@ use Rattle.integers.specs.Signed.{Int, 0Int, ofNat, _⊞_, _⊟_, _⊠_, _≼_,
 use Rattle.integers.specs.Polynomial.{var, lit, _:+_, _:-_, _:*_}
 use Rattle.integers.proofs.Signed.{⊠-square}
 use Rattle.integers.proofs.Ring.{ring}
-use Rattle.exact.specs.Plane.{Point, scaled, dot}
-use Rattle.exact.proofs.Weights.{⊠-mono}
+use Rattle.plane.specs.Plane.{Point, scaled, dot}
+use Rattle.plane.proofs.Weights.{⊠-mono}
 use Rattle.whole_move.proofs.Linear.{window-linear}
 
 module _ (U z r : ℕ) where

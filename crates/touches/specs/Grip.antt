@@ -5,7 +5,7 @@ use Prim.Native.Nat.{ℕ, _+_, _-_, _*_, _≤_, _<_}
 use native.Mathlib.Omega.{arith}
 use lib.ListN.{length, getD}
 use Rattle.integers.specs.Signed.{Int, ofNat, _⊞_, _⊟_, _⊠_, _≼_, _≃_}
-use Rattle.exact.specs.Plane.{Point, dot}
+use Rattle.plane.specs.Plane.{Point, dot}
 use Rattle.whole_move.specs.Piece.{turnedBy, Moment}
 use Rattle.whole_way.specs.Mover.{Mover}
 use Rattle.whole_touch.specs.Touch.{TouchAt}

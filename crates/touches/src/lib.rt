@@ -19,7 +19,7 @@ ghost use Prim.Native.Nat.{_+_, _*_, _≤_, _<_};
 ghost use lib.ListN.{length};
 ghost use Rattle.pairs.specs.Pairs.{sizeOf, pointOf, intOf, Sized};
 ghost use Rattle.integers.specs.Signed.{ofNat, _⊞_, _⊠_};
-ghost use Rattle.exact.specs.Plane.{dot};
+ghost use Rattle.plane.specs.Plane.{dot};
 ghost use Rattle.corners.specs.Corners.{Corners};
 ghost use Rattle.board.specs.Board.{Fits, BodyFits};
 ghost use Rattle.touches.specs.Grip.{Names, WeightedPart, Weighted, TurnedDown, Blur, Apart, Reached, Loose, Ready, HeldAt, Close, Decided, TouchesAt};

@@ -12,13 +12,13 @@ struct Step {
 
 // The rest of fewer bytes than a block that the input ends in, where it does.
 fn end(rest: usize, blocks: u64, err: &mut [u8]) {
-    let told = job_text::tell_rest(rest, blocks, err);
-    input::write_to_error(err, told);
+    let told = unpack_blocks::tell_rest(rest, blocks, err);
+    streams::write_to_error(err, told);
 }
 
 fn next_part(before: u64, out: &mut [u8], err: &mut [u8]) -> Step {
     let mut buffer = [0u8; PART_SIZE];
-    let filled = input::fill_from_input(&mut buffer);
+    let filled = streams::fill_from_input(&mut buffer);
     let n = filled.count;
     if filled.failed {
         return Step {
@@ -26,9 +26,9 @@ fn next_part(before: u64, out: &mut [u8], err: &mut [u8]) -> Step {
             blocks: before,
         };
     }
-    let unpacked = job_text::unpack_part(&buffer[..n], before, out, err);
+    let unpacked = unpack_blocks::unpack_part(&buffer[..n], before, out, err);
     let blocks = unpacked.blocks;
-    if !input::write_both(out, unpacked.at, err, unpacked.told) {
+    if !streams::write_both(out, unpacked.at, err, unpacked.told) {
         return Step {
             more: false,
             blocks,
@@ -44,15 +44,15 @@ fn next_part(before: u64, out: &mut [u8], err: &mut [u8]) -> Step {
     Step { more: true, blocks }
 }
 
-// A proved loop has to end, and nothing says that the input does: so the turns are counted, to a number that no run reaches.
+// A proved loop has to end, and nothing says that the input does: so the reads are counted, to a number that no run reaches.
 fn main() {
-    if !input::no_argument(b"unpack") {
+    if !streams::no_argument(b"unpack") {
         return;
     }
     let mut out = io::large_buffer();
     let mut err = io::large_buffer();
     let mut blocks = 0u64;
-    for turn in 0..u64::MAX {
+    for reads in 0..u64::MAX {
         let step = next_part(blocks, &mut out, &mut err);
         blocks = step.blocks;
         if !step.more {

@@ -8,10 +8,11 @@ use Rattle.integers.specs.Whole.{Within}
 use Rattle.integers.specs.Polynomial.{Expr, var, lit, _:+_, _:-_, _:*_, negated}
 use Rattle.integers.proofs.Signed.{⊠-nonneg, ⊠-pos, ⊠-square, ⊠-cong}
 use Rattle.integers.proofs.Ring.{ring}
-use Rattle.exact.specs.Plane.{Point, sum, difference, scaled, dot}
-use Rattle.exact.proofs.Weights.{⊠-mono}
+use Rattle.plane.specs.Plane.{Point, sum, difference, scaled, dot}
+use Rattle.plane.proofs.Weights.{⊠-mono}
 use Rattle.whole_move.specs.Blend.{twice, bend}
-use Rattle.whole_move.specs.Piece.{Controls, Body, turnedBy, control, Moment, whole, bendAt, Turned, placedCorner, Follows, LongAtLeast, LongAtMost, Near, Shown, Disc, ShownAs}
+use Rattle.whole_move.specs.Piece.{Controls, Body, turnedBy, control, Moment, whole, bendAt, Turned, placedCorner, Follows, LongAtLeast, LongAtMost}
+use Rattle.whole_move.specs.Piece.{Near, Shown, Disc, ShownAs}
 use Rattle.whole_move.proofs.Blends.{bend', H', two, bend-at-least, bend-at-most, square-at-least, square-at-most}
 use Rattle.whole_move.proofs.Lengths.{dot-square, longer, products}
 use Rattle.whole_move.proofs.Turns.{square-within, moved-at-most}
@@ -36,19 +37,23 @@ module _ (m : Moment) where
   -- ---- the window
   -- one part of a placed corner, less that of its control points' bend; p a + q b is that part of the turned corner
   part-off : (t s c0 c1 c2 p0 p1 p2 q0 q1 q2 a b : Int)
-      → s ⊠ bend u w c0 c1 c2 ⊞ t ⊠ (bend u w p0 p1 p2 ⊠ a ⊞ bend u w q0 q1 q2 ⊠ b) ⊟ s ⊠ bend u w (c0 ⊞ (p0 ⊠ a ⊞ q0 ⊠ b)) (c1 ⊞ (p1 ⊠ a ⊞ q1 ⊠ b)) (c2 ⊞ (p2 ⊠ a ⊞ q2 ⊠ b))
+      → s ⊠ bend u w c0 c1 c2 ⊞ t ⊠ (bend u w p0 p1 p2 ⊠ a ⊞ bend u w q0 q1 q2 ⊠ b) ⊟ s ⊠ bend u w (c0 ⊞ (p0 ⊠ a ⊞ q0 ⊠ b)) (c1 ⊞ (p1 ⊠ a ⊞ q1 ⊠ b)) (c2 ⊞
+      (p2 ⊠ a ⊞ q2 ⊠ b))
       ≃ (t ⊟ s) ⊠ (bend u w p0 p1 p2 ⊠ a ⊞ bend u w q0 q1 q2 ⊠ b)
   part-off t s c0 c1 c2 p0 p1 p2 q0 q1 q2 a b =
       let P = bend' (var 7) (var 8) (var 9) :* var 13 :+ bend' (var 10) (var 11) (var 12) :* var 14 in
-      ring (var 3 :* bend' (var 4) (var 5) (var 6) :+ var 2 :* P :- var 3 :* bend' (var 4 :+ (var 7 :* var 13 :+ var 10 :* var 14)) (var 5 :+ (var 8 :* var 13 :+ var 11 :* var 14)) (var 6 :+ (var 9 :* var 13 :+ var 12 :* var 14)))
+      ring (var 3 :* bend' (var 4) (var 5) (var 6) :+ var 2 :* P :- var 3 :* bend' (var 4 :+ (var 7 :* var 13 :+ var 10 :* var 14)) (var 5 :+ (var 8 :* var
+      13 :+ var 11 :* var 14)) (var 6 :+ (var 9 :* var 13 :+ var 12 :* var 14)))
       ((var 2 :- var 3) :* P) (u ∷ w ∷ t ∷ s ∷ c0 ∷ c1 ∷ c2 ∷ p0 ∷ p1 ∷ p2 ∷ q0 ∷ q1 ∷ q2 ∷ a ∷ b ∷ []) tt
 
   part-off-minus : (t s c0 c1 c2 p0 p1 p2 q0 q1 q2 a b : Int)
-      → s ⊠ bend u w c0 c1 c2 ⊞ t ⊠ (bend u w p0 p1 p2 ⊠ a ⊟ bend u w q0 q1 q2 ⊠ b) ⊟ s ⊠ bend u w (c0 ⊞ (p0 ⊠ a ⊟ q0 ⊠ b)) (c1 ⊞ (p1 ⊠ a ⊟ q1 ⊠ b)) (c2 ⊞ (p2 ⊠ a ⊟ q2 ⊠ b))
+      → s ⊠ bend u w c0 c1 c2 ⊞ t ⊠ (bend u w p0 p1 p2 ⊠ a ⊟ bend u w q0 q1 q2 ⊠ b) ⊟ s ⊠ bend u w (c0 ⊞ (p0 ⊠ a ⊟ q0 ⊠ b)) (c1 ⊞ (p1 ⊠ a ⊟ q1 ⊠ b)) (c2 ⊞
+      (p2 ⊠ a ⊟ q2 ⊠ b))
       ≃ (t ⊟ s) ⊠ (bend u w p0 p1 p2 ⊠ a ⊟ bend u w q0 q1 q2 ⊠ b)
   part-off-minus t s c0 c1 c2 p0 p1 p2 q0 q1 q2 a b =
       let P = bend' (var 7) (var 8) (var 9) :* var 13 :- bend' (var 10) (var 11) (var 12) :* var 14 in
-      ring (var 3 :* bend' (var 4) (var 5) (var 6) :+ var 2 :* P :- var 3 :* bend' (var 4 :+ (var 7 :* var 13 :- var 10 :* var 14)) (var 5 :+ (var 8 :* var 13 :- var 11 :* var 14)) (var 6 :+ (var 9 :* var 13 :- var 12 :* var 14)))
+      ring (var 3 :* bend' (var 4) (var 5) (var 6) :+ var 2 :* P :- var 3 :* bend' (var 4 :+ (var 7 :* var 13 :- var 10 :* var 14)) (var 5 :+ (var 8 :* var
+      13 :- var 11 :* var 14)) (var 6 :+ (var 9 :* var 13 :- var 12 :* var 14)))
       ((var 2 :- var 3) :* P) (u ∷ w ∷ t ∷ s ∷ c0 ∷ c1 ∷ c2 ∷ p0 ∷ p1 ∷ p2 ∷ q0 ∷ q1 ∷ q2 ∷ a ∷ b ∷ []) tt
 
   -- a placed corner stands off by (over - under) times the turned corner
@@ -71,7 +76,8 @@ module _ (m : Moment) where
           same-length off (scaled (t ⊟ s) (turnedBy P v))
               (part-off-minus t s (a .p0 .x) (a .p1 .x) (a .p2 .x) (p .p0 .x) (p .p1 .x) (p .p2 .x) (p .p0 .y) (p .p1 .y) (p .p2 .y) (v .x) (v .y))
               (part-off t s (a .p0 .y) (a .p1 .y) (a .p2 .y) (p .p0 .y) (p .p1 .y) (p .p2 .y) (p .p0 .x) (p .p1 .x) (p .p2 .x) (v .x) (v .y)),
-          ring (var 0 :* (var 1 :* var 3 :- var 2 :* var 4) :* (var 0 :* (var 1 :* var 3 :- var 2 :* var 4)) :+ var 0 :* (var 2 :* var 3 :+ var 1 :* var 4) :* (var 0 :* (var 2 :* var 3 :+ var 1 :* var 4)))
+          ring (var 0 :* (var 1 :* var 3 :- var 2 :* var 4) :* (var 0 :* (var 1 :* var 3 :- var 2 :* var 4)) :+ var 0 :* (var 2 :* var 3 :+ var 1 :* var 4)
+              :* (var 0 :* (var 2 :* var 3 :+ var 1 :* var 4)))
               (var 0 :* var 0 :* ((var 1 :* var 1 :+ var 2 :* var 2) :* (var 3 :* var 3 :+ var 4 :* var 4))) ((t ⊟ s) ∷ P .x ∷ P .y ∷ v .x ∷ v .y ∷ []) tt,
         )
 
@@ -79,7 +85,8 @@ module _ (m : Moment) where
       → ofNat 49 ⊠ (ofNat F ⊠ ofNat F ⊞ ofNat y) ≼ ofNat 64 ⊠ (ofNat F ⊠ ofNat F ⊟ ofNat slack)
       → LongAtLeast (ofNat F ⊠ ofNat F ⊟ ofNat y) (o .turn) → LongAtMost (ofNat F ⊠ ofNat F ⊞ ofNat y) (o .turn)
       → (i R : ℕ) → dot (o .corner i) (o .corner i) ≼ ofNat R ⊠ ofNat R
-      → ofNat 64 ⊠ (ofNat R ⊠ ofNat R ⊠ ((ofNat y ⊞ ofNat slack) ⊠ (ofNat y ⊞ ofNat slack))) ≼ ofNat 225 ⊠ ((ofNat F ⊠ ofNat F ⊟ ofNat y) ⊠ (ofNat E ⊠ ofNat E))
+      → ofNat 64 ⊠ (ofNat R ⊠ ofNat R ⊠ ((ofNat y ⊞ ofNat slack) ⊠ (ofNat y ⊞ ofNat slack))) ≼ ofNat 225 ⊠ ((ofNat F ⊠ ofNat F ⊟ ofNat y) ⊠ (ofNat E ⊠
+      ofNat E))
       → Follows m (ofNat (z .under)) (ofNat E) (placedCorner m (ofNat (z .over)) (ofNat (z .under)) o i) (control o i)
   placed-follows F y slack E o z room tame long short i R inside window =
       let t = ofNat (z .over) in
@@ -91,11 +98,14 @@ module _ (m : Moment) where
       omega (
         arith,
         off-length o t s i,
-        moved-at-most t s (dot (P o t s i) (P o t s i)) h S (ofNat y) (ofNat slack) (omega arith) (omega (arith, z .some)) (⊠-pos (H ⊠ H) (H ⊠ H) (⊠-pos H H hp hp) (⊠-pos H H hp hp))
+        moved-at-most t s (dot (P o t s i) (P o t s i)) h S (ofNat y) (ofNat slack) (omega arith) (omega (arith, z .some)) (⊠-pos (H ⊠ H) (H ⊠ H) (⊠-pos H
+            H hp hp) (⊠-pos H H hp hp))
             (square-at-least u w (omega arith) (omega arith) (p .p0) (p .p1) (p .p2) (S ⊟ ofNat y) (long .c0) (long .c1) (long .c2) (long .c3) (long .c4))
             (square-at-most u w (omega arith) (omega arith) (p .p0) (p .p1) (p .p2) (S ⊞ ofNat y) (short .c0) (short .c1) (short .c2) (short .c3) (short .c4))
-            (z .long-enough) (z .short-enough) (omega arith) tame (dot (v o t s i) (v o t s i)) (ofNat R) (ofNat E) (dot-square (v o t s i) (v o t s i)) inside window,
-        ring (var 0 :* (var 1 :* var 1) :* var 2 :* (var 0 :* (var 1 :* var 1) :* var 2)) (var 0 :* var 0 :* (var 1 :* var 1 :* (var 1 :* var 1)) :* (var 2 :* var 2)) (s ∷ H ∷ ofNat E ∷ []) tt,
+            (z .long-enough) (z .short-enough) (omega arith) tame (dot (v o t s i) (v o t s i)) (ofNat R) (ofNat E) (dot-square (v o t s i) (v o t s i))
+            inside window,
+        ring (var 0 :* (var 1 :* var 1) :* var 2 :* (var 0 :* (var 1 :* var 1) :* var 2)) (var 0 :* var 0 :* (var 1 :* var 1 :* (var 1 :* var 1)) :* (var 2
+            :* var 2)) (s ∷ H ∷ ofNat E ∷ []) tt,
       )
 
   -- ---- rounding
@@ -105,7 +115,8 @@ module _ (m : Moment) where
   part-near e x0 x1 x2 y0 y1 y2 h0 h1 h2 =
       let U : 0Int ≼ u = omega arith in
       let W : 0Int ≼ w = omega arith in
-      let same = ring (bend' (var 2 :- var 5) (var 3 :- var 6) (var 4 :- var 7)) (bend' (var 2) (var 3) (var 4) :- bend' (var 5) (var 6) (var 7)) (u ∷ w ∷ x0 ∷ x1 ∷ x2 ∷ y0 ∷ y1 ∷ y2 ∷ []) tt in
+      let same = ring (bend' (var 2 :- var 5) (var 3 :- var 6) (var 4 :- var 7)) (bend' (var 2) (var 3) (var 4) :- bend' (var 5) (var 6) (var 7)) (u ∷ w ∷
+      x0 ∷ x1 ∷ x2 ∷ y0 ∷ y1 ∷ y2 ∷ []) tt in
       square-within (bend u w x0 x1 x2 ⊟ bend u w y0 y1 y2) (H ⊠ H ⊠ ofNat e)
       (omega (
         arith,
@@ -137,15 +148,19 @@ module _ (m : Moment) where
           part-near e (c .p0 .y) (c .p1 .y) (c .p2 .y) (d .p0 .y) (d .p1 .y) (d .p2 .y) (near .y0) (near .y1) (near .y2),
         )),
         ⊠-mono (s ⊠ (H ⊠ H) ⊠ (s ⊠ (H ⊠ H))) (twice (ofNat e ⊠ ofNat e)) (ofNat D ⊠ ofNat D) (⊠-square (s ⊠ (H ⊠ H))) enough,
-        ring (var 0 :* var 1 :* (var 0 :* var 1) :+ var 0 :* var 2 :* (var 0 :* var 2)) (var 0 :* var 0 :* (var 1 :* var 1 :+ var 2 :* var 2)) (s ∷ difference x y .x ∷ difference x y .y ∷ []) tt,
-        ring (var 0 :* var 0 :* two (var 1 :* var 1 :* var 2 :* (var 1 :* var 1 :* var 2))) (var 0 :* (var 1 :* var 1) :* (var 0 :* (var 1 :* var 1)) :* two (var 2 :* var 2)) (s ∷ H ∷ ofNat e ∷ []) tt,
-        ring (var 0 :* (var 1 :* var 1) :* var 2 :* (var 0 :* (var 1 :* var 1) :* var 2)) (var 0 :* (var 1 :* var 1) :* (var 0 :* (var 1 :* var 1)) :* (var 2 :* var 2)) (s ∷ H ∷ ofNat D ∷ []) tt,
+        ring (var 0 :* var 1 :* (var 0 :* var 1) :+ var 0 :* var 2 :* (var 0 :* var 2)) (var 0 :* var 0 :* (var 1 :* var 1 :+ var 2 :* var 2)) (s ∷
+            difference x y .x ∷ difference x y .y ∷ []) tt,
+        ring (var 0 :* var 0 :* two (var 1 :* var 1 :* var 2 :* (var 1 :* var 1 :* var 2))) (var 0 :* (var 1 :* var 1) :* (var 0 :* (var 1 :* var 1)) :*
+            two (var 2 :* var 2)) (s ∷ H ∷ ofNat e ∷ []) tt,
+        ring (var 0 :* (var 1 :* var 1) :* var 2 :* (var 0 :* (var 1 :* var 1) :* var 2)) (var 0 :* (var 1 :* var 1) :* (var 0 :* (var 1 :* var 1)) :* (var
+            2 :* var 2)) (s ∷ H ∷ ofNat D ∷ []) tt,
       ) in
       omega (
         arith,
         longer first second r q (⊠-nonneg (s ⊠ (H ⊠ H)) E sHH EE) (⊠-nonneg (s ⊠ (H ⊠ H)) (ofNat D) sHH (omega arith)) follows moved,
         same-length (sum first second) (difference X (scaled s y)) (shift (X .x) s (x .x) (y .x)) (shift (X .y) s (x .y) (y .y)),
-        ring ((var 0 :* var 1 :+ var 0 :* var 2) :* (var 0 :* var 1 :+ var 0 :* var 2)) (var 0 :* (var 1 :+ var 2) :* (var 0 :* (var 1 :+ var 2))) ((s ⊠ (H ⊠ H)) ∷ E ∷ ofNat D ∷ []) tt,
+        ring ((var 0 :* var 1 :+ var 0 :* var 2) :* (var 0 :* var 1 :+ var 0 :* var 2)) (var 0 :* (var 1 :+ var 2) :* (var 0 :* (var 1 :+ var 2))) ((s ⊠
+            (H ⊠ H)) ∷ E ∷ ofNat D ∷ []) tt,
       )
     where
       shift : (X s x y : Int) → X ⊟ s ⊠ x ⊞ s ⊠ (x ⊟ y) ≃ X ⊟ s ⊠ y
@@ -180,11 +195,13 @@ module _ (m : Moment) where
         ⊠-mono (dot q q) (t ⊠ t ⊠ dot p p) (s ⊠ s ⊠ h ⊠ long) (dot-square q q) (z .short-enough),
         ⊠-mono (s ⊠ s ⊠ h ⊠ long) (dot q q) (ofNat R ⊠ ofNat R) (⊠-nonneg (s ⊠ s ⊠ h) long sh (omega (arith, ⊠-square (ofNat F)))) inside,
         ⊠-mono (s ⊠ s ⊠ h) (long ⊠ (ofNat R ⊠ ofNat R)) (ofNat E ⊠ ofNat E) sh reach,
-        ring (var 0 :* (var 1 :* var 3 :- var 2 :* var 4) :* (var 0 :* (var 1 :* var 3 :- var 2 :* var 4)) :+ var 0 :* (var 2 :* var 3 :+ var 1 :* var 4) :* (var 0 :* (var 2 :* var 3 :+ var 1 :* var 4)))
+        ring (var 0 :* (var 1 :* var 3 :- var 2 :* var 4) :* (var 0 :* (var 1 :* var 3 :- var 2 :* var 4)) :+ var 0 :* (var 2 :* var 3 :+ var 1 :* var 4)
+            :* (var 0 :* (var 2 :* var 3 :+ var 1 :* var 4)))
             ((var 3 :* var 3 :+ var 4 :* var 4) :* (var 0 :* var 0 :* (var 1 :* var 1 :+ var 2 :* var 2))) (t ∷ p .x ∷ p .y ∷ q .x ∷ q .y ∷ []) tt,
         ring (var 0 :* var 1) (var 1 :* var 0) (dot q q ∷ (s ⊠ s ⊠ h ⊠ long) ∷ []) tt,
         ring (var 0 :* var 1 :* var 2) (var 0 :* (var 1 :* var 2)) ((s ⊠ s ⊠ h) ∷ long ∷ (ofNat R ⊠ ofNat R) ∷ []) tt,
-        ring (var 0 :* (var 1 :* var 1) :* var 2 :* (var 0 :* (var 1 :* var 1) :* var 2)) (var 0 :* var 0 :* (var 1 :* var 1 :* (var 1 :* var 1)) :* (var 2 :* var 2)) (s ∷ H ∷ ofNat E ∷ []) tt,
+        ring (var 0 :* (var 1 :* var 1) :* var 2 :* (var 0 :* (var 1 :* var 1) :* var 2)) (var 0 :* var 0 :* (var 1 :* var 1 :* (var 1 :* var 1)) :* (var 2
+            :* var 2)) (s ∷ H ∷ ofNat E ∷ []) tt,
       )
 
   -- ---- a body as the check is shown it

@@ -4,8 +4,8 @@ use mathlib.Core.Logic.{_⊎_}
 use Prim.Native.Nat.{ℕ, _+_, _≤_, _<_}
 use Rattle.integers.specs.Signed.{Int, 0Int, ofNat, _⊞_, _⊟_, _⊠_, _≼_, _≺_}
 use Rattle.integers.specs.Whole.{Within}
-use Rattle.exact.specs.Plane.{Point, sum, difference, scaled, dot, turned}
-use Rattle.exact.specs.Outline.{Outline, PointOf, divisor, gap}
+use Rattle.plane.specs.Plane.{Point, sum, difference, scaled, dot, turned}
+use Rattle.plane.specs.Outline.{Outline, PointOf, divisor, gap}
 use Rattle.whole_move.specs.Blend.{twice, thrice, bendPoint}
 
 -- ---- bodies

@@ -6,9 +6,9 @@ use Rattle.integers.specs.Signed.{0Int, ofNat, _⊠_, _≼_, _≺_}
 use Rattle.integers.specs.Polynomial.{var, _:+_, _:*_}
 use Rattle.integers.proofs.Signed.{⊠-pos-back, ⊠-square}
 use Rattle.integers.proofs.Ring.{ring}
-use Rattle.exact.specs.Plane.{dot}
-use Rattle.exact.specs.Fraction.{Fraction, _≤ᶠ_}
-use Rattle.exact.specs.Outline.{PointOf}
+use Rattle.plane.specs.Plane.{dot}
+use Rattle.plane.specs.Fraction.{Fraction, _≤ᶠ_}
+use Rattle.plane.specs.Outline.{PointOf}
 use Rattle.whole_move.specs.Piece.{Moment, whole}
 use Rattle.whole_way.specs.Mover.{Mover, headingAt, TurnAt, AwayAt, at, AwayBetween}
 use Rattle.whole_touch.specs.Touch.{frame, carried, TouchAt, Steady, Touches}
@@ -36,13 +36,16 @@ headed m F slack s o p E h =
       arith,
       h .room,
       h .long,
-      ring (var 0 :* var 1 :* (var 0 :* var 1) :+ var 0 :* var 2 :* (var 0 :* var 2)) (var 0 :* var 0 :* (var 1 :* var 1 :+ var 2 :* var 2)) (k ∷ L .x ∷ L .y ∷ []) tt,
+      ring (var 0 :* var 1 :* (var 0 :* var 1) :+ var 0 :* var 2 :* (var 0 :* var 2)) (var 0 :* var 0 :* (var 1 :* var 1 :+ var 2 :* var 2)) (k ∷ L .x ∷
+          L .y ∷ []) tt,
     ))
 
 pub checked-not-away : (m : Moment) (S distance : ℕ) (a b : Mover) → Touches m S distance a b → AwayAt m S distance a b → ⊥
-checked-not-away m S distance a b h = exclude m S distance a b (headed m (h .F) (h .slack) (h .sa) a (h .pointA) (h .EA) (h .bodyA)) (headed m (h .F) (h .slack) (h .sb) b (h .pointB) (h .EB) (h .bodyB)) (checked-touches m S distance a b h)
+checked-not-away m S distance a b h = exclude m S distance a b (headed m (h .F) (h .slack) (h .sa) a (h .pointA) (h .EA) (h .bodyA)) (headed m (h .F)
+    (h .slack) (h .sb) b (h .pointB) (h .EB) (h .bodyB)) (checked-touches m S distance a b h)
 
 -- so the two verdicts: what is away from one fraction to another does not touch between them
 pub verdicts-exclude : (g : Moment) (S distance : ℕ) (a b : Mover) (from to : Fraction) → from ≤ᶠ at g → at g ≤ᶠ to
-    → 0Int ≺ dot (headingAt g a) (headingAt g a) → 0Int ≺ dot (headingAt g b) (headingAt g b) → TouchAt g S distance a b → AwayBetween S distance a b from to → ⊥
+    → 0Int ≺ dot (headingAt g a) (headingAt g a) → 0Int ≺ dot (headingAt g b) (headingAt g b) → TouchAt g S distance a b → AwayBetween S distance a b from
+    to → ⊥
 verdicts-exclude g S distance a b from to after before h l touch away = exclude g S distance a b h l touch (away g after before)

@@ -6,9 +6,9 @@ use Rattle.integers.specs.Signed.{Int, 0Int, ofNat, _⊞_, _⊟_, _⊠_, _≼_,
 use Rattle.integers.specs.Polynomial.{var, lit, _:+_, _:-_, _:*_}
 use Rattle.integers.proofs.Signed.{⊠-cong-r, ⊠-nonneg, ⊠-pos, ⊠-square}
 use Rattle.integers.proofs.Ring.{ring}
-use Rattle.exact.specs.Plane.{Point, scaled, dot, total, sumBelow}
-use Rattle.exact.specs.Outline.{PointOf, divisor, dividend}
-use Rattle.exact.proofs.Weights.{⊠-mono}
+use Rattle.plane.specs.Plane.{Point, scaled, dot, total, sumBelow}
+use Rattle.plane.specs.Outline.{PointOf, divisor, dividend}
+use Rattle.plane.proofs.Weights.{⊠-mono}
 use Rattle.whole_move.specs.Piece.{turnedBy, Moment, whole}
 use Rattle.whole_way.specs.Mover.{Mover, on, headingAt, TurnAt}
 use Rattle.whole_move.proofs.Lengths.{dot-square}
@@ -32,7 +32,8 @@ module _ (weight : ℕ → ℕ) (k c h p q : Int) (v : ℕ → Point) where
   weighted-minus (suc n) = omega (
     arith,
     weighted-minus n,
-    ring (var 0 :* (var 5 :* var 1 :+ var 2 :* (var 3 :* var 6 :- var 4 :* var 7)) :+ var 8 :* (var 0 :* (var 1 :+ var 2 :* (var 3 :* var 9 :- var 4 :* var 10))))
+    ring (var 0 :* (var 5 :* var 1 :+ var 2 :* (var 3 :* var 6 :- var 4 :* var 7)) :+ var 8 :* (var 0 :* (var 1 :+ var 2 :* (var 3 :* var 9 :- var 4 :* var
+        10))))
         (var 0 :* ((var 5 :+ var 8) :* var 1 :+ var 2 :* (var 3 :* (var 6 :+ var 8 :* var 9) :- var 4 :* (var 7 :+ var 8 :* var 10))))
         (k ∷ c ∷ h ∷ p ∷ q ∷ W n ∷ X n ∷ Y n ∷ ofNat (weight n) ∷ v n .x ∷ v n .y ∷ []) tt,
   )
@@ -42,7 +43,8 @@ module _ (weight : ℕ → ℕ) (k c h p q : Int) (v : ℕ → Point) where
   weighted-plus (suc n) = omega (
     arith,
     weighted-plus n,
-    ring (var 0 :* (var 5 :* var 1 :+ var 2 :* (var 3 :* var 6 :+ var 4 :* var 7)) :+ var 8 :* (var 0 :* (var 1 :+ var 2 :* (var 3 :* var 9 :+ var 4 :* var 10))))
+    ring (var 0 :* (var 5 :* var 1 :+ var 2 :* (var 3 :* var 6 :+ var 4 :* var 7)) :+ var 8 :* (var 0 :* (var 1 :+ var 2 :* (var 3 :* var 9 :+ var 4 :* var
+        10))))
         (var 0 :* ((var 5 :+ var 8) :* var 1 :+ var 2 :* (var 3 :* (var 6 :+ var 8 :* var 9) :+ var 4 :* (var 7 :+ var 8 :* var 10))))
         (k ∷ c ∷ h ∷ p ∷ q ∷ W n ∷ X n ∷ Y n ∷ ofNat (weight n) ∷ v n .x ∷ v n .y ∷ []) tt,
   )
@@ -78,86 +80,102 @@ module _ (m : Moment) (o : Mover) (p : PointOf (frame o)) where
     pub off-x : ofNat F ⊠ there .x ≃ k ⊠ (under ⊠ placeBy m F s o p .x ⊞ off .x)
     off-x = omega (
       arith,
-      ⊠-cong-r (ofNat F) (there .x) (k ⊠ (A ⊠ (under ⊠ C .x) ⊞ over ⊠ H ⊠ (L .x ⊠ Q .x ⊟ L .y ⊠ Q .y))) (weighted-minus (p .weight) k (under ⊠ C .x) (over ⊠ H) (L .x) (L .y) (o .corner) (o .count)),
+      ⊠-cong-r (ofNat F) (there .x) (k ⊠ (A ⊠ (under ⊠ C .x) ⊞ over ⊠ H ⊠ (L .x ⊠ Q .x ⊟ L .y ⊠ Q .y))) (weighted-minus (p .weight) k (under ⊠ C .x)
+          (over ⊠ H) (L .x) (L .y) (o .corner) (o .count)),
       ring (var 0 :* (var 1 :* (var 2 :* (var 3 :* var 4) :+ var 5 :* var 6 :* (var 7 :* var 9 :- var 8 :* var 10))))
-          (var 1 :* (var 3 :* (var 0 :* var 2 :* var 4 :+ var 6 :* (var 11 :* var 7 :* var 9 :- var 11 :* var 8 :* var 10)) :+ (var 0 :* var 5 :- var 11 :* var 3) :* var 6 :* (var 7 :* var 9 :- var 8 :* var 10)))
+          (var 1 :* (var 3 :* (var 0 :* var 2 :* var 4 :+ var 6 :* (var 11 :* var 7 :* var 9 :- var 11 :* var 8 :* var 10)) :+ (var 0 :* var 5 :- var 11 :*
+          var 3) :* var 6 :* (var 7 :* var 9 :- var 8 :* var 10)))
           (ofNat F ∷ k ∷ A ∷ under ∷ C .x ∷ over ∷ H ∷ L .x ∷ L .y ∷ Q .x ∷ Q .y ∷ ofNat s ∷ []) tt,
     )
 
     pub off-y : ofNat F ⊠ there .y ≃ k ⊠ (under ⊠ placeBy m F s o p .y ⊞ off .y)
     off-y = omega (
       arith,
-      ⊠-cong-r (ofNat F) (there .y) (k ⊠ (A ⊠ (under ⊠ C .y) ⊞ over ⊠ H ⊠ (L .y ⊠ Q .x ⊞ L .x ⊠ Q .y))) (weighted-plus (p .weight) k (under ⊠ C .y) (over ⊠ H) (L .y) (L .x) (o .corner) (o .count)),
+      ⊠-cong-r (ofNat F) (there .y) (k ⊠ (A ⊠ (under ⊠ C .y) ⊞ over ⊠ H ⊠ (L .y ⊠ Q .x ⊞ L .x ⊠ Q .y))) (weighted-plus (p .weight) k (under ⊠ C .y) (over ⊠
+          H) (L .y) (L .x) (o .corner) (o .count)),
       ring (var 0 :* (var 1 :* (var 2 :* (var 3 :* var 4) :+ var 5 :* var 6 :* (var 8 :* var 9 :+ var 7 :* var 10))))
-          (var 1 :* (var 3 :* (var 0 :* var 2 :* var 4 :+ var 6 :* (var 11 :* var 8 :* var 9 :+ var 11 :* var 7 :* var 10)) :+ (var 0 :* var 5 :- var 11 :* var 3) :* var 6 :* (var 8 :* var 9 :+ var 7 :* var 10)))
+          (var 1 :* (var 3 :* (var 0 :* var 2 :* var 4 :+ var 6 :* (var 11 :* var 8 :* var 9 :+ var 11 :* var 7 :* var 10)) :+ (var 0 :* var 5 :- var 11 :*
+          var 3) :* var 6 :* (var 8 :* var 9 :+ var 7 :* var 10)))
           (ofNat F ∷ k ∷ A ∷ under ∷ C .y ∷ over ∷ H ∷ L .x ∷ L .y ∷ Q .x ∷ Q .y ∷ ofNat s ∷ []) tt,
     )
 
   -- for a turn in the window that is at most E, in F-ths
-  module _ (F slack s E S : ℕ) (k : Int) (SS : 0 < S) (wide : ofNat F ⊠ ofNat F ≼ ofNat slack ⊠ ofNat S) (z : TurnAt m S o) (h : Steady m F slack s o p E) where
-    abbrev over : Int
-    over = ofNat (z .over)
+  module _ (F slack s E S : ℕ) (k : Int) (SS : 0 < S) (wide : ofNat F ⊠ ofNat F ≼ ofNat slack ⊠ ofNat S) (z : TurnAt m S o) (h : Steady m F slack s o p E)
+    where
+      abbrev over : Int
+      over = ofNat (z .over)
 
-    abbrev under : Int
-    under = ofNat (z .under)
+      abbrev under : Int
+      under = ofNat (z .under)
 
-    abbrev F2 : Int
-    F2 = ofNat F ⊠ ofNat F
+      abbrev F2 : Int
+      F2 = ofNat F ⊠ ofNat F
 
-    abbrev σ : Int
-    σ = ofNat s
+      abbrev σ : Int
+      σ = ofNat s
 
-    abbrev P : Point
-    P = lengthened m s o
+      abbrev P : Point
+      P = lengthened m s o
 
-    abbrev c : Int
-    c = stretch F s k over under
+      abbrev c : Int
+      c = stretch F s k over under
 
-    abbrev long : Int
-    long = over ⊠ over ⊠ dot L L
+      abbrev long : Int
+      long = over ⊠ over ⊠ dot L L
 
-    over-side : ofNat F ⊠ over ⊠ (ofNat F ⊠ over) ⊠ dot P P ≃ σ ⊠ σ ⊠ (F2 ⊠ long)
-    over-side = ring (var 0 :* var 1 :* (var 0 :* var 1) :* (var 2 :* var 3 :* (var 2 :* var 3) :+ var 2 :* var 4 :* (var 2 :* var 4))) (var 2 :* var 2 :* (var 0 :* var 0 :* (var 1 :* var 1 :* (var 3 :* var 3 :+ var 4 :* var 4))))
-        (ofNat F ∷ over ∷ σ ∷ L .x ∷ L .y ∷ []) tt
+      over-side : ofNat F ⊠ over ⊠ (ofNat F ⊠ over) ⊠ dot P P ≃ σ ⊠ σ ⊠ (F2 ⊠ long)
+      over-side = ring (var 0 :* var 1 :* (var 0 :* var 1) :* (var 2 :* var 3 :* (var 2 :* var 3) :+ var 2 :* var 4 :* (var 2 :* var 4))) (var 2 :* var 2 :*
+          (var 0 :* var 0 :* (var 1 :* var 1 :* (var 3 :* var 3 :+ var 4 :* var 4))))
+          (ofNat F ∷ over ∷ σ ∷ L .x ∷ L .y ∷ []) tt
 
-    under-side : (e : Int) → σ ⊠ under ⊠ (σ ⊠ under) ⊠ ofNat 1 ⊠ e ≃ σ ⊠ σ ⊠ (under ⊠ under ⊠ e)
-    under-side e = ring (var 0 :* var 1 :* (var 0 :* var 1) :* lit (ofNat 1) :* var 2) (var 0 :* var 0 :* (var 1 :* var 1 :* var 2)) (σ ∷ under ∷ e ∷ []) tt
+      under-side : (e : Int) → σ ⊠ under ⊠ (σ ⊠ under) ⊠ ofNat 1 ⊠ e ≃ σ ⊠ σ ⊠ (under ⊠ under ⊠ e)
+      under-side e = ring (var 0 :* var 1 :* (var 0 :* var 1) :* lit (ofNat 1) :* var 2) (var 0 :* var 0 :* (var 1 :* var 1 :* var 2)) (σ ∷ under ∷ e ∷ []) tt
 
-    once : (e : Int) → ofNat 1 ⊠ e ≃ e
-    once e = ring (lit (ofNat 1) :* var 0) (var 0) (e ∷ []) tt
+      once : (e : Int) → ofNat 1 ⊠ e ≃ e
+      once e = ring (lit (ofNat 1) :* var 0) (var 0) (e ∷ []) tt
 
-    -- the window's condition, for the weighted point: all of it times the divisor
-    enlarged : ofNat 64 ⊠ (A ⊠ ofNat (h .R) ⊠ (A ⊠ ofNat (h .R)) ⊠ ((ofNat (h .y) ⊞ ofNat slack) ⊠ (ofNat (h .y) ⊞ ofNat slack))) ≼ ofNat 225 ⊠ ((F2 ⊟ ofNat (h .y)) ⊠ (A ⊠ ofNat E ⊠ (A ⊠ ofNat E)))
-    enlarged = omega (
-      arith,
-      ⊠-mono (A ⊠ A) (ofNat 64 ⊠ (ofNat (h .R) ⊠ ofNat (h .R) ⊠ ((ofNat (h .y) ⊞ ofNat slack) ⊠ (ofNat (h .y) ⊞ ofNat slack)))) (ofNat 225 ⊠ ((F2 ⊟ ofNat (h .y)) ⊠ (ofNat E ⊠ ofNat E))) (⊠-square A) (h .window),
-      ring (lit (ofNat 64) :* (var 0 :* var 1 :* (var 0 :* var 1) :* (var 2 :* var 2))) (var 0 :* var 0 :* (lit (ofNat 64) :* (var 1 :* var 1 :* (var 2 :* var 2)))) (A ∷ ofNat (h .R) ∷ (ofNat (h .y) ⊞ ofNat slack) ∷ []) tt,
-      ring (lit (ofNat 225) :* (var 2 :* (var 0 :* var 1 :* (var 0 :* var 1)))) (var 0 :* var 0 :* (lit (ofNat 225) :* (var 2 :* (var 1 :* var 1)))) (A ∷ ofNat E ∷ (F2 ⊟ ofNat (h .y)) ∷ []) tt,
-    )
+      -- the window's condition, for the weighted point: all of it times the divisor
+      enlarged : ofNat 64 ⊠ (A ⊠ ofNat (h .R) ⊠ (A ⊠ ofNat (h .R)) ⊠ ((ofNat (h .y) ⊞ ofNat slack) ⊠ (ofNat (h .y) ⊞ ofNat slack))) ≼ ofNat 225 ⊠ ((F2 ⊟
+          ofNat (h .y)) ⊠ (A ⊠ ofNat E ⊠ (A ⊠ ofNat E)))
+      enlarged = omega (
+        arith,
+        ⊠-mono (A ⊠ A) (ofNat 64 ⊠ (ofNat (h .R) ⊠ ofNat (h .R) ⊠ ((ofNat (h .y) ⊞ ofNat slack) ⊠ (ofNat (h .y) ⊞ ofNat slack)))) (ofNat 225 ⊠ ((F2 ⊟ ofNat
+            (h .y)) ⊠ (ofNat E ⊠ ofNat E))) (⊠-square A) (h .window),
+        ring (lit (ofNat 64) :* (var 0 :* var 1 :* (var 0 :* var 1) :* (var 2 :* var 2))) (var 0 :* var 0 :* (lit (ofNat 64) :* (var 1 :* var 1 :* (var 2 :*
+            var 2)))) (A ∷ ofNat (h .R) ∷ (ofNat (h .y) ⊞ ofNat slack) ∷ []) tt,
+        ring (lit (ofNat 225) :* (var 2 :* (var 0 :* var 1 :* (var 0 :* var 1)))) (var 0 :* var 0 :* (lit (ofNat 225) :* (var 2 :* (var 1 :* var 1)))) (A ∷
+            ofNat E ∷ (F2 ⊟ ofNat (h .y)) ∷ []) tt,
+      )
 
-    moved : c ⊠ c ⊠ (dot P P ⊠ dot Q Q) ≼ σ ⊠ under ⊠ (σ ⊠ under) ⊠ ofNat 1 ⊠ (A ⊠ ofNat E ⊠ (A ⊠ ofNat E))
-    moved = moved-at-most (ofNat F ⊠ over) (σ ⊠ under) (dot P P) (ofNat 1) F2 (ofNat (h .y)) (ofNat slack)
-        (⊠-nonneg (ofNat F) over (omega arith) (omega arith)) (⊠-pos σ under (omega (arith, h .some)) (omega (arith, z .some))) (omega arith)
-        (omega (arith, once (F2 ⊟ ofNat (h .y)), h .long)) (omega (arith, once (F2 ⊞ ofNat (h .y)), h .short))
-        (omega (
-          arith,
-          over-side,
-          under-side (F2 ⊟ ofNat slack),
-          ⊠-mono (σ ⊠ σ) (under ⊠ under ⊠ (F2 ⊟ ofNat slack)) (F2 ⊠ long) (⊠-square σ) (window-long (ofNat S) F2 (ofNat slack) (under ⊠ under) long (omega arith) (⊠-square (ofNat F)) (⊠-square under) wide (z .long-enough)),
-        ))
-        (omega (
-          arith,
-          over-side,
-          under-side (F2 ⊞ ofNat slack),
-          ⊠-mono (σ ⊠ σ) (F2 ⊠ long) (under ⊠ under ⊠ (F2 ⊞ ofNat slack)) (⊠-square σ) (window-short (ofNat S) F2 (ofNat slack) (under ⊠ under) long (omega arith) (⊠-square (ofNat F)) (⊠-square under) wide (z .short-enough)),
-        ))
-        (omega (arith, h .room)) (h .tame) (dot Q Q) (A ⊠ ofNat (h .R)) (A ⊠ ofNat E) (dot-square Q Q) (h .inside) enlarged
+      moved : c ⊠ c ⊠ (dot P P ⊠ dot Q Q) ≼ σ ⊠ under ⊠ (σ ⊠ under) ⊠ ofNat 1 ⊠ (A ⊠ ofNat E ⊠ (A ⊠ ofNat E))
+      moved = moved-at-most (ofNat F ⊠ over) (σ ⊠ under) (dot P P) (ofNat 1) F2 (ofNat (h .y)) (ofNat slack)
+          (⊠-nonneg (ofNat F) over (omega arith) (omega arith)) (⊠-pos σ under (omega (arith, h .some)) (omega (arith, z .some))) (omega arith)
+          (omega (arith, once (F2 ⊟ ofNat (h .y)), h .long)) (omega (arith, once (F2 ⊞ ofNat (h .y)), h .short))
+          (omega (
+            arith,
+            over-side,
+            under-side (F2 ⊟ ofNat slack),
+            ⊠-mono (σ ⊠ σ) (under ⊠ under ⊠ (F2 ⊟ ofNat slack)) (F2 ⊠ long) (⊠-square σ) (window-long (ofNat S) F2 (ofNat slack) (under ⊠ under) long (omega
+                arith) (⊠-square (ofNat F)) (⊠-square under) wide (z .long-enough)),
+          ))
+          (omega (
+            arith,
+            over-side,
+            under-side (F2 ⊞ ofNat slack),
+            ⊠-mono (σ ⊠ σ) (F2 ⊠ long) (under ⊠ under ⊠ (F2 ⊞ ofNat slack)) (⊠-square σ) (window-short (ofNat S) F2 (ofNat slack) (under ⊠ under) long (omega
+                arith) (⊠-square (ofNat F)) (⊠-square under) wide (z .short-enough)),
+          ))
+          (omega (arith, h .room)) (h .tame) (dot Q Q) (A ⊠ ofNat (h .R)) (A ⊠ ofNat E) (dot-square Q Q) (h .inside) enlarged
 
-    pub off-short : dot (off F s k over under) (off F s k over under) ≼ under ⊠ A ⊠ H ⊠ ofNat E ⊠ (under ⊠ A ⊠ H ⊠ ofNat E)
-    off-short = cancel (σ ⊠ σ) (dot (off F s k over under) (off F s k over under)) (under ⊠ A ⊠ H ⊠ ofNat E ⊠ (under ⊠ A ⊠ H ⊠ ofNat E)) (⊠-pos σ σ (omega (arith, h .some)) (omega (arith, h .some))) (omega (
-      arith,
-      ⊠-mono (H ⊠ H) (c ⊠ c ⊠ (dot P P ⊠ dot Q Q)) (σ ⊠ under ⊠ (σ ⊠ under) ⊠ ofNat 1 ⊠ (A ⊠ ofNat E ⊠ (A ⊠ ofNat E))) (⊠-square H) moved,
-      ring (var 0 :* var 0 :* (var 1 :* var 2 :* (var 3 :* var 5 :- var 4 :* var 6) :* (var 1 :* var 2 :* (var 3 :* var 5 :- var 4 :* var 6)) :+ var 1 :* var 2 :* (var 4 :* var 5 :+ var 3 :* var 6) :* (var 1 :* var 2 :* (var 4 :* var 5 :+ var 3 :* var 6))))
-          (var 2 :* var 2 :* (var 1 :* var 1 :* ((var 0 :* var 3 :* (var 0 :* var 3) :+ var 0 :* var 4 :* (var 0 :* var 4)) :* (var 5 :* var 5 :+ var 6 :* var 6)))) (σ ∷ c ∷ H ∷ L .x ∷ L .y ∷ Q .x ∷ Q .y ∷ []) tt,
-      ring (var 0 :* var 0 :* (var 1 :* var 2 :* var 3 :* var 4 :* (var 1 :* var 2 :* var 3 :* var 4))) (var 3 :* var 3 :* (var 0 :* var 1 :* (var 0 :* var 1) :* lit (ofNat 1) :* (var 2 :* var 4 :* (var 2 :* var 4)))) (σ ∷ under ∷ A ∷ H ∷ ofNat E ∷ []) tt,
-    ))
+      pub off-short : dot (off F s k over under) (off F s k over under) ≼ under ⊠ A ⊠ H ⊠ ofNat E ⊠ (under ⊠ A ⊠ H ⊠ ofNat E)
+      off-short = cancel (σ ⊠ σ) (dot (off F s k over under) (off F s k over under)) (under ⊠ A ⊠ H ⊠ ofNat E ⊠ (under ⊠ A ⊠ H ⊠ ofNat E)) (⊠-pos σ σ (omega
+          (arith, h .some)) (omega (arith, h .some))) (omega (
+            arith,
+            ⊠-mono (H ⊠ H) (c ⊠ c ⊠ (dot P P ⊠ dot Q Q)) (σ ⊠ under ⊠ (σ ⊠ under) ⊠ ofNat 1 ⊠ (A ⊠ ofNat E ⊠ (A ⊠ ofNat E))) (⊠-square H) moved,
+            ring (var 0 :* var 0 :* (var 1 :* var 2 :* (var 3 :* var 5 :- var 4 :* var 6) :* (var 1 :* var 2 :* (var 3 :* var 5 :- var 4 :* var 6)) :+ var 1 :*
+                var 2 :* (var 4 :* var 5 :+ var 3 :* var 6) :* (var 1 :* var 2 :* (var 4 :* var 5 :+ var 3 :* var 6))))
+                (var 2 :* var 2 :* (var 1 :* var 1 :* ((var 0 :* var 3 :* (var 0 :* var 3) :+ var 0 :* var 4 :* (var 0 :* var 4)) :* (var 5 :* var 5 :+ var 6 :*
+                var 6)))) (σ ∷ c ∷ H ∷ L .x ∷ L .y ∷ Q .x ∷ Q .y ∷ []) tt,
+            ring (var 0 :* var 0 :* (var 1 :* var 2 :* var 3 :* var 4 :* (var 1 :* var 2 :* var 3 :* var 4))) (var 3 :* var 3 :* (var 0 :* var 1 :* (var 0 :* var
+                1) :* lit (ofNat 1) :* (var 2 :* var 4 :* (var 2 :* var 4)))) (σ ∷ under ∷ A ∷ H ∷ ofNat E ∷ []) tt,
+          ))

@@ -7,8 +7,8 @@ use Rattle.integers.specs.Whole.{Within}
 use Rattle.integers.specs.Polynomial.{var, _:+_, _:-_, _:*_}
 use Rattle.integers.proofs.Ring.{ring}
 use Rattle.integers.proofs.Sized.{within-product}
-use Rattle.exact.specs.Plane.{Point, difference, scaled, dot, total}
-use Rattle.exact.specs.Outline.{PointOf, divisor, dividend}
+use Rattle.plane.specs.Plane.{Point, difference, scaled, dot, total}
+use Rattle.plane.specs.Outline.{PointOf, divisor, dividend}
 use Rattle.whole_move.specs.Piece.{turnedBy, Moment, whole}
 use Rattle.whole_way.specs.Mover.{Mover, on}
 use Rattle.whole_move.proofs.Forms.{dot-near}
@@ -21,18 +21,22 @@ itself : (n : ℕ) → Within n (ofNat n)
 itself n = record { upper = omega arith; lower = omega arith }
 
 -- j times what is off by at most a, and k times what is off by at most b
-both : (j k a b : ℕ) (J K x y x' y' : Int) → Within j J → Within k K → Within a (x ⊟ x') → Within b (y ⊟ y') → Within (j * a + k * b) (J ⊠ x ⊞ K ⊠ y ⊟ (J ⊠ x' ⊞ K ⊠ y'))
+both : (j k a b : ℕ) (J K x y x' y' : Int) → Within j J → Within k K → Within a (x ⊟ x') → Within b (y ⊟ y') → Within (j * a + k * b) (J ⊠ x ⊞ K ⊠ y ⊟ (J ⊠
+    x' ⊞ K ⊠ y'))
 both j k a b J K x y x' y' hj hk h l =
     let p = within-product j a J (x ⊟ x') hj h in
     let q = within-product k b K (y ⊟ y') hk l in
-    let same = ring (var 0 :* (var 2 :- var 4) :+ var 1 :* (var 3 :- var 5)) (var 0 :* var 2 :+ var 1 :* var 3 :- (var 0 :* var 4 :+ var 1 :* var 5)) (J ∷ K ∷ x ∷ y ∷ x' ∷ y' ∷ []) tt in
+    let same = ring (var 0 :* (var 2 :- var 4) :+ var 1 :* (var 3 :- var 5)) (var 0 :* var 2 :+ var 1 :* var 3 :- (var 0 :* var 4 :+ var 1 :* var 5)) (J ∷
+    K ∷ x ∷ y ∷ x' ∷ y' ∷ []) tt in
     record { upper = omega (arith, same, p .upper, q .upper); lower = omega (arith, same, p .lower, q .lower) }
 
-both-minus : (j k a b : ℕ) (J K x y x' y' : Int) → Within j J → Within k K → Within a (x ⊟ x') → Within b (y ⊟ y') → Within (j * a + k * b) (J ⊠ x ⊟ K ⊠ y ⊟ (J ⊠ x' ⊟ K ⊠ y'))
+both-minus : (j k a b : ℕ) (J K x y x' y' : Int) → Within j J → Within k K → Within a (x ⊟ x') → Within b (y ⊟ y') → Within (j * a + k * b) (J ⊠ x ⊟ K ⊠
+    y ⊟ (J ⊠ x' ⊟ K ⊠ y'))
 both-minus j k a b J K x y x' y' hj hk h l =
     let p = within-product j a J (x ⊟ x') hj h in
     let q = within-product k b K (y ⊟ y') hk l in
-    let same = ring (var 0 :* (var 2 :- var 4) :- var 1 :* (var 3 :- var 5)) (var 0 :* var 2 :- var 1 :* var 3 :- (var 0 :* var 4 :- var 1 :* var 5)) (J ∷ K ∷ x ∷ y ∷ x' ∷ y' ∷ []) tt in
+    let same = ring (var 0 :* (var 2 :- var 4) :- var 1 :* (var 3 :- var 5)) (var 0 :* var 2 :- var 1 :* var 3 :- (var 0 :* var 4 :- var 1 :* var 5)) (J ∷
+    K ∷ x ∷ y ∷ x' ∷ y' ∷ []) tt in
     record { upper = omega (arith, same, p .upper, q .lower); lower = omega (arith, same, p .lower, q .upper) }
 
 -- ---- where a turn places a point
@@ -44,8 +48,10 @@ place-near m F w e0 e d M K c t v c' t' v' hc ht hv bv bt =
     let hJ = within-product F w (ofNat F) (ofNat w) (itself F) (itself w) in
     let hH : Within (m .u + m .w) (whole m) = record { upper = omega arith; lower = omega arith } in
     record {
-      x = both (F * w) (m .u + m .w) e0 b J (whole m) (c .x) (turnedBy t v .x) (c' .x) (turnedBy t' v' .x) hJ hH (hc .x) (turned-near-x e d M K t v t' v' (ht .x) (ht .y) (hv .x) (hv .y) (bv .x) (bv .y) (bt .x) (bt .y));
-      y = both (F * w) (m .u + m .w) e0 b J (whole m) (c .y) (turnedBy t v .y) (c' .y) (turnedBy t' v' .y) hJ hH (hc .y) (turned-near-y e d M K t v t' v' (ht .x) (ht .y) (hv .x) (hv .y) (bv .x) (bv .y) (bt .x) (bt .y));
+      x = both (F * w) (m .u + m .w) e0 b J (whole m) (c .x) (turnedBy t v .x) (c' .x) (turnedBy t' v' .x) hJ hH (hc .x) (turned-near-x e d M K t v t' v'
+          (ht .x) (ht .y) (hv .x) (hv .y) (bv .x) (bv .y) (bt .x) (bt .y));
+      y = both (F * w) (m .u + m .w) e0 b J (whole m) (c .y) (turnedBy t v .y) (c' .y) (turnedBy t' v' .y) hJ hH (hc .y) (turned-near-y e d M K t v t' v'
+          (ht .x) (ht .y) (hv .x) (hv .y) (bv .x) (bv .y) (bt .x) (bt .y));
     }
 
 -- and the difference of the two, each times the other's divisor
@@ -64,16 +70,20 @@ pub near-near : (a b : ℕ) (x y z : Point) → Near a x y → Near b y z → Ne
 near-near a b x y z h l = record { x = chain a b (x .x) (y .x) (z .x) (h .x) (l .x); y = chain a b (x .y) (y .y) (z .y) (h .y) (l .y) }
 
 -- All of it: what `Touches` asks of `shown`, where code's difference, made of its own centres, turns and points, is within f of scale times `shown`.
-pub shown-near : (m : Moment) (F sa sb : ℕ) (a b : Mover) (p : PointOf (frame a)) (q : PointOf (frame b)) (e0 e d M K e0' e' d' M' K' : ℕ) (ca ta va cb tb vb : Point)
-    → Near e0 (on m (a .centre1) (a .centre2)) ca → Near e (lengthened m sa a) ta → Near d (dividend (frame a) p) va → Small M (dividend (frame a) p) → Small K ta
-    → Near e0' (on m (b .centre1) (b .centre2)) cb → Near e' (lengthened m sb b) tb → Near d' (dividend (frame b) q) vb → Small M' (dividend (frame b) q) → Small K' tb
+pub shown-near : (m : Moment) (F sa sb : ℕ) (a b : Mover) (p : PointOf (frame a)) (q : PointOf (frame b)) (e0 e d M K e0' e' d' M' K' : ℕ) (ca ta va cb tb
+    vb : Point)
+    → Near e0 (on m (a .centre1) (a .centre2)) ca → Near e (lengthened m sa a) ta → Near d (dividend (frame a) p) va → Small M (dividend (frame a) p) →
+    Small K ta
+    → Near e0' (on m (b .centre1) (b .centre2)) cb → Near e' (lengthened m sb b) tb → Near d' (dividend (frame b) q) vb → Small M' (dividend (frame b) q) →
+    Small K' tb
     → (f scale : ℕ) (shown : Point)
     → let A = divisor (frame a) p in
     let B = divisor (frame b) q in
     let wa = total (a .count) (p .weight) in
     let wb = total (b .count) (q .weight) in
     Near f (difference (scaled B (placeFrom m F A ca ta va)) (scaled A (placeFrom m F B cb tb vb))) (scaled (ofNat scale) shown)
-    → Near (wb * offBy m F wa e0 e d M K + wa * offBy m F wb e0' e' d' M' K' + f) (difference (scaled B (placeBy m F sa a p)) (scaled A (placeBy m F sb b q))) (scaled (ofNat scale) shown)
+    → Near (wb * offBy m F wa e0 e d M K + wa * offBy m F wb e0' e' d' M' K' + f) (difference (scaled B (placeBy m F sa a p)) (scaled A (placeBy m F sb b
+    q))) (scaled (ofNat scale) shown)
 shown-near m F sa sb a b p q e0 e d M K e0' e' d' M' K' ca ta va cb tb vb h1 h2 h3 h4 h5 l1 l2 l3 l4 l5 f scale shown last =
     let wa = total (a .count) (p .weight) in
     let wb = total (b .count) (q .weight) in
@@ -121,8 +131,10 @@ seen-steady m F slack s o p E t h =
 pub seen-checked : (m : Moment) (S distance : ℕ) (a b : Mover) → SeenTouch m S distance a b → Touches m S distance a b
 seen-checked m S distance a b h =
     let F = h .F in
-    let near = shown-near m F (h .sa) (h .sb) a b (h .pointA) (h .pointB) (h .e0) (h .bodyA .e) (h .d) (h .M) (h .bodyA .K) (h .e0') (h .bodyB .e) (h .d') (h .M') (h .bodyB .K) (h .ca) (h .ta) (h .va) (h .cb) (h .tb) (h .vb)
-    (h .centreA) (h .bodyA .turn) (h .placeA) (h .smallA) (h .bodyA .small-seen) (h .centreB) (h .bodyB .turn) (h .placeB) (h .smallB) (h .bodyB .small-seen) (h .f) (h .scale) (h .shown) (h .last) in
+    let near = shown-near m F (h .sa) (h .sb) a b (h .pointA) (h .pointB) (h .e0) (h .bodyA .e) (h .d) (h .M) (h .bodyA .K) (h .e0') (h .bodyB .e) (h .d')
+    (h .M') (h .bodyB .K) (h .ca) (h .ta) (h .va) (h .cb) (h .tb) (h .vb)
+    (h .centreA) (h .bodyA .turn) (h .placeA) (h .smallA) (h .bodyA .small-seen) (h .centreB) (h .bodyB .turn) (h .placeB) (h .smallB)
+    (h .bodyB .small-seen) (h .f) (h .scale) (h .shown) (h .last) in
     let e = total (b .count) (h .pointB .weight) * offBy m F (total (a .count) (h .pointA .weight)) (h .e0) (h .bodyA .e) (h .d) (h .M) (h .bodyA .K)
     + total (a .count) (h .pointA .weight) * offBy m F (total (b .count) (h .pointB .weight)) (h .e0') (h .bodyB .e) (h .d') (h .M') (h .bodyB .K) + h .f in
     record {

@@ -7,9 +7,9 @@ use Rattle.integers.specs.Whole.{Within}
 use Rattle.integers.specs.Polynomial.{var, _:+_, _:-_, _:*_, negated}
 use Rattle.integers.proofs.Signed.{⊠-cong, ⊠-cong-r, ⊠-nonneg, ⊠-square}
 use Rattle.integers.proofs.Ring.{ring}
-use Rattle.exact.specs.Plane.{Point, sum, difference, opposite, scaled, dot}
-use Rattle.exact.specs.Outline.{divisor, gap}
-use Rattle.exact.proofs.Weights.{⊠-mono}
+use Rattle.plane.specs.Plane.{Point, sum, difference, opposite, scaled, dot}
+use Rattle.plane.specs.Outline.{divisor, gap}
+use Rattle.plane.proofs.Weights.{⊠-mono}
 use Rattle.whole_move.specs.Blend.{twice}
 use Rattle.whole_move.specs.Piece.{Moment, whole}
 use Rattle.whole_way.specs.Mover.{Mover, TurnAt}
@@ -26,12 +26,17 @@ longer-by : (k : Int) (d : Point) (r : Int) → dot d d ≼ r ⊠ r → dot (sca
 longer-by k d r h = omega (
   arith,
   ⊠-mono (k ⊠ k) (dot d d) (r ⊠ r) (⊠-square k) h,
-  ring (var 0 :* var 1 :* (var 0 :* var 1) :+ var 0 :* var 2 :* (var 0 :* var 2)) (var 0 :* var 0 :* (var 1 :* var 1 :+ var 2 :* var 2)) (k ∷ d .x ∷ d .y ∷ []) tt,
+  ring (var 0 :* var 1 :* (var 0 :* var 1) :+ var 0 :* var 2 :* (var 0 :* var 2)) (var 0 :* var 0 :* (var 1 :* var 1 :+ var 2 :* var 2)) (k ∷ d .x ∷ d .y ∷
+      []) tt,
   ring (var 0 :* var 1 :* (var 0 :* var 1)) (var 0 :* var 0 :* (var 1 :* var 1)) (k ∷ r ∷ []) tt,
 )
 
 as-long : (d : Point) (r : Int) → dot d d ≼ r ⊠ r → dot (opposite d) (opposite d) ≼ r ⊠ r
-as-long d r h = omega (arith, ring (var 0 :* var 0 :+ var 1 :* var 1) (negated (var 0) :* negated (var 0) :+ negated (var 1) :* negated (var 1)) (d .x ∷ d .y ∷ []) tt)
+as-long d r h = omega (
+  arith,
+  ring (var 0 :* var 0 :+ var 1 :* var 1) (negated (var 0) :* negated (var 0) :+ negated (var 1) :* negated (var 1)) (d .x ∷
+      d .y ∷ []) tt,
+)
 
 -- a point that is shown rounded
 shown-short : (x shown : Point) (scale e D reach : ℕ) → Within e (x .x ⊟ ofNat scale ⊠ shown .x) → Within e (x .y ⊟ ofNat scale ⊠ shown .y)
@@ -58,7 +63,8 @@ part F A B s t p q pa qb oa ob h l = omega (
   ⊠-cong-r B (F ⊠ p) (t ⊠ (s ⊠ pa ⊞ oa)) h,
   ⊠-cong-r A (F ⊠ q) (s ⊠ (t ⊠ qb ⊞ ob)) l,
   ring (var 0 :* (var 2 :* var 3 :- var 1 :* var 4)) (var 2 :* (var 0 :* var 3) :- var 1 :* (var 0 :* var 4)) (F ∷ A ∷ B ∷ p ∷ q ∷ []) tt,
-  ring (var 1 :* (var 3 :* (var 2 :* var 4 :+ var 6)) :- var 0 :* (var 2 :* (var 3 :* var 5 :+ var 7))) (var 3 :* var 1 :* var 6 :+ var 2 :* var 0 :* negated (var 7) :+ var 2 :* var 3 :* (var 1 :* var 4 :- var 0 :* var 5))
+  ring (var 1 :* (var 3 :* (var 2 :* var 4 :+ var 6)) :- var 0 :* (var 2 :* (var 3 :* var 5 :+ var 7))) (var 3 :* var 1 :* var 6 :+ var 2 :* var 0 :*
+      negated (var 7) :+ var 2 :* var 3 :* (var 1 :* var 4 :- var 0 :* var 5))
       (A ∷ B ∷ s ∷ t ∷ pa ∷ qb ∷ oa ∷ ob ∷ []) tt,
 )
 
@@ -73,7 +79,8 @@ add-up F A B H s t M E E' ρ g FF hA hB hH hs ht hM hE hE' enough h =
     let r = t ⊠ B ⊠ (s ⊠ A ⊠ H ⊠ E) ⊞ s ⊠ A ⊠ (t ⊠ B ⊠ H ⊠ E') ⊞ s ⊠ t ⊠ M in
     let K = ⊠-nonneg (A ⊠ B) H (⊠-nonneg A B hA hB) hH in
     let low = ⊠-nonneg (s ⊠ t) (M ⊞ k ⊠ (E ⊞ E')) st (omega (arith, hM, ⊠-nonneg k (E ⊞ E') K (omega (arith, hE, hE')))) in
-    let same = ring (var 0 :* var 1 :* (var 2 :+ var 3 :* var 4 :* var 5 :* (var 6 :+ var 7))) (var 1 :* var 4 :* (var 0 :* var 3 :* var 5 :* var 6) :+ var 0 :* var 3 :* (var 1 :* var 4 :* var 5 :* var 7) :+ var 0 :* var 1 :* var 2)
+    let same = ring (var 0 :* var 1 :* (var 2 :+ var 3 :* var 4 :* var 5 :* (var 6 :+ var 7))) (var 1 :* var 4 :* (var 0 :* var 3 :* var 5 :* var 6) :+ var
+    0 :* var 3 :* (var 1 :* var 4 :* var 5 :* var 7) :+ var 0 :* var 1 :* var 2)
     (s ∷ t ∷ M ∷ A ∷ B ∷ H ∷ E ∷ E' ∷ []) tt in
     let up : r ≼ s ⊠ t ⊠ (k ⊠ (F ⊠ ρ)) = omega (arith, same, ⊠-mono (s ⊠ t) (M ⊞ k ⊠ (E ⊞ E')) (k ⊠ (F ⊠ ρ)) st enough) in
     let R : 0Int ≼ r = omega (arith, same, low) in
@@ -83,7 +90,8 @@ add-up F A B H s t M E E' ρ g FF hA hB hH hs ht hM hE hE' enough h =
       h,
       products r r (s ⊠ t ⊠ (k ⊠ (F ⊠ ρ))) (s ⊠ t ⊠ (k ⊠ (F ⊠ ρ))) R (omega (arith, R, up)) up up,
       ring (var 0 :* var 1 :* (var 2 :* var 3 :* var 4 :* (var 5 :* var 6)) :* (var 0 :* var 1 :* (var 2 :* var 3 :* var 4 :* (var 5 :* var 6))))
-          (var 5 :* var 5 :* (var 2 :* var 3 :* (var 0 :* var 1 :* var 4 :* var 6) :* (var 2 :* var 3 :* (var 0 :* var 1 :* var 4 :* var 6)))) (s ∷ t ∷ A ∷ B ∷ H ∷ F ∷ ρ ∷ []) tt,
+          (var 5 :* var 5 :* (var 2 :* var 3 :* (var 0 :* var 1 :* var 4 :* var 6) :* (var 2 :* var 3 :* (var 0 :* var 1 :* var 4 :* var 6)))) (s ∷ t ∷ A ∷
+          B ∷ H ∷ F ∷ ρ ∷ []) tt,
     ))
 
 module _ (m : Moment) (S distance : ℕ) (a b : Mover) (h : Touches m S distance a b) where
@@ -118,8 +126,10 @@ module _ (m : Moment) (S distance : ℕ) (a b : Mover) (h : Touches m S distance
   MM = omega (arith, ⊠-nonneg (ofNat (h .scale)) (ofNat (h .reach)) (omega arith) (omega arith))
 
   close : (s : TurnAt m S a) (t : TurnAt m S b)
-      → AtMostApart (ofNat (s .under) ⊠ ofNat (t .under) ⊠ whole m ⊠ ofNat distance) (outlineAt m (ofNat (t .under)) (ofNat (s .over)) (ofNat (s .under)) a) (outlineAt m (ofNat (s .under)) (ofNat (t .over)) (ofNat (t .under)) b)
-      (carried m (ofNat (t .under)) (ofNat (s .over)) (ofNat (s .under)) a (h .pointA)) (carried m (ofNat (s .under)) (ofNat (t .over)) (ofNat (t .under)) b (h .pointB))
+      → AtMostApart (ofNat (s .under) ⊠ ofNat (t .under) ⊠ whole m ⊠ ofNat distance) (outlineAt m (ofNat (t .under)) (ofNat (s .over)) (ofNat (s .under))
+      a) (outlineAt m (ofNat (s .under)) (ofNat (t .over)) (ofNat (t .under)) b)
+      (carried m (ofNat (t .under)) (ofNat (s .over)) (ofNat (s .under)) a (h .pointA)) (carried m (ofNat (s .under)) (ofNat (t .over)) (ofNat (t .under))
+      b (h .pointB))
   close s t =
       let sU = ofNat (s .under) in
       let tU = ofNat (t .under) in
@@ -135,24 +145,31 @@ module _ (m : Moment) (S distance : ℕ) (a b : Mover) (h : Touches m S distance
       let d3 = scaled (sU ⊠ tU) x in
       let e1 = sU ⊠ A ⊠ H ⊠ ofNat (h .EA) in
       let e2 = tU ⊠ B ⊠ H ⊠ ofNat (h .EB) in
-      let E1 : 0Int ≼ e1 = ⊠-nonneg (sU ⊠ A ⊠ H) (ofNat (h .EA)) (⊠-nonneg (sU ⊠ A) H (⊠-nonneg sU A (omega arith) (omega arith)) (omega arith)) (omega arith) in
-      let E2 : 0Int ≼ e2 = ⊠-nonneg (tU ⊠ B ⊠ H) (ofNat (h .EB)) (⊠-nonneg (tU ⊠ B) H (⊠-nonneg tU B (omega arith) (omega arith)) (omega arith)) (omega arith) in
+      let E1 : 0Int ≼ e1 = ⊠-nonneg (sU ⊠ A ⊠ H) (ofNat (h .EA)) (⊠-nonneg (sU ⊠ A) H (⊠-nonneg sU A (omega arith) (omega arith)) (omega arith)) (omega
+      arith) in
+      let E2 : 0Int ≼ e2 = ⊠-nonneg (tU ⊠ B ⊠ H) (ofNat (h .EB)) (⊠-nonneg (tU ⊠ B) H (⊠-nonneg tU B (omega arith) (omega arith)) (omega arith)) (omega
+      arith) in
       let r1 = ⊠-nonneg (tU ⊠ B) e1 (⊠-nonneg tU B (omega arith) (omega arith)) E1 in
       let r2 = ⊠-nonneg (sU ⊠ A) e2 (⊠-nonneg sU A (omega arith) (omega arith)) E2 in
       let r3 = ⊠-nonneg (sU ⊠ tU) M (⊠-nonneg sU tU (omega arith) (omega arith)) MM in
       let short1 = longer-by (tU ⊠ B) oa e1 (off-short m a (h .pointA) (h .F) (h .slack) (h .sa) (h .EA) S tU (h .some) (h .wide) s (h .bodyA)) in
-      let short2 = longer-by (sU ⊠ A) (opposite ob) e2 (as-long ob e2 (off-short m b (h .pointB) (h .F) (h .slack) (h .sb) (h .EB) S sU (h .some) (h .wide) t (h .bodyB))) in
+      let short2 = longer-by (sU ⊠ A) (opposite ob) e2 (as-long ob e2 (off-short m b (h .pointB) (h .F) (h .slack) (h .sb) (h .EB) S sU (h .some) (h .wide)
+      t (h .bodyB))) in
       let short12 = longer d1 d2 (tU ⊠ B ⊠ e1) (sU ⊠ A ⊠ e2) r1 r2 short1 short2 in
       let short123 = longer (sum d1 d2) d3 (tU ⊠ B ⊠ e1 ⊞ sU ⊠ A ⊠ e2) (sU ⊠ tU ⊠ M) (omega (arith, r1, r2)) r3 short12 (longer-by (sU ⊠ tU) x M x-short) in
-      let gx = part F A B sU tU (ta .x) (tb .x) (pa .x) (pb .x) (oa .x) (ob .x) (off-x m a (h .pointA) (h .F) (h .sa) tU sO sU) (off-x m b (h .pointB) (h .F) (h .sb) sU tO tU) in
-      let gy = part F A B sU tU (ta .y) (tb .y) (pa .y) (pb .y) (oa .y) (ob .y) (off-y m a (h .pointA) (h .F) (h .sa) tU sO sU) (off-y m b (h .pointB) (h .F) (h .sb) sU tO tU) in
-      add-up F A B H sU tU M (ofNat (h .EA)) (ofNat (h .EB)) (ofNat distance) (dot g g) (omega (arith, h .bodyA .room)) (omega arith) (omega arith) (omega arith) (omega arith) (omega arith) MM (omega arith) (omega arith)
+      let gx = part F A B sU tU (ta .x) (tb .x) (pa .x) (pb .x) (oa .x) (ob .x) (off-x m a (h .pointA) (h .F) (h .sa) tU sO sU) (off-x m b (h .pointB)
+      (h .F) (h .sb) sU tO tU) in
+      let gy = part F A B sU tU (ta .y) (tb .y) (pa .y) (pb .y) (oa .y) (ob .y) (off-y m a (h .pointA) (h .F) (h .sa) tU sO sU) (off-y m b (h .pointB)
+      (h .F) (h .sb) sU tO tU) in
+      add-up F A B H sU tU M (ofNat (h .EA)) (ofNat (h .EB)) (ofNat distance) (dot g g) (omega (arith, h .bodyA .room)) (omega arith) (omega arith) (omega
+      arith) (omega arith) (omega arith) MM (omega arith) (omega arith)
       (h .enough)
       (omega (
         arith,
         short123,
         same-length (scaled F g) (sum (sum d1 d2) d3) gx gy,
-        ring (var 0 :* var 1 :* (var 0 :* var 1) :+ var 0 :* var 2 :* (var 0 :* var 2)) (var 0 :* var 0 :* (var 1 :* var 1 :+ var 2 :* var 2)) (F ∷ g .x ∷ g .y ∷ []) tt,
+        ring (var 0 :* var 1 :* (var 0 :* var 1) :+ var 0 :* var 2 :* (var 0 :* var 2)) (var 0 :* var 0 :* (var 1 :* var 1 :+ var 2 :* var 2)) (F ∷ g .x ∷
+            g .y ∷ []) tt,
       ))
 
 -- the theorem

@@ -7,8 +7,8 @@ use Rattle.integers.specs.Signed.{0Int, ofNat, _⊞_, _⊟_, _⊠_, _≼_, _≺
 use Rattle.integers.specs.Polynomial.{var, lit, _:+_, _:-_, _:*_}
 use Rattle.integers.proofs.Signed.{⊠-cong, ⊠-nonneg, ⊠-square}
 use Rattle.integers.proofs.Ring.{ring}
-use Rattle.exact.specs.Plane.{dot}
-use Rattle.exact.proofs.Weights.{⊠-mono}
+use Rattle.plane.specs.Plane.{dot}
+use Rattle.plane.proofs.Weights.{⊠-mono}
 use Rattle.whole_move.specs.Piece.{Moment}
 use Rattle.whole_way.specs.Mover.{Mover, headingAt, TurnAt}
 use Rattle.whole_move.proofs.Lengths.{at-most-or-above, square-above, below-root}
@@ -21,10 +21,19 @@ record Root (n : ℕ) : Type 0 where
   high : ofNat n ≺ (ofNat r ⊞ ofNat 1) ⊠ (ofNat r ⊞ ofNat 1)
 
 root : (n : ℕ) → Root n
-root zero = record { r = 0; low = omega (arith, ring (lit 0Int :* lit 0Int) (lit 0Int) [] tt); high = omega (arith, ring ((lit 0Int :+ lit (ofNat 1)) :* (lit 0Int :+ lit (ofNat 1))) (lit (ofNat 1)) [] tt) }
+root zero = record {
+  r = 0;
+  low = omega (arith, ring (lit 0Int :* lit 0Int) (lit 0Int) [] tt);
+  high = omega (
+    arith,
+    ring ((lit 0Int :+ lit (ofNat 1)) :*
+        (lit 0Int :+ lit (ofNat 1))) (lit (ofNat 1)) [] tt,
+  );
+}
 root (suc n) = go (root n)
   where
-    next : (q : Root n) → ((ofNat (q .r) ⊞ ofNat 1) ⊠ (ofNat (q .r) ⊞ ofNat 1) ≼ ofNat (suc n)) ⊎ (ofNat (suc n) ≺ (ofNat (q .r) ⊞ ofNat 1) ⊠ (ofNat (q .r) ⊞ ofNat 1)) → Root (suc n)
+    next : (q : Root n) → ((ofNat (q .r) ⊞ ofNat 1) ⊠ (ofNat (q .r) ⊞ ofNat 1) ≼ ofNat (suc n)) ⊎ (ofNat (suc n) ≺ (ofNat (q .r) ⊞ ofNat 1) ⊠ (ofNat
+        (q .r) ⊞ ofNat 1)) → Root (suc n)
     next q (inl h) = record {
       r = suc (q .r);
       low = omega (arith, h, ⊠-cong (ofNat (suc (q .r))) (ofNat (q .r) ⊞ ofNat 1) (ofNat (suc (q .r))) (ofNat (q .r) ⊞ ofNat 1) (omega arith) (omega arith));
@@ -69,6 +78,7 @@ some-turn m S o h = go (root (natural (ofNat (S + S + 2) ⊠ ofNat (S + S + 2) �
             arith,
             ⊠-mono (ofNat S) z (r ⊠ r ⊞ r ⊞ r) (omega arith) (omega (arith, q .high, is, square)),
             ⊠-nonneg r (r ⊟ (ofNat S ⊞ ofNat S)) (omega arith) (omega (arith, large)),
-            ring (var 1 :* (var 0 :* var 0 :+ var 0 :+ var 0)) (var 0 :* var 0 :* (var 1 :+ lit (ofNat 1)) :- var 0 :* (var 0 :- (var 1 :+ var 1))) (r ∷ ofNat S ∷ []) tt,
+            ring (var 1 :* (var 0 :* var 0 :+ var 0 :+ var 0)) (var 0 :* var 0 :* (var 1 :+ lit (ofNat 1)) :- var 0 :* (var 0 :- (var 1 :+ var 1))) (r ∷
+                ofNat S ∷ []) tt,
           );
         }

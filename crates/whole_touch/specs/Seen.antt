@@ -2,8 +2,8 @@
 use Prim.Native.Nat.{ℕ, _+_, _*_, _<_}
 use Rattle.integers.specs.Signed.{Int, ofNat, _⊞_, _⊟_, _⊠_, _≼_, _≺_}
 use Rattle.integers.specs.Whole.{Within}
-use Rattle.exact.specs.Plane.{Point, sum, difference, scaled, dot, total}
-use Rattle.exact.specs.Outline.{PointOf, divisor, dividend}
+use Rattle.plane.specs.Plane.{Point, sum, difference, scaled, dot, total}
+use Rattle.plane.specs.Outline.{PointOf, divisor, dividend}
 use Rattle.whole_move.specs.Blend.{twice}
 use Rattle.whole_move.specs.Piece.{turnedBy, Moment, whole}
 use Rattle.whole_way.specs.Mover.{Mover, on}
@@ -43,7 +43,8 @@ module _ (m : Moment) where
     pub long : ofNat F ⊠ ofNat F ⊟ ofNat y ⊞ ofNat (4 * (e * K)) ≼ dot t t
     pub short : dot t t ⊞ ofNat (4 * (e * K)) ≼ ofNat F ⊠ ofNat F ⊞ ofNat y
     pub inside : dot (dividend (frame o) p) (dividend (frame o) p) ≼ divisor (frame o) p ⊠ ofNat R ⊠ (divisor (frame o) p ⊠ ofNat R)
-    pub window : ofNat 64 ⊠ (ofNat R ⊠ ofNat R ⊠ ((ofNat y ⊞ ofNat slack) ⊠ (ofNat y ⊞ ofNat slack))) ≼ ofNat 225 ⊠ ((ofNat F ⊠ ofNat F ⊟ ofNat y) ⊠ (ofNat E ⊠ ofNat E))
+    pub window : ofNat 64 ⊠ (ofNat R ⊠ ofNat R ⊠ ((ofNat y ⊞ ofNat slack) ⊠ (ofNat y ⊞ ofNat slack))) ≼ ofNat 225 ⊠ ((ofNat F ⊠ ofNat F ⊟ ofNat y) ⊠ (ofNat
+        E ⊠ ofNat E))
 
   -- `shown` times `scale` is within f, in each part, of the difference that code's numbers have; D covers that and what they are off themselves.
   pub record SeenTouch (S distance : ℕ) (a b : Mover) : Type 0 where
@@ -90,4 +91,5 @@ module _ (m : Moment) where
         let e = wb * offBy m F wa e0 (bodyA .e) d M (bodyA .K) + wa * offBy m F wb e0' (bodyB .e) d' M' (bodyB .K) + f in
         twice (ofNat e ⊠ ofNat e) ≼ ofNat D ⊠ ofNat D
     pub reached : dot shown shown ≼ ofNat reach ⊠ ofNat reach
-    pub enough : let k = divisor (frame a) pointA ⊠ divisor (frame b) pointB ⊠ whole m in ofNat scale ⊠ ofNat reach ⊞ ofNat D ⊞ k ⊠ (ofNat EA ⊞ ofNat EB) ≼ k ⊠ (ofNat F ⊠ ofNat distance)
+    pub enough : let k = divisor (frame a) pointA ⊠ divisor (frame b) pointB ⊠ whole m in ofNat scale ⊠ ofNat reach ⊞ ofNat D ⊞ k ⊠ (ofNat EA ⊞ ofNat EB) ≼
+        k ⊠ (ofNat F ⊠ ofNat distance)

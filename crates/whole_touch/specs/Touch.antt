@@ -3,8 +3,8 @@
 use Prim.Native.Nat.{ℕ, _<_}
 use Rattle.integers.specs.Signed.{Int, ofNat, _⊞_, _⊟_, _⊠_, _≼_, _≺_}
 use Rattle.integers.specs.Whole.{Within}
-use Rattle.exact.specs.Plane.{Point, sum, difference, scaled, dot}
-use Rattle.exact.specs.Outline.{Outline, PointOf, divisor, dividend, gap}
+use Rattle.plane.specs.Plane.{Point, sum, difference, scaled, dot}
+use Rattle.plane.specs.Outline.{Outline, PointOf, divisor, dividend, gap}
 use Rattle.whole_move.specs.Blend.{twice}
 use Rattle.whole_move.specs.Piece.{turnedBy, Moment, whole}
 use Rattle.whole_way.specs.Mover.{Mover, on, headingAt, TurnAt, cornerAt}
@@ -45,7 +45,8 @@ module _ (m : Moment) where
 
   -- the point p of the body as that turn places it: in F-ths, times its divisor and u + w
   abbrev pub placeBy : (F s : ℕ) (o : Mover) → PointOf (frame o) → Point
-  placeBy F s o p = sum (scaled (ofNat F ⊠ divisor (frame o) p) (on m (o .centre1) (o .centre2))) (scaled (whole m) (turnedBy (lengthened s o) (dividend (frame o) p)))
+  placeBy F s o p = sum (scaled (ofNat F ⊠ divisor (frame o) p) (on m (o .centre1) (o .centre2))) (scaled (whole m) (turnedBy (lengthened s o) (dividend
+      (frame o) p)))
 
   -- The squared length of the turn is within y of F², the point lies within R of the centre, and no turn in the window moves it by more than E, in F-ths.
   -- `tame` and `window` are those of a piece's check.
@@ -58,7 +59,8 @@ module _ (m : Moment) where
     pub long : ofNat F ⊠ ofNat F ⊟ ofNat y ≼ dot (lengthened s o) (lengthened s o)
     pub short : dot (lengthened s o) (lengthened s o) ≼ ofNat F ⊠ ofNat F ⊞ ofNat y
     pub inside : dot (dividend (frame o) p) (dividend (frame o) p) ≼ divisor (frame o) p ⊠ ofNat R ⊠ (divisor (frame o) p ⊠ ofNat R)
-    pub window : ofNat 64 ⊠ (ofNat R ⊠ ofNat R ⊠ ((ofNat y ⊞ ofNat slack) ⊠ (ofNat y ⊞ ofNat slack))) ≼ ofNat 225 ⊠ ((ofNat F ⊠ ofNat F ⊟ ofNat y) ⊠ (ofNat E ⊠ ofNat E))
+    pub window : ofNat 64 ⊠ (ofNat R ⊠ ofNat R ⊠ ((ofNat y ⊞ ofNat slack) ⊠ (ofNat y ⊞ ofNat slack))) ≼ ofNat 225 ⊠ ((ofNat F ⊠ ofNat F ⊟ ofNat y) ⊠ (ofNat
+        E ⊠ ofNat E))
 
   -- The check: turns sa and sb times the headings, in F-ths; weights; and the difference of the two points that they place, as it is shown to the check:
   -- divided by `scale`, and rounded so that each part, times `scale`, is off by at most e. It is at most `reach` long, D covers the rounding of both parts,
@@ -81,8 +83,11 @@ module _ (m : Moment) where
     pub e : ℕ
     pub D : ℕ
     pub reach : ℕ
-    pub near-x : let x = difference (scaled (divisor (frame b) pointB) (placeBy F sa a pointA)) (scaled (divisor (frame a) pointA) (placeBy F sb b pointB)) in Within e (x .x ⊟ ofNat scale ⊠ shown .x)
-    pub near-y : let x = difference (scaled (divisor (frame b) pointB) (placeBy F sa a pointA)) (scaled (divisor (frame a) pointA) (placeBy F sb b pointB)) in Within e (x .y ⊟ ofNat scale ⊠ shown .y)
+    pub near-x : let x = difference (scaled (divisor (frame b) pointB) (placeBy F sa a pointA)) (scaled (divisor (frame a) pointA) (placeBy F sb b pointB))
+        in Within e (x .x ⊟ ofNat scale ⊠ shown .x)
+    pub near-y : let x = difference (scaled (divisor (frame b) pointB) (placeBy F sa a pointA)) (scaled (divisor (frame a) pointA) (placeBy F sb b pointB))
+        in Within e (x .y ⊟ ofNat scale ⊠ shown .y)
     pub rounding : twice (ofNat e ⊠ ofNat e) ≼ ofNat D ⊠ ofNat D
     pub reached : dot shown shown ≼ ofNat reach ⊠ ofNat reach
-    pub enough : let k = divisor (frame a) pointA ⊠ divisor (frame b) pointB ⊠ whole m in ofNat scale ⊠ ofNat reach ⊞ ofNat D ⊞ k ⊠ (ofNat EA ⊞ ofNat EB) ≼ k ⊠ (ofNat F ⊠ ofNat distance)
+    pub enough : let k = divisor (frame a) pointA ⊠ divisor (frame b) pointB ⊠ whole m in ofNat scale ⊠ ofNat reach ⊞ ofNat D ⊞ k ⊠ (ofNat EA ⊞ ofNat EB) ≼
+        k ⊠ (ofNat F ⊠ ofNat distance)

@@ -9,7 +9,7 @@ use Rattle.integers.specs.Signed.{Int, 0Int, ofNat, _⊞_, _⊟_, _⊠_, _≼_,
 use Rattle.integers.specs.Polynomial.{Expr, var, lit, _:+_, _:-_, _:*_}
 use Rattle.integers.proofs.Signed.{⊠-pos, ⊠-cong, ⊠-comm, le-or-lt}
 use Rattle.integers.proofs.Ring.{ring}
-use Rattle.exact.specs.Fraction.{Fraction, _≤ᶠ_}
+use Rattle.plane.specs.Fraction.{Fraction, _≤ᶠ_}
 use Rattle.whole_move.specs.Blend.{line}
 use Rattle.whole_move.specs.Piece.{Moment, whole}
 use Rattle.whole_way.specs.Mover.{Mover, AwayAt, Piece, InPiece, pieceFrom, share, at, AwayBetween, Settled}
@@ -18,7 +18,8 @@ use Rattle.whole_move.proofs.Clear.{checked-is-clear}
 use Rattle.whole_way.proofs.Moves.{natural, natural-is, piece-is-away}
 
 -- a settled piece
-pub settled-is-away : (S clearance : ℕ) (a b : Mover) (p : Piece) → 0 < S → Settled S clearance a b p → (g m : Moment) → InPiece p g m → AwayAt g S clearance a b
+pub settled-is-away : (S clearance : ℕ) (a b : Mover) (p : Piece) → 0 < S → Settled S clearance a b p → (g m : Moment) → InPiece p g m → AwayAt g S
+    clearance a b
 settled-is-away S clearance a b p SS k g m inside =
     piece-is-away p g m inside (k .f) (k .F) S (k .slack) clearance (k .room) (k .some .0) (k .F-is) SS (k .wide) (k .enough) (k .sa) (k .ta) (k .sb) (k .tb)
     (k .some .1) (k .some .2) (k .some .3) (k .some .4) a b (checked-is-clear (k .F) (k .slack) (k .room) _ _ (k .checked))
@@ -82,7 +83,8 @@ module _ (n k0 k1 : ℕ) (some : 0 < n) (h : k0 ≤ n) (order : k0 < k1) (fits :
       ⊠-cong (ofNat (natural c)) c (ofNat (g .u)) (ofNat (g .u)) c-is refl,
       ⊠-cong (ofNat (natural u)) u (ofNat (n - k0)) (N ⊟ ofNat k0) u-is (omega arith),
       ⊠-cong (ofNat (natural w)) w (ofNat (n - k1)) (N ⊟ ofNat k1) w-is (omega arith),
-      ring (var 0 :* (var 2 :- var 1) :* var 3) ((var 2 :* (var 3 :+ var 4) :- var 0 :* var 4) :* (var 0 :- var 1) :+ (var 0 :* var 4 :- var 1 :* (var 3 :+ var 4)) :* (var 0 :- var 2))
+      ring (var 0 :* (var 2 :- var 1) :* var 3) ((var 2 :* (var 3 :+ var 4) :- var 0 :* var 4) :* (var 0 :- var 1) :+ (var 0 :* var 4 :- var 1 :* (var 3 :+
+          var 4)) :* (var 0 :- var 2))
           (N ∷ ofNat k0 ∷ ofNat k1 ∷ ofNat (g .u) ∷ i ∷ []) tt,
     );
     same-w = omega (
@@ -90,7 +92,8 @@ module _ (n k0 k1 : ℕ) (some : 0 < n) (h : k0 ≤ n) (order : k0 < k1) (fits :
       ⊠-cong (ofNat (natural c)) c i i c-is refl,
       ⊠-cong (ofNat (natural u)) u (ofNat k0) (ofNat k0) u-is refl,
       ⊠-cong (ofNat (natural w)) w (ofNat k1) (ofNat k1) w-is refl,
-      ring (var 0 :* (var 2 :- var 1) :* var 4) ((var 2 :* (var 3 :+ var 4) :- var 0 :* var 4) :* var 1 :+ (var 0 :* var 4 :- var 1 :* (var 3 :+ var 4)) :* var 2)
+      ring (var 0 :* (var 2 :- var 1) :* var 4) ((var 2 :* (var 3 :+ var 4) :- var 0 :* var 4) :* var 1 :+ (var 0 :* var 4 :- var 1 :* (var 3 :+ var 4)) :*
+          var 2)
           (N ∷ ofNat k0 ∷ ofNat k1 ∷ ofNat (g .u) ∷ i ∷ []) tt,
     );
   }
@@ -101,10 +104,12 @@ pub settled-between : (S clearance : ℕ) (a b : Mover) → 0 < S → (n k0 k1 :
 settled-between S clearance a b SS n k0 k1 some h fits order settled g after before =
     let l : ofNat k0 ⊠ whole g ≼ ofNat n ⊠ ofNat (g .w) = omega (arith, after, ⊠-comm (ofNat k0) (whole g)) in
     let r : ofNat n ⊠ ofNat (g .w) ≼ ofNat k1 ⊠ whole g = omega (arith, before, ⊠-comm (ofNat k1) (whole g)) in
-    settled-is-away S clearance a b (pieceFrom n k0 k1 some h fits) SS settled g (there n k0 k1 some h order fits g l r) (is-there n k0 k1 some h order fits g l r)
+    settled-is-away S clearance a b (pieceFrom n k0 k1 some h fits) SS settled g (there n k0 k1 some h order fits g l r) (is-there n k0 k1 some h order
+    fits g l r)
 
 -- ---- parts of the way that meet
-pub joined : (S clearance : ℕ) (a b : Mover) (from mid to : Fraction) → AwayBetween S clearance a b from mid → AwayBetween S clearance a b mid to → AwayBetween S clearance a b from to
+pub joined : (S clearance : ℕ) (a b : Mover) (from mid to : Fraction) → AwayBetween S clearance a b from mid → AwayBetween S clearance a b mid to →
+    AwayBetween S clearance a b from to
 joined S clearance a b from mid to first second g after before = go (at-most-or-above (mid .bottom ⊠ ofNat (g .w)) (whole g ⊠ mid .top))
   where
     go : (at g ≤ᶠ mid) ⊎ (whole g ⊠ mid .top ≺ mid .bottom ⊠ ofNat (g .w)) → AwayAt g S clearance a b

@@ -7,8 +7,8 @@ use Rattle.integers.specs.Signed.{Int, 0Int, ofNat, _⊞_, _⊟_, _⊠_, _≼_,
 use Rattle.integers.specs.Polynomial.{Expr, var, lit, _:+_, _:-_, _:*_}
 use Rattle.integers.proofs.Signed.{⊠-nonneg, ⊠-pos, ⊠-square, ⊠-cong, ⊠-cong-r}
 use Rattle.integers.proofs.Ring.{ring}
-use Rattle.exact.specs.Plane.{Point, scaled, dot}
-use Rattle.exact.proofs.Weights.{⊠-mono}
+use Rattle.plane.specs.Plane.{Point, scaled, dot}
+use Rattle.plane.proofs.Weights.{⊠-mono}
 use Rattle.whole_move.specs.Blend.{twice, line, bend}
 use Rattle.whole_move.specs.Piece.{Controls, Body, turnedBy, Moment, whole, bendAt, Turned, placedCorner, FartherThan, ClearThroughout}
 use Rattle.whole_way.specs.Mover.{Mover, on, headingAt, TurnAt, cornerAt, AwayAt, Piece, InPiece, onPiece}
@@ -23,7 +23,8 @@ module _ (S F2 slack under2 long : Int) (SS : 0Int ≺ S) (FF : 0Int ≼ F2) (UU
     arith,
     ⊠-mono F2 (under2 ⊠ (S ⊟ ofNat 1)) (S ⊠ long) FF h,
     ⊠-mono under2 F2 (slack ⊠ S) UU wide,
-    ring (var 0 :* (var 3 :* (var 1 :- var 2))) (var 1 :* (var 3 :* (var 0 :- lit (ofNat 1))) :+ var 3 :* var 1 :- var 3 :* (var 2 :* var 0)) (S ∷ F2 ∷ slack ∷ under2 ∷ []) tt,
+    ring (var 0 :* (var 3 :* (var 1 :- var 2))) (var 1 :* (var 3 :* (var 0 :- lit (ofNat 1))) :+ var 3 :* var 1 :- var 3 :* (var 2 :* var 0)) (S ∷ F2 ∷
+        slack ∷ under2 ∷ []) tt,
     ring (var 0 :* (var 1 :* var 2)) (var 1 :* (var 0 :* var 2)) (S ∷ F2 ∷ long ∷ []) tt,
   ))
 
@@ -32,7 +33,8 @@ module _ (S F2 slack under2 long : Int) (SS : 0Int ≺ S) (FF : 0Int ≼ F2) (UU
     arith,
     ⊠-mono F2 (S ⊠ long) (under2 ⊠ (S ⊞ ofNat 1)) FF h,
     ⊠-mono under2 F2 (slack ⊠ S) UU wide,
-    ring (var 0 :* (var 3 :* (var 1 :+ var 2))) (var 1 :* (var 3 :* (var 0 :+ lit (ofNat 1))) :- var 3 :* var 1 :+ var 3 :* (var 2 :* var 0)) (S ∷ F2 ∷ slack ∷ under2 ∷ []) tt,
+    ring (var 0 :* (var 3 :* (var 1 :+ var 2))) (var 1 :* (var 3 :* (var 0 :+ lit (ofNat 1))) :- var 3 :* var 1 :+ var 3 :* (var 2 :* var 0)) (S ∷ F2 ∷
+        slack ∷ under2 ∷ []) tt,
     ring (var 0 :* (var 1 :* var 2)) (var 1 :* (var 0 :* var 2)) (S ∷ F2 ∷ long ∷ []) tt,
   ))
 
@@ -99,14 +101,16 @@ module _ (p : Piece) (g m : Moment) (inside : InPiece p g m) where
     arith,
     ⊠-cong (k ⊠ ofNat (g .u)) (line u w a0 b0) c c (inside .same-u) refl,
     ⊠-cong (k ⊠ ofNat (g .w)) (line u w a1 b1) d d (inside .same-w) refl,
-    ring (u' :* (var 2 :* var 6 :+ var 3 :* var 7) :+ w' :* (var 4 :* var 6 :+ var 5 :* var 7)) (line' (var 2) (var 4) :* var 6 :+ line' (var 3) (var 5) :* var 7) (u ∷ w ∷ a0 ∷ a1 ∷ b0 ∷ b1 ∷ c ∷ d ∷ []) tt,
+    ring (u' :* (var 2 :* var 6 :+ var 3 :* var 7) :+ w' :* (var 4 :* var 6 :+ var 5 :* var 7)) (line' (var 2) (var 4) :* var 6 :+ line' (var 3) (var 5) :*
+        var 7) (u ∷ w ∷ a0 ∷ a1 ∷ b0 ∷ b1 ∷ c ∷ d ∷ []) tt,
     ring (var 0 :* (var 1 :* var 3 :+ var 2 :* var 4)) (var 0 :* var 1 :* var 3 :+ var 0 :* var 2 :* var 4) (k ∷ ofNat (g .u) ∷ ofNat (g .w) ∷ c ∷ d ∷ []) tt,
   )
 
   -- the bend of a product of two lines
   product-bend : (s t x y : Int) → bend u w (twice s ⊠ x) (s ⊠ y ⊞ t ⊠ x) (twice t ⊠ y) ≃ twice (line u w s t) ⊠ line u w x y
   product-bend s t x y =
-      ring (bend' (two (var 2) :* var 4) (var 2 :* var 5 :+ var 3 :* var 4) (two (var 3) :* var 5)) (two (line' (var 2) (var 3)) :* line' (var 4) (var 5)) (u ∷ w ∷ s ∷ t ∷ x ∷ y ∷ []) tt
+      ring (bend' (two (var 2) :* var 4) (var 2 :* var 5 :+ var 3 :* var 4) (two (var 3) :* var 5)) (two (line' (var 2) (var 3)) :* line' (var 4) (var 5))
+      (u ∷ w ∷ s ∷ t ∷ x ∷ y ∷ []) tt
 
   part-bend : (s t c d : Int) → bend u w (twice s ⊠ line a0 a1 c d) (s ⊠ line b0 b1 c d ⊞ t ⊠ line a0 a1 c d) (twice t ⊠ line b0 b1 c d)
       ≃ twice (line u w s t) ⊠ (k ⊠ line (ofNat (g .u)) (ofNat (g .w)) c d)
@@ -150,7 +154,8 @@ module _ (p : Piece) (g m : Moment) (inside : InPiece p g m) where
       arith,
       ⊠-cong (P .x) (twice σ ⊠ (k ⊠ Λ .x)) (P .x) (twice σ ⊠ (k ⊠ Λ .x)) P-x P-x,
       ⊠-cong (P .y) (twice σ ⊠ (k ⊠ Λ .y)) (P .y) (twice σ ⊠ (k ⊠ Λ .y)) P-y P-y,
-      ring (var 0 :* (var 1 :* var 2) :* (var 0 :* (var 1 :* var 2)) :+ var 0 :* (var 1 :* var 3) :* (var 0 :* (var 1 :* var 3))) (var 0 :* var 1 :* (var 0 :* var 1) :* (var 2 :* var 2 :+ var 3 :* var 3))
+      ring (var 0 :* (var 1 :* var 2) :* (var 0 :* (var 1 :* var 2)) :+ var 0 :* (var 1 :* var 3) :* (var 0 :* (var 1 :* var 3))) (var 0 :* var 1 :* (var 0
+          :* var 1) :* (var 2 :* var 2 :+ var 3 :* var 3))
           (twice σ ∷ k ∷ Λ .x ∷ Λ .y ∷ []) tt,
     )
 
@@ -189,15 +194,18 @@ module _ (p : Piece) (g m : Moment) (inside : InPiece p g m) where
         ⊠-cong (ofNat (natural over') ⊠ ofNat (natural over')) (over' ⊠ over') (dot P P) (twice σ ⊠ k ⊠ (twice σ ⊠ k) ⊠ dot Λ Λ)
             (⊠-cong (ofNat (natural over')) over' (ofNat (natural over')) over' over-is over-is) P-length,
         ring (var 0 :* (var 1 :* (var 2 :* var 2)) :* (var 0 :* (var 1 :* (var 2 :* var 2))) :* (var 3 :* var 3 :* var 4))
-            (var 3 :* var 3 :* (var 2 :* var 2 :* (var 2 :* var 2)) :* (var 1 :* var 1 :* (var 0 :* var 0 :* var 4))) (over ∷ ofNat F ∷ H ∷ (twice σ ⊠ k) ∷ dot Λ Λ ∷ []) tt,
+            (var 3 :* var 3 :* (var 2 :* var 2 :* (var 2 :* var 2)) :* (var 1 :* var 1 :* (var 0 :* var 0 :* var 4))) (over ∷ ofNat F ∷ H ∷ (twice σ ⊠ k) ∷
+            dot Λ Λ ∷ []) tt,
       )
 
       under-side : (e : Int) → ofNat (natural under') ⊠ ofNat (natural under') ⊠ h ⊠ e ≃ factor ⊠ (under ⊠ under ⊠ e)
       under-side e = omega (
         arith,
         ⊠-cong (ofNat (natural under') ⊠ ofNat (natural under') ⊠ h) (under' ⊠ under' ⊠ h) e e
-            (⊠-cong (ofNat (natural under') ⊠ ofNat (natural under')) (under' ⊠ under') h h (⊠-cong (ofNat (natural under')) under' (ofNat (natural under')) under' under-is under-is) refl) refl,
-        ring (var 0 :* var 1 :* (var 0 :* var 1) :* var 2 :* var 3) (var 0 :* var 0 :* var 2 :* (var 1 :* var 1 :* var 3)) ((twice σ ⊠ k) ∷ under ∷ h ∷ e ∷ []) tt,
+            (⊠-cong (ofNat (natural under') ⊠ ofNat (natural under')) (under' ⊠ under') h h (⊠-cong (ofNat (natural under')) under' (ofNat (natural
+            under')) under' under-is under-is) refl) refl,
+        ring (var 0 :* var 1 :* (var 0 :* var 1) :* var 2 :* var 3) (var 0 :* var 0 :* var 2 :* (var 1 :* var 1 :* var 3)) ((twice σ ⊠ k) ∷ under ∷ h ∷ e ∷
+            []) tt,
       )
 
       factor-nonneg : 0Int ≼ factor
@@ -236,7 +244,8 @@ module _ (p : Piece) (g m : Moment) (inside : InPiece p g m) where
 
       grown : (other : Int) → 0Int ≺ other → 0Int ≺ twice other ⊠ k ⊠ μ
       grown other h =
-          let up : 0Int ≺ twice (twice σ) ⊠ ofNat f ⊠ H = ⊠-pos (twice (twice σ) ⊠ ofNat f) H (⊠-pos (twice (twice σ)) (ofNat f) (omega (arith, σP)) (omega arith)) HP in
+          let up : 0Int ≺ twice (twice σ) ⊠ ofNat f ⊠ H = ⊠-pos (twice (twice σ) ⊠ ofNat f) H (⊠-pos (twice (twice σ)) (ofNat f) (omega (arith, σP)) (omega
+          arith)) HP in
           ⊠-pos (twice other ⊠ k) μ (⊠-pos (twice other) k (omega arith) KP) (⊠-pos (twice (twice σ) ⊠ ofNat f ⊠ H) (k ⊠ k) up (⊠-pos k k KP KP))
 
       place-part : (B I C L : Int) → B ≃ twice (line u w (ofNat f) (ofNat f)) ⊠ (k ⊠ C) → I ≃ twice σ ⊠ k ⊠ L
@@ -248,9 +257,12 @@ module _ (p : Piece) (g m : Moment) (inside : InPiece p g m) where
         ⊠-cong-r (over ⊠ (twice σ ⊠ k ⊠ L) ⊠ (H ⊠ H)) (ofNat F) (twice (n ⊠ ofNat f)) F-is,
         ⊠-cong-r (over ⊠ (twice σ ⊠ k ⊠ L) ⊠ twice (ofNat f) ⊠ H) (n ⊠ H) (k ⊠ G) wholes,
         ring (var 0 :* (var 1 :* (var 2 :* var 2)) :* var 3) (var 0 :* var 3 :* (var 2 :* var 2) :* var 1) (over ∷ ofNat F ∷ H ∷ (twice σ ⊠ k ⊠ L) ∷ []) tt,
-        ring (var 0 :* var 3 :* (var 2 :* var 2) :* two (var 1 :* var 4)) (var 0 :* var 3 :* two (var 4) :* var 2 :* (var 1 :* var 2)) (over ∷ n ∷ H ∷ (twice σ ⊠ k ⊠ L) ∷ ofNat f ∷ []) tt,
-        ring (two (var 2) :* var 3 :* var 4 :* (two (u' :* var 5 :+ w' :* var 5) :* (var 3 :* var 6)) :+ var 7 :* (two (var 2) :* var 3 :* var 8) :* two (var 5) :* (u' :+ w') :* (var 3 :* var 9))
-            (two (two (var 2)) :* var 5 :* (u' :+ w') :* (var 3 :* var 3) :* (var 4 :* var 6 :+ var 7 :* var 9 :* var 8)) (u ∷ w ∷ σ ∷ k ∷ under ∷ ofNat f ∷ C ∷ over ∷ L ∷ G ∷ []) tt,
+        ring (var 0 :* var 3 :* (var 2 :* var 2) :* two (var 1 :* var 4)) (var 0 :* var 3 :* two (var 4) :* var 2 :* (var 1 :* var 2)) (over ∷ n ∷ H ∷
+            (twice σ ⊠ k ⊠ L) ∷ ofNat f ∷ []) tt,
+        ring (two (var 2) :* var 3 :* var 4 :* (two (u' :* var 5 :+ w' :* var 5) :* (var 3 :* var 6)) :+ var 7 :* (two (var 2) :* var 3 :* var 8) :* two
+            (var 5) :* (u' :+ w') :* (var 3 :* var 9))
+            (two (two (var 2)) :* var 5 :* (u' :+ w') :* (var 3 :* var 3) :* (var 4 :* var 6 :+ var 7 :* var 9 :* var 8)) (u ∷ w ∷ σ ∷ k ∷ under ∷ ofNat f
+            ∷ C ∷ over ∷ L ∷ G ∷ []) tt,
       )
 
       module _ (i : ℕ) where
@@ -263,7 +275,8 @@ module _ (p : Piece) (g m : Moment) (inside : InPiece p g m) where
               arith,
               ⊠-cong (P .x) (twice σ ⊠ (k ⊠ Λ .x)) (v .x) (v .x) P-x refl,
               ⊠-cong (P .y) (twice σ ⊠ (k ⊠ Λ .y)) (v .y) (v .y) P-y refl,
-              ring (var 0 :* (var 1 :* var 2) :* var 4 :- var 0 :* (var 1 :* var 3) :* var 5) (var 0 :* var 1 :* (var 2 :* var 4 :- var 3 :* var 5)) (twice σ ∷ k ∷ Λ .x ∷ Λ .y ∷ v .x ∷ v .y ∷ []) tt,
+              ring (var 0 :* (var 1 :* var 2) :* var 4 :- var 0 :* (var 1 :* var 3) :* var 5) (var 0 :* var 1 :* (var 2 :* var 4 :- var 3 :* var 5)) (twice
+                  σ ∷ k ∷ Λ .x ∷ Λ .y ∷ v .x ∷ v .y ∷ []) tt,
             ))
 
         corner-y : placedCorner m (ofNat (natural over')) (ofNat (natural under')) body i .y ≃ μ ⊠ cornerAt g over under o i .y
@@ -272,7 +285,8 @@ module _ (p : Piece) (g m : Moment) (inside : InPiece p g m) where
               arith,
               ⊠-cong (P .x) (twice σ ⊠ (k ⊠ Λ .x)) (v .y) (v .y) P-x refl,
               ⊠-cong (P .y) (twice σ ⊠ (k ⊠ Λ .y)) (v .x) (v .x) P-y refl,
-              ring (var 0 :* (var 1 :* var 3) :* var 4 :+ var 0 :* (var 1 :* var 2) :* var 5) (var 0 :* var 1 :* (var 3 :* var 4 :+ var 2 :* var 5)) (twice σ ∷ k ∷ Λ .x ∷ Λ .y ∷ v .x ∷ v .y ∷ []) tt,
+              ring (var 0 :* (var 1 :* var 3) :* var 4 :+ var 0 :* (var 1 :* var 2) :* var 5) (var 0 :* var 1 :* (var 3 :* var 4 :+ var 2 :* var 5)) (twice
+                  σ ∷ k ∷ Λ .x ∷ Λ .y ∷ v .x ∷ v .y ∷ []) tt,
             ))
 
 -- one body's corner, times the other's divisor
@@ -285,7 +299,8 @@ crossed N U s k U1 μ T X hN hX hU = omega (
 )
 
 -- the clearance, as both scales have it
-cleared : (N1 N2 U1 U2 s1 s2 k f H G n F r c : Int) → 0Int ≼ N1 → 0Int ≼ N2 → N1 ≃ twice s1 ⊠ k ⊠ U1 → N2 ≃ twice s2 ⊠ k ⊠ U2 → n ⊠ H ≃ k ⊠ G → F ≃ twice (n ⊠ f) → F ⊠ r ≼ c
+cleared : (N1 N2 U1 U2 s1 s2 k f H G n F r c : Int) → 0Int ≼ N1 → 0Int ≼ N2 → N1 ≃ twice s1 ⊠ k ⊠ U1 → N2 ≃ twice s2 ⊠ k ⊠ U2 → n ⊠ H ≃ k ⊠ G → F ≃ twice
+    (n ⊠ f) → F ⊠ r ≼ c
     → twice s2 ⊠ k ⊠ (twice (twice s1) ⊠ f ⊠ H ⊠ (k ⊠ k)) ⊠ (U1 ⊠ U2 ⊠ G ⊠ r) ≼ N1 ⊠ N2 ⊠ (H ⊠ H) ⊠ c
 cleared N1 N2 U1 U2 s1 s2 k f H G n F r c h1 h2 e1 e2 wholes F-is enough =
     let M = twice s1 ⊠ k ⊠ U1 ⊠ (twice s2 ⊠ k ⊠ U2) in
@@ -295,9 +310,11 @@ cleared N1 N2 U1 U2 s1 s2 k f H G n F r c h1 h2 e1 e2 wholes F-is enough =
       ⊠-cong (N1 ⊠ N2 ⊠ (H ⊠ H)) (M ⊠ (H ⊠ H)) (F ⊠ r) (twice (n ⊠ f) ⊠ r)
           (⊠-cong (N1 ⊠ N2) M (H ⊠ H) (H ⊠ H) (⊠-cong N1 (twice s1 ⊠ k ⊠ U1) N2 (twice s2 ⊠ k ⊠ U2) e1 e2) refl) (⊠-cong F (twice (n ⊠ f)) r r F-is refl),
       ⊠-cong-r (M ⊠ H ⊠ twice f ⊠ r) (n ⊠ H) (k ⊠ G) wholes,
-      ring (var 0 :* (var 1 :* var 1) :* (two (var 2 :* var 3) :* var 4)) (var 0 :* var 1 :* two (var 3) :* var 4 :* (var 2 :* var 1)) (M ∷ H ∷ n ∷ f ∷ r ∷ []) tt,
+      ring (var 0 :* (var 1 :* var 1) :* (two (var 2 :* var 3) :* var 4)) (var 0 :* var 1 :* two (var 3) :* var 4 :* (var 2 :* var 1)) (M ∷ H ∷ n ∷ f ∷ r ∷
+          []) tt,
       ring (two (var 0) :* var 2 :* var 3 :* (two (var 1) :* var 2 :* var 4) :* var 5 :* two (var 6) :* var 7 :* (var 2 :* var 8))
-          (two (var 1) :* var 2 :* (two (two (var 0)) :* var 6 :* var 5 :* (var 2 :* var 2)) :* (var 3 :* var 4 :* var 8 :* var 7)) (s1 ∷ s2 ∷ k ∷ U1 ∷ U2 ∷ H ∷ f ∷ r ∷ G ∷ []) tt,
+          (two (var 1) :* var 2 :* (two (two (var 0)) :* var 6 :* var 5 :* (var 2 :* var 2)) :* (var 3 :* var 4 :* var 8 :* var 7)) (s1 ∷ s2 ∷ k ∷ U1 ∷ U2
+          ∷ H ∷ f ∷ r ∷ G ∷ []) tt,
     )
 
 -- the theorem: at every moment of a piece that is clear throughout, in F-ths with F = 2 n f, the movers are away from each other
@@ -320,18 +337,25 @@ piece-is-away p g m inside f F S slack clearance room fSome F-is SS wide enough 
     let UA = ofNat (s .under) in
     let UB = ofNat (t .under) in
     let M = twice sB ⊠ kk ⊠ μA in
-    let M' : M ≃ twice sA ⊠ kk ⊠ μB = ring (two (var 1) :* var 2 :* (two (two (var 0)) :* var 3 :* var 4 :* (var 2 :* var 2))) (two (var 0) :* var 2 :* (two (two (var 1)) :* var 3 :* var 4 :* (var 2 :* var 2)))
+    let M' : M ≃ twice sA ⊠ kk ⊠ μB = ring (two (var 1) :* var 2 :* (two (two (var 0)) :* var 3 :* var 4 :* (var 2 :* var 2))) (two (var 0) :* var 2 :*
+    (two (two (var 1)) :* var 3 :* var 4 :* (var 2 :* var 2)))
     (sA ∷ sB ∷ kk ∷ ofNat f ∷ HH ∷ []) tt in
     let NA = ofNat (zA .under) in
     let NB = ofNat (zB .under) in
     shrink (a .count) (b .count) (λ i. scaled UB (cornerAt g (ofNat (s .over)) UA a i)) (λ j. scaled UA (cornerAt g (ofNat (t .over)) UB b j))
-    (λ i. scaled NB (placedCorner m (ofNat (zA .over)) NA (onPiece p f sa ta a) i)) (λ j. scaled NA (placedCorner m (ofNat (zB .over)) NB (onPiece p f sb tb b) j))
+    (λ i. scaled NB (placedCorner m (ofNat (zA .over)) NA (onPiece p f sa ta a) i)) (λ j. scaled NA (placedCorner m (ofNat (zB .over)) NB (onPiece p f sb
+    tb b) j))
     M (UA ⊠ UB ⊠ whole g ⊠ ofNat clearance) (NA ⊠ NB ⊠ (HH ⊠ HH) ⊠ ofNat room)
     (grown p g m inside f fSome F F-is sa ta ha ia a S slack SS wide s sB (σP p g m inside f fSome F F-is sb tb hb ib b))
     (⊠-nonneg (UA ⊠ UB ⊠ whole g) (ofNat clearance) (⊠-nonneg (UA ⊠ UB) (whole g) (⊠-nonneg UA UB (omega arith) (omega arith)) (omega arith)) (omega arith))
-    (cleared NA NB UA UB sA sB kk (ofNat f) HH (whole g) (ofNat (p .n)) (ofNat F) (ofNat clearance) (ofNat room) (omega arith) (omega arith) eA eB (wholes p g m inside) F-is enough)
-    (λ i. crossed NB UB sB kk M μA (cornerAt g (ofNat (s .over)) UA a i .x) (placedCorner m (ofNat (zA .over)) NA (onPiece p f sa ta a) i .x) eB (corner-x p g m inside f fSome F F-is sa ta ha ia a S slack SS wide s i) refl)
-    (λ i. crossed NB UB sB kk M μA (cornerAt g (ofNat (s .over)) UA a i .y) (placedCorner m (ofNat (zA .over)) NA (onPiece p f sa ta a) i .y) eB (corner-y p g m inside f fSome F F-is sa ta ha ia a S slack SS wide s i) refl)
-    (λ j. crossed NA UA sA kk M μB (cornerAt g (ofNat (t .over)) UB b j .x) (placedCorner m (ofNat (zB .over)) NB (onPiece p f sb tb b) j .x) eA (corner-x p g m inside f fSome F F-is sb tb hb ib b S slack SS wide t j) M')
-    (λ j. crossed NA UA sA kk M μB (cornerAt g (ofNat (t .over)) UB b j .y) (placedCorner m (ofNat (zB .over)) NB (onPiece p f sb tb b) j .y) eA (corner-y p g m inside f fSome F F-is sb tb hb ib b S slack SS wide t j) M')
+    (cleared NA NB UA UB sA sB kk (ofNat f) HH (whole g) (ofNat (p .n)) (ofNat F) (ofNat clearance) (ofNat room) (omega arith) (omega arith) eA eB (wholes
+    p g m inside) F-is enough)
+    (λ i. crossed NB UB sB kk M μA (cornerAt g (ofNat (s .over)) UA a i .x) (placedCorner m (ofNat (zA .over)) NA (onPiece p f sa ta a) i .x) eB (corner-x
+    p g m inside f fSome F F-is sa ta ha ia a S slack SS wide s i) refl)
+    (λ i. crossed NB UB sB kk M μA (cornerAt g (ofNat (s .over)) UA a i .y) (placedCorner m (ofNat (zA .over)) NA (onPiece p f sa ta a) i .y) eB (corner-y
+    p g m inside f fSome F F-is sa ta ha ia a S slack SS wide s i) refl)
+    (λ j. crossed NA UA sA kk M μB (cornerAt g (ofNat (t .over)) UB b j .x) (placedCorner m (ofNat (zB .over)) NB (onPiece p f sb tb b) j .x) eA (corner-x
+    p g m inside f fSome F F-is sb tb hb ib b S slack SS wide t j) M')
+    (λ j. crossed NA UA sA kk M μB (cornerAt g (ofNat (t .over)) UB b j .y) (placedCorner m (ofNat (zB .over)) NB (onPiece p f sb tb b) j .y) eA (corner-y
+    p g m inside f fSome F F-is sb tb hb ib b S slack SS wide t j) M')
     (clear m zA zB)

@@ -6,8 +6,8 @@ use Rattle.integers.specs.Signed.{Int, 0Int, ofNat, _⊞_, _⊟_, _⊠_, _≼_,
 use Rattle.integers.specs.Polynomial.{var, _:+_, _:-_, _:*_}
 use Rattle.integers.proofs.Signed.{⊠-nonneg, ⊠-cong-r}
 use Rattle.integers.proofs.Ring.{ring}
-use Rattle.exact.specs.Plane.{Point, scaled}
-use Rattle.exact.specs.Fraction.{Fraction}
+use Rattle.plane.specs.Plane.{Point, scaled}
+use Rattle.plane.specs.Fraction.{Fraction}
 use Rattle.whole_move.specs.Piece.{Moment, whole}
 use Rattle.whole_move.proofs.Shrink.{shrink}
 use Rattle.whole_way.specs.Mover.{Mover, headingAt, TurnAt, cornerAt, AwayAt, AwayBetween, resized}
@@ -24,13 +24,15 @@ module _ (g : Moment) (c : ℕ) (k over under : Int) (o : Mover) (i : ℕ) where
 
   pub corner-resized-x : scaled k (cornerAt g over under (resized c o) i) .x ≃ ofNat c ⊠ scaled k (cornerAt g over under o i) .x
   corner-resized-x =
-      ring (var 0 :* (var 1 :* (var 2 :* (var 4 :* var 5) :+ var 3 :* (var 4 :* var 6)) :+ var 7 :* (var 8 :* (var 4 :* var 10) :- var 9 :* (var 4 :* var 11))))
+      ring (var 0 :* (var 1 :* (var 2 :* (var 4 :* var 5) :+ var 3 :* (var 4 :* var 6)) :+ var 7 :* (var 8 :* (var 4 :* var 10) :- var 9 :* (var 4 :* var
+      11))))
       (var 4 :* (var 0 :* (var 1 :* (var 2 :* var 5 :+ var 3 :* var 6) :+ var 7 :* (var 8 :* var 10 :- var 9 :* var 11))))
       (k ∷ under ∷ ofNat (g .u) ∷ ofNat (g .w) ∷ ofNat c ∷ o .centre1 .x ∷ o .centre2 .x ∷ (over ⊠ whole g) ∷ L .x ∷ L .y ∷ v .x ∷ v .y ∷ []) tt
 
   pub corner-resized-y : scaled k (cornerAt g over under (resized c o) i) .y ≃ ofNat c ⊠ scaled k (cornerAt g over under o i) .y
   corner-resized-y =
-      ring (var 0 :* (var 1 :* (var 2 :* (var 4 :* var 5) :+ var 3 :* (var 4 :* var 6)) :+ var 7 :* (var 9 :* (var 4 :* var 10) :+ var 8 :* (var 4 :* var 11))))
+      ring (var 0 :* (var 1 :* (var 2 :* (var 4 :* var 5) :+ var 3 :* (var 4 :* var 6)) :+ var 7 :* (var 9 :* (var 4 :* var 10) :+ var 8 :* (var 4 :* var
+      11))))
       (var 4 :* (var 0 :* (var 1 :* (var 2 :* var 5 :+ var 3 :* var 6) :+ var 7 :* (var 9 :* var 10 :+ var 8 :* var 11))))
       (k ∷ under ∷ ofNat (g .u) ∷ ofNat (g .w) ∷ ofNat c ∷ o .centre1 .y ∷ o .centre2 .y ∷ (over ⊠ whole g) ∷ L .x ∷ L .y ∷ v .x ∷ v .y ∷ []) tt
 

@@ -3,9 +3,9 @@ use mathlib.Core.Path.{_≡_}
 use Prim.Native.Nat.{ℕ, _+_, _-_, _≤_, _<_}
 use native.Mathlib.Omega.{arith}
 use Rattle.integers.specs.Signed.{Int, ofNat, _⊞_, _⊟_, _⊠_, _≼_, _≃_}
-use Rattle.exact.specs.Plane.{Point, sum, scaled, dot}
-use Rattle.exact.specs.Outline.{Outline}
-use Rattle.exact.specs.Fraction.{Fraction, _≤ᶠ_}
+use Rattle.plane.specs.Plane.{Point, sum, scaled, dot}
+use Rattle.plane.specs.Outline.{Outline}
+use Rattle.plane.specs.Fraction.{Fraction, _≤ᶠ_}
 use Rattle.whole_move.specs.Blend.{twice, line, linePoint}
 use Rattle.whole_move.specs.Piece.{Controls, Body, turnedBy, Moment, whole, FartherThan, Checked}
 

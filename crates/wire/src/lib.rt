@@ -2,6 +2,7 @@
 ghost use mathlib.Core.Path.{_≡_};
 ghost use Prim.Native.Nat.{_+_, _*_, _<_};
 ghost use Rattle.model.specs.Wire as Wire;
+ghost use Rattle.wire.specs.Bytes.{wordBytes};
 
 // The byte at place k.
 pub fn byte(bytes: &[u8], k: usize) -> u8
@@ -34,4 +35,16 @@ pub fn word(bytes: &[u8], k: usize) -> u32
         return joined(byte(rest, 0), byte(rest, 1), byte(rest, 2), byte(rest, 3));
     }
     joined(rest[0], rest[1], rest[2], rest[3])
+}
+
+// A word's four bytes.
+pub fn word_bytes(w: u32) -> [u8; 4]
+    ensures { λ r. ⌜ r ≡ wordBytes w ⌝ }
+{
+    [
+        (w % 256) as u8,
+        (w / 256 % 256) as u8,
+        (w / 65536 % 256) as u8,
+        (w / 16777216 % 256) as u8,
+    ]
 }

@@ -1,3 +1,4 @@
+-- Written by tests/written/wide.py from work, in f64.
 -- The floats of a block, one more at a time. Assumes nothing.
 use mathlib.Core.Path.{_≡_, refl, ap}
 use Prim.Native.Nat.{ℕ, zero, suc, _+_, _*_, _<_}

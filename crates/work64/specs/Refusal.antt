@@ -1,3 +1,4 @@
+-- Written by tests/written/wide.py from work, in f64.
 -- The answer that a refused block comes to; a block that passed has number 0 here.
 use Rattle.model.specs.declared.CheckedBlock.{CheckedBlock}
 use Rattle.model.specs.declared.CheckedBlock.the-variants as Checked

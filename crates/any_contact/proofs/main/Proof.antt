@@ -1,14 +1,14 @@
--- `any_contact::main` is safe and ends: the turns that are left fall. Nothing has to hold from turn to turn. Assumes nothing.
+-- `any_contact::main` is safe and ends: the reads that are left fall. Nothing has to hold from one read to the next. Assumes nothing.
 use borrow.Author.Needs.{needs}
 use Prim.Native.Nat.{_-_}
 use Rattle.any_contact.proofs.main.Statement.{statement}
 use Rattle.any_contact.proofs.main.Tie as tie
 
 abbrev Inv-loop : tie.InvT-loop
-Inv-loop before₀ turn₀ before turn = Unit {0}
+Inv-loop before₀ reads₀ before reads = Unit {0}
 
 abbrev μ-loop : tie.MeasureT-loop
-μ-loop before₀ turn₀ before turn = 18446744073709551615 - turn
+μ-loop before₀ reads₀ before reads = 18446744073709551615 - reads
 
 slice-aggregate-no-argument : tie.Need-slice-aggregate-no-argument Inv-loop μ-loop
 slice-aggregate-no-argument c = search needs
@@ -28,8 +28,8 @@ next-part-requires c κs = search needs
 returns-2 : tie.Need-returns-2 Inv-loop μ-loop
 returns-2 c = search needs
 
-add-turn : tie.Need-add-turn Inv-loop μ-loop
-add-turn c = search needs
+add-reads : tie.Need-add-reads Inv-loop μ-loop
+add-reads c = search needs
 
 loop-less : tie.Need-loop-less Inv-loop μ-loop
 loop-less c = search needs
@@ -52,7 +52,7 @@ main-spec =
     loop-holds
     next-part-requires
     returns-2
-    add-turn
+    add-reads
     loop-less
     loop-again
     returns-3)

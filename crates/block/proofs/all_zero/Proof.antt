@@ -37,7 +37,10 @@ loop-again : tie.Need-loop-again Inv-loop μ-loop
 loop-again c = (search needs, simp (c .before .before .loop .inv .1, c .word .ensures) (zero-step _ _ _))
 
 returns : tie.Need-returns Inv-loop μ-loop
-returns c = c .before .loop .inv .1 ∙ ap (λ (k : ℕ). allZero (c .before .before .before .args .part .now) (c .before .before .before .args .from) (4 * k)) (le-antisymm (c .before .loop .inv .0) (c .loop-test .left))
+returns c =
+    let l = c .before .loop in
+    let a = c .before .before .before .args in
+    l .inv .1 ∙ ap (λ (k : ℕ). allZero (a .part .now) (a .from) (4 * k)) (le-antisymm (l .inv .0) (c .loop-test .left))
 
 pub all-zero-spec : {M : Type 1} → statement M
 all-zero-spec =

@@ -21,7 +21,8 @@ check-holds-requires c κs = search needs
 
 returns-2 : tie.Need-returns-2
 returns-2 c =
-    let known = ap knownForm (sym (c .before .before .before .before .byte .ensures)) ∙ sym (c .before .before .before .known-form .ensures) ∙ not-false _ (c .before .before .if1 .left) in
+    let form = c .before .before in
+    let known = ap knownForm (sym (form .before .before .byte .ensures)) ∙ sym (form .before .known-form .ensures) ∙ not-false _ (form .if1 .left) in
     wrong-check _ known (sym (c .before .check-holds .ensures) ∙ not-true _ (c .if2 .taken))
 
 bad-fields-requires : tie.Need-bad-fields-requires
@@ -32,8 +33,10 @@ word-requires c κs = search needs
 
 returns-3 : tie.Need-returns-3
 returns-3 c =
-    let known = ap knownForm (sym (c .before .before .before .before .before .before .before .byte .ensures)) ∙ sym (c .before .before .before .before .before .before .known-form .ensures) ∙ not-false _ (c .before .before .before .before .before .if1 .left) in
-    let holds = sym (c .before .before .before .before .check-holds .ensures) ∙ not-false _ (c .before .before .before .if2 .left) in
+    let sum = c .before .before .before in
+    let form = sum .before .before in
+    let known = ap knownForm (sym (form .before .before .byte .ensures)) ∙ sym (form .before .known-form .ensures) ∙ not-false _ (form .if1 .left) in
+    let holds = sym (sum .before .check-holds .ensures) ∙ not-false _ (sum .if2 .left) in
     rw (c .word .ensures) (wrong-fields _ known holds (sym (c .before .before .bad-fields .ensures) ∙ c .before .if3 .taken))
 
 block-of-requires : tie.Need-block-of-requires
@@ -41,8 +44,10 @@ block-of-requires c κs = search needs
 
 returns-4 : tie.Need-returns-4
 returns-4 c =
-    let known = ap knownForm (sym (c .before .before .before .before .before .before .before .byte .ensures)) ∙ sym (c .before .before .before .before .before .before .known-form .ensures) ∙ not-false _ (c .before .before .before .before .before .if1 .left) in
-    let holds = sym (c .before .before .before .before .check-holds .ensures) ∙ not-false _ (c .before .before .before .if2 .left) in
+    let sum = c .before .before .before in
+    let form = sum .before .before in
+    let known = ap knownForm (sym (form .before .before .byte .ensures)) ∙ sym (form .before .known-form .ensures) ∙ not-false _ (form .if1 .left) in
+    let holds = sym (sum .before .check-holds .ensures) ∙ not-false _ (sum .if2 .left) in
     rw (c .block-of .ensures) (all-right _ known holds (sym (c .before .before .bad-fields .ensures) ∙ c .before .if3 .left))
 
 pub check-block-spec : {M : Type 1} → statement M

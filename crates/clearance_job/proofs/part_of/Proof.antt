@@ -63,16 +63,16 @@ returns-6 c = λ h. absurd (not-less (c .nothing6 .ensures h))
 returns-7 : tie.Need-returns-7
 returns-7 c = λ h.
     let first : toBits binary32 (c .before .before .before .before .before .before .before .before .before .before .before .args .from) ≤ 1065353216 = rw
-        (c .before .before .before .before .before .before .before .before .before .before .to-bits .ensures) at
-            (c .before .before .before .before .before .before .before .before .before .if1 .left) in
+    (c .before .before .before .before .before .before .before .before .before .before .to-bits .ensures) at
+    (c .before .before .before .before .before .before .before .before .before .if1 .left) in
     let last : toBits binary32 (c .before .before .before .before .before .before .before .before .before .before .before .args .end) ≤ 1065353216 = rw
-        (c .before .before .before .before .before .before .before .before .to-bits2 .ensures) at
-            (c .before .before .before .before .before .before .before .if2 .left) in
+    (c .before .before .before .before .before .before .before .before .to-bits2 .ensures) at
+    (c .before .before .before .before .before .before .before .if2 .left) in
     record {
       span = record { some = c .before .before .if4 .left; whole = c .before .before .before .if3 .left; over = c .before .if5 .left; under = c .if6 .left };
       starts = down-by (c .before .before .before .before .before .before .before .before .before .before .before .args .from)
           (c .before .before .before .before .before .before .fraction-down .result)
-              (c .before .before .before .before .before .before .fraction-down .ensures) first;
+          (c .before .before .before .before .before .before .fraction-down .ensures) first;
       within = down-by (c .before .before .before .before .before .before .before .before .before .before .before .args .end)
           (c .before .before .before .before .before .fraction-down2 .result) (c .before .before .before .before .before .fraction-down2 .ensures) last;
       ends = c .before .before .before .before .end-after .ensures last;

@@ -20,8 +20,11 @@ returns : tie.Need-returns
 returns c = λ h. absurd (not-less (c .unsettled .ensures h))
 
 settle-job-requires : tie.Need-settle-job-requires
-settle-job-requires c κs = (c .before .before .before .before .before .before .before .before .before .pre, c .before .before .part-of .ensures (not-false
-    (c .before .before .part-of .result .some) (c .if1 .left)) .span)
+settle-job-requires c κs = (
+  c .before .before .before .before .before .before .before .before .before .pre,
+  c .before .before .part-of .ensures (not-false
+      (c .before .before .part-of .result .some) (c .if1 .left)) .span,
+)
 
 returns-2 : tie.Need-returns-2
 returns-2 c = λ h. record {

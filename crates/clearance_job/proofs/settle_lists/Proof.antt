@@ -29,7 +29,7 @@ returns c = λ h. absurd (not-less (c .unsettled .ensures h))
 settle-board-requires : tie.Need-settle-board-requires
 settle-board-requires c κs =
     c .before .before .before .before .before .before .before .before .before .before .before .before .before .before .before .grid-job .ensures (not-false
-        (c .before .before .before .before .before .before .before .before .before .before .before .before .before .before .before .grid-job .result .found) (c .before .before .before .before .before .if1 .left)) .fits
+    (c .before .before .before .before .before .before .before .before .before .before .before .before .before .before .before .grid-job .result .found) (c .before .before .before .before .before .if1 .left)) .fits
 
 same-length-5 : tie.Need-same-length-5
 same-length-5 c = search needs

@@ -24,8 +24,12 @@ look-at-requires : tie.Need-look-at-requires Inv-loop μ-loop
 look-at-requires c κs = search needs
 
 returns : tie.Need-returns Inv-loop μ-loop
-returns c = record { order = omega (arith, c .before .before .if1 .taken); before = c .before .before .before .place-of .ensures; touching =
-    c .before .look-at .ensures (c .if2 .taken) }
+returns c = record {
+  order = omega (arith, c .before .before .if1 .taken);
+  before = c .before .before .before .place-of .ensures;
+  touching =
+      c .before .look-at .ensures (c .if2 .taken);
+}
 
 add-i : tie.Need-add-i Inv-loop μ-loop
 add-i c = search needs

@@ -29,8 +29,15 @@ look-at-requires : tie.Need-look-at-requires Inv-loop μ-loop
 look-at-requires c κs = search needs
 
 returns-3 : tie.Need-returns-3 Inv-loop μ-loop
-returns-3 c = record { order = omega (arith, c .before .before .if2 .left); before = omega (arith, c .before .before .if2 .left,
-    c .before .before .before .if1 .left); touching = c .before .look-at .ensures (c .if3 .taken) }
+returns-3 c = record {
+  order = omega (arith, c .before .before .if2 .left);
+  before = omega (
+    arith,
+    c .before .before .if2 .left,
+    c .before .before .before .if1 .left,
+  );
+  touching = c .before .look-at .ensures (c .if3 .taken);
+}
 
 mul-d : tie.Need-mul-d Inv-loop μ-loop
 mul-d c = search needs

@@ -27,10 +27,21 @@ touch-at-requires : tie.Need-touch-at-requires Inv-loop μ-loop
 touch-at-requires c κs = c .before .before .before .before .before .before .before .before .before .before .pre .0
 
 returns : tie.Need-returns Inv-loop μ-loop
-returns c = record { after = omega arith; clear = λ l. absurd (lt-irrefl _ l); touch = record { order = omega arith; before = omega (arith,
-    c .before .before .before .before .before .before .before .before .before .before .before .before .pre .1 .some,
-        c .before .before .before .before .before .before .before .before .before .before .before .before .pre .1 .under); touching =
-        c .before .touch-at .ensures (c .if1 .taken) }; few = omega arith }
+returns c = record {
+  after = omega arith;
+  clear = λ l. absurd (lt-irrefl _ l);
+  touch = record {
+    order = omega arith;
+    before = omega (
+      arith,
+      c .before .before .before .before .before .before .before .before .before .before .before .before .pre .1 .some,
+      c .before .before .before .before .before .before .before .before .before .before .before .before .pre .1 .under,
+    );
+    touching =
+        c .before .touch-at .ensures (c .if1 .taken);
+  };
+  few = omega arith;
+}
 
 sub-h : tie.Need-sub-h Inv-loop μ-loop
 sub-h c = omega (arith, c .before .before .before .before .before .before .before .before .before .before .before .before .pre .1 .some)
@@ -38,13 +49,13 @@ sub-h c = omega (arith, c .before .before .before .before .before .before .befor
 loop-holds : tie.Need-loop-holds Inv-loop μ-loop
 loop-holds c = at-start (c .before .before .before .before .before .before .before .before .before .before .before .before .args .job)
     (c .before .before .before .before .before .before .before .before .before .before .before .before .args .axs .now)
-        (c .before .before .before .before .before .before .before .before .before .before .before .before .args .ays .now)
-        (c .before .before .before .before .before .before .before .before .before .before .before .before .args .bxs .now)
-        (c .before .before .before .before .before .before .before .before .before .before .before .before .args .bys .now)
-        (c .before .before .before .before .before .before .before .before .before .before .before .before .args .from)
-        (c .before .before .before .before .before .before .before .before .before .before .before .before .args .low)
-        (c .before .before .before .before .before .before .before .before .before .before .before .before .args .high)
-        (c .before .before .before .before .before .before .before .before .before .before .before .before .pre .1)
+    (c .before .before .before .before .before .before .before .before .before .before .before .before .args .ays .now)
+    (c .before .before .before .before .before .before .before .before .before .before .before .before .args .bxs .now)
+    (c .before .before .before .before .before .before .before .before .before .before .before .before .args .bys .now)
+    (c .before .before .before .before .before .before .before .before .before .before .before .before .args .from)
+    (c .before .before .before .before .before .before .before .before .before .before .before .before .args .low)
+    (c .before .before .before .before .before .before .before .before .before .before .before .before .args .high)
+    (c .before .before .before .before .before .before .before .before .before .before .before .before .pre .1)
 
 sub-least : tie.Need-sub-least Inv-loop μ-loop
 sub-least c = search needs
@@ -53,8 +64,12 @@ least-requires : tie.Need-least-requires Inv-loop μ-loop
 least-requires c κs = search needs
 
 add-to : tie.Need-add-to Inv-loop μ-loop
-add-to c = omega (arith, c .least .ensures .right, c .before .before .loop .inv .below,
-    c .before .before .before .before .before .before .before .before .before .before .before .before .before .before .before .pre .1 .whole)
+add-to c = omega (
+  arith,
+  c .least .ensures .right,
+  c .before .before .loop .inv .below,
+  c .before .before .before .before .before .before .before .before .before .before .before .before .before .before .before .pre .1 .whole,
+)
 
 stand-at-requires-2 : tie.Need-stand-at-requires-2 Inv-loop μ-loop
 stand-at-requires-2 c κs = search needs
@@ -67,8 +82,11 @@ try-piece-requires c κs =
     c .before .before .before .before .before .before .before .before .before .before .before .before .before .before .before .before .pre .0
 
 returns-2 : tie.Need-returns-2 Inv-loop μ-loop
-returns-2 c = (subst (λ (v : ℕ). ClearBetween
-    (c .before .before .before .before .before .before .before .before .before .before .before .before .before .before .before .before .before .before .before .args .job) (c .before .before .before .before .before .before .before .before .before .before .before .before .before .before .before .before .before .before .before .args .from) v (c .before .before .before .before .before .before .before .before .before .before .before .before .before .before .before .before .before .before .before .args .axs .now) (c .before .before .before .before .before .before .before .before .before .before .before .before .before .before .before .before .before .before .before .args .ays .now) (c .before .before .before .before .before .before .before .before .before .before .before .before .before .before .before .before .before .before .before .args .bxs .now) (c .before .before .before .before .before .before .before .before .before .before .before .before .before .before .before .before .before .before .before .args .bys .now)) (omega (arith, c .if3 .taken, c .before .before .before .before .least .ensures .right, c .before .before .before .before .before .before .loop .inv .below)) (joined (c .before .before .before .before .before .before .before .before .before .before .before .before .before .before .before .before .before .before .before .args .job) (c .before .before .before .before .before .before .before .before .before .before .before .before .before .before .before .before .before .before .before .args .axs .now) (c .before .before .before .before .before .before .before .before .before .before .before .before .before .before .before .before .before .before .before .args .ays .now) (c .before .before .before .before .before .before .before .before .before .before .before .before .before .before .before .before .before .before .before .args .bxs .now) (c .before .before .before .before .before .before .before .before .before .before .before .before .before .before .before .before .before .before .before .args .bys .now) (c .before .before .before .before .before .before .before .before .before .before .before .before .before .before .before .before .before .before .before .args .from) (c .before .before .before .before .before .before .loop .u) ((c .before .before .before .before .before .before .loop .u) + c .before .before .before .before .least .result) (c .before .before .before .before .before .before .loop .inv .after) (c .before .before .before .before .before .before .loop .inv .clear) (c .before .before .try-piece .ensures (c .before .if2 .taken))), omega (arith, c .before .before .before .before .before .loop-test .taken))
+returns-2 c = (
+  subst (λ (v : ℕ). ClearBetween
+      (c .before .before .before .before .before .before .before .before .before .before .before .before .before .before .before .before .before .before .before .args .job) (c .before .before .before .before .before .before .before .before .before .before .before .before .before .before .before .before .before .before .before .args .from) v (c .before .before .before .before .before .before .before .before .before .before .before .before .before .before .before .before .before .before .before .args .axs .now) (c .before .before .before .before .before .before .before .before .before .before .before .before .before .before .before .before .before .before .before .args .ays .now) (c .before .before .before .before .before .before .before .before .before .before .before .before .before .before .before .before .before .before .before .args .bxs .now) (c .before .before .before .before .before .before .before .before .before .before .before .before .before .before .before .before .before .before .before .args .bys .now)) (omega (arith, c .if3 .taken, c .before .before .before .before .least .ensures .right, c .before .before .before .before .before .before .loop .inv .below)) (joined (c .before .before .before .before .before .before .before .before .before .before .before .before .before .before .before .before .before .before .before .args .job) (c .before .before .before .before .before .before .before .before .before .before .before .before .before .before .before .before .before .before .before .args .axs .now) (c .before .before .before .before .before .before .before .before .before .before .before .before .before .before .before .before .before .before .before .args .ays .now) (c .before .before .before .before .before .before .before .before .before .before .before .before .before .before .before .before .before .before .before .args .bxs .now) (c .before .before .before .before .before .before .before .before .before .before .before .before .before .before .before .before .before .before .before .args .bys .now) (c .before .before .before .before .before .before .before .before .before .before .before .before .before .before .before .before .before .before .before .args .from) (c .before .before .before .before .before .before .loop .u) ((c .before .before .before .before .before .before .loop .u) + c .before .before .before .before .least .result) (c .before .before .before .before .before .before .loop .inv .after) (c .before .before .before .before .before .before .loop .inv .clear) (c .before .before .try-piece .ensures (c .before .if2 .taken))),
+  omega (arith, c .before .before .before .before .before .loop-test .taken),
+)
 
 mul-h : tie.Need-mul-h Inv-loop μ-loop
 mul-h c = search needs
@@ -77,21 +95,43 @@ loop-less : tie.Need-loop-less Inv-loop μ-loop
 loop-less c = search needs
 
 loop-again : tie.Need-loop-again Inv-loop μ-loop
-loop-again c = record { after = omega (arith, c .before .before .before .before .before .before .loop .inv .after); below = c .if3 .left; some = omega
-    (arith, c .before .before .before .before .least .ensures .some (c .before .before .before .before .before .before .loop .inv .some) (omega (arith,
-        c .before .before .before .before .before .before .loop .inv .below))); small = omega (arith,
-        c .before .before .before .before .least .ensures .right,
-        c .before .before .before .before .before .before .before .before .before .before .before .before .before .before .before .before .before .before .before .pre .1 .whole); few = omega (arith, c .before .before .before .before .before .loop-test .taken); clear = λ l. joined (c .before .before .before .before .before .before .before .before .before .before .before .before .before .before .before .before .before .before .before .args .job) (c .before .before .before .before .before .before .before .before .before .before .before .before .before .before .before .before .before .before .before .args .axs .now) (c .before .before .before .before .before .before .before .before .before .before .before .before .before .before .before .before .before .before .before .args .ays .now) (c .before .before .before .before .before .before .before .before .before .before .before .before .before .before .before .before .before .before .before .args .bxs .now) (c .before .before .before .before .before .before .before .before .before .before .before .before .before .before .before .before .before .before .before .args .bys .now) (c .before .before .before .before .before .before .before .before .before .before .before .before .before .before .before .before .before .before .before .args .from) (c .before .before .before .before .before .before .loop .u) ((c .before .before .before .before .before .before .loop .u) + c .before .before .before .before .least .result) (c .before .before .before .before .before .before .loop .inv .after) (c .before .before .before .before .before .before .loop .inv .clear) (c .before .before .try-piece .ensures (c .before .if2 .taken)) }
+loop-again c = record {
+  after = omega (arith, c .before .before .before .before .before .before .loop .inv .after);
+  below = c .if3 .left;
+  some = omega (
+    arith,
+    c .before .before .before .before .least .ensures .some (c .before .before .before .before .before .before .loop .inv .some) (omega (
+      arith,
+      c .before .before .before .before .before .before .loop .inv .below,
+    )),
+  );
+  small = omega (
+    arith,
+    c .before .before .before .before .least .ensures .right,
+    c .before .before .before .before .before .before .before .before .before .before .before .before .before .before .before .before .before .before .before .pre .1 .whole,
+  );
+  few = omega (arith, c .before .before .before .before .before .loop-test .taken);
+  clear = λ l. joined (c .before .before .before .before .before .before .before .before .before .before .before .before .before .before .before .before .before .before .before .args .job) (c .before .before .before .before .before .before .before .before .before .before .before .before .before .before .before .before .before .before .before .args .axs .now) (c .before .before .before .before .before .before .before .before .before .before .before .before .before .before .before .before .before .before .before .args .ays .now) (c .before .before .before .before .before .before .before .before .before .before .before .before .before .before .before .before .before .before .before .args .bxs .now) (c .before .before .before .before .before .before .before .before .before .before .before .before .before .before .before .before .before .before .before .args .bys .now) (c .before .before .before .before .before .before .before .before .before .before .before .before .before .before .before .before .before .before .before .args .from) (c .before .before .before .before .before .before .loop .u) ((c .before .before .before .before .before .before .loop .u) + c .before .before .before .before .least .result) (c .before .before .before .before .before .before .loop .inv .after) (c .before .before .before .before .before .before .loop .inv .clear) (c .before .before .try-piece .ensures (c .before .if2 .taken));
+}
 
 short-touch-requires : tie.Need-short-touch-requires Inv-loop μ-loop
 short-touch-requires c κs =
     c .before .before .before .before .before .before .before .before .before .before .before .before .before .before .before .before .before .before .pre .0
 
 returns-3 : tie.Need-returns-3 Inv-loop μ-loop
-returns-3 c = record { after = c .before .before .before .before .before .before .before .loop .inv .after; clear =
-    c .before .before .before .before .before .before .before .loop .inv .clear; touch = record { order = omega arith; before =
-        c .before .short-touch .ensures (c .if4 .taken) .before; touching = c .before .short-touch .ensures (c .if4 .taken) .touching }; few = omega
-        (arith, c .before .before .before .before .before .before .loop-test .taken) }
+returns-3 c = record {
+  after = c .before .before .before .before .before .before .before .loop .inv .after;
+  clear =
+      c .before .before .before .before .before .before .before .loop .inv .clear;
+  touch = record {
+    order = omega arith;
+    before =
+        c .before .short-touch .ensures (c .if4 .taken) .before;
+    touching = c .before .short-touch .ensures (c .if4 .taken) .touching;
+  };
+  few = omega
+      (arith, c .before .before .before .before .before .before .loop-test .taken);
+}
 
 last-look-requires : tie.Need-last-look-requires Inv-loop μ-loop
 last-look-requires c κs =
@@ -111,15 +151,32 @@ loop-less-2 : tie.Need-loop-less-2 Inv-loop μ-loop
 loop-less-2 c = search needs
 
 loop-again-2 : tie.Need-loop-again-2 Inv-loop μ-loop
-loop-again-2 c = record { after = c .before .before .before .before .before .before .before .before .loop .inv .after; below =
-    c .before .before .before .before .before .before .before .before .loop .inv .below; some = omega (arith, c .if5 .left); small = omega (arith,
-        c .before .before .before .before .before .before .least .ensures .right,
-        c .before .before .before .before .before .before .before .before .before .before .before .before .before .before .before .before .before .before .before .before .before .pre .1 .whole); few = omega (arith, c .before .before .before .before .before .before .before .loop-test .taken); clear = c .before .before .before .before .before .before .before .before .loop .inv .clear }
+loop-again-2 c = record {
+  after = c .before .before .before .before .before .before .before .before .loop .inv .after;
+  below =
+      c .before .before .before .before .before .before .before .before .loop .inv .below;
+  some = omega (arith, c .if5 .left);
+  small = omega (
+    arith,
+    c .before .before .before .before .before .before .least .ensures .right,
+    c .before .before .before .before .before .before .before .before .before .before .before .before .before .before .before .before .before .before .before .before .before .pre .1 .whole,
+  );
+  few = omega (arith, c .before .before .before .before .before .before .before .loop-test .taken);
+  clear = c .before .before .before .before .before .before .before .before .loop .inv .clear;
+}
 
 returns-5 : tie.Need-returns-5 Inv-loop μ-loop
-returns-5 c = record { after = c .before .loop .inv .after; before = omega (arith, c .before .loop .inv .below,
-    c .before .before .before .before .before .before .before .before .before .before .before .before .before .before .pre .1 .under); clear =
-        c .before .loop .inv .clear; few = c .before .loop .inv .few }
+returns-5 c = record {
+  after = c .before .loop .inv .after;
+  before = omega (
+    arith,
+    c .before .loop .inv .below,
+    c .before .before .before .before .before .before .before .before .before .before .before .before .before .before .pre .1 .under,
+  );
+  clear =
+      c .before .loop .inv .clear;
+  few = c .before .loop .inv .few;
+}
 
 pub settle-spec : {M : Type 1} → statement M
 settle-spec =

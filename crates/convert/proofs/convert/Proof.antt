@@ -1,14 +1,14 @@
--- `convert::convert` is safe and ends: the turns that are left fall. Nothing has to hold from turn to turn. Assumes nothing.
+-- `convert::convert` is safe and ends: the reads that are left fall. Nothing has to hold from one read to the next. Assumes nothing.
 use Prim.Native.Nat.{_-_}
 use borrow.Author.Needs.{needs}
 use Rattle.convert.proofs.convert.Statement.{statement}
 use Rattle.convert.proofs.convert.Tie as tie
 
 abbrev Inv-loop : tie.InvT-loop
-Inv-loop name fd before₀ turn₀ before turn = Unit {0}
+Inv-loop name fd before₀ reads₀ before reads = Unit {0}
 
 abbrev μ-loop : tie.MeasureT-loop
-μ-loop name fd before₀ turn₀ before turn = 18446744073709551615 - turn
+μ-loop name fd before₀ reads₀ before reads = 18446744073709551615 - reads
 
 loop-holds : tie.Need-loop-holds Inv-loop μ-loop
 loop-holds c = search needs
@@ -19,8 +19,8 @@ next-part-requires c κs = search needs
 returns : tie.Need-returns Inv-loop μ-loop
 returns c = search needs
 
-add-turn : tie.Need-add-turn Inv-loop μ-loop
-add-turn c = search needs
+add-reads : tie.Need-add-reads Inv-loop μ-loop
+add-reads c = search needs
 
 loop-less : tie.Need-loop-less Inv-loop μ-loop
 loop-less c = search needs
@@ -40,7 +40,7 @@ convert-spec =
     loop-holds
     next-part-requires
     returns
-    add-turn
+    add-reads
     loop-less
     loop-again
     returns-2)

@@ -1,3 +1,4 @@
+-- Written by tests/written/wide.py from domain, in f64.
 -- `check_sweeps` meets its contract, by its tests and what its callees ensure. Assumes nothing.
 use Rattle.model.specs.Domain.{checked}
 use borrow.Author.Needs.{needs}

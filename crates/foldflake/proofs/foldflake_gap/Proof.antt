@@ -30,7 +30,8 @@ returns c =
     (c .before .before .before .before .gap-at .ensures) (c .before .before .tell-gap .ensures)
 
 returns-2 : tie.Need-returns-2
-returns-2 c = let a = c .before .before .before .before .before .before .args in gap-misfit (a .points-a .now) (a .move-a .now) (a .points-b .now) (a .move-b .now) (a .fraction) (a .out .now) (c .if1 .left)
+returns-2 c = let a = c .before .before .before .before .before .before .args in gap-misfit (a .points-a .now) (a .move-a .now) (a .points-b .now)
+    (a .move-b .now) (a .fraction) (a .out .now) (c .if1 .left)
 
 pub foldflake-gap-spec : {M : Type 1} → statement M
 foldflake-gap-spec =

@@ -10,7 +10,8 @@ use Rattle.foldflake.proofs.foldflake_placed_bar.Tie as tie
 returns : tie.Need-returns
 returns c =
     let a = c .before .before .before .args in
-    no-pose (placedBarTold binary32 (vector (a .ax) (a .ay)) (vector (a .bx) (a .by))) (placedBarLeft binary32 (vector (a .ax) (a .ay)) (vector (a .bx) (a .by))) (a .pose .now) (a .out .now) (c .if1 .taken)
+    no-pose (placedBarTold binary32 (vector (a .ax) (a .ay)) (vector (a .bx) (a .by)))
+    (placedBarLeft binary32 (vector (a .ax) (a .ay)) (vector (a .bx) (a .by))) (a .pose .now) (a .out .now) (c .if1 .taken)
 
 pose-of-requires : tie.Need-pose-of-requires
 pose-of-requires c κs = search needs
@@ -27,8 +28,10 @@ same-length c = search needs
 returns-2 : tie.Need-returns-2
 returns-2 c =
     let a = c .before .before .before .before .before .before .before .before .before .args in
-    placed (placedBarTold binary32 (vector (a .ax) (a .ay)) (vector (a .bx) (a .by))) (placedBarLeft binary32 (vector (a .ax) (a .ay)) (vector (a .bx) (a .by))) (a .pose .now) (a .out .now) _ _ _ _
-    (c .before .before .before .before .before .before .if1 .left) (c .before .before .before .before .before .pose-of .ensures) (c .before .before .before .placed-bar .ensures) (c .built-number .ensures)
+    placed (placedBarTold binary32 (vector (a .ax) (a .ay)) (vector (a .bx) (a .by)))
+    (placedBarLeft binary32 (vector (a .ax) (a .ay)) (vector (a .bx) (a .by))) (a .pose .now) (a .out .now) _ _ _ _
+    (c .before .before .before .before .before .before .if1 .left) (c .before .before .before .before .before .pose-of .ensures)
+    (c .before .before .before .placed-bar .ensures) (c .built-number .ensures)
 
 pub foldflake-placed-bar-spec : {M : Type 1} → statement M
 foldflake-placed-bar-spec =

@@ -27,7 +27,8 @@ returns-2 : tie.Need-returns-2
 returns-2 c =
     let a = c .before .before .before .before .before .before .before .before .before .args in
     placed (placedPlateTold binary32 (a .half-x) (a .half-y)) (placedPlateLeft binary32 (a .half-x) (a .half-y)) (a .pose .now) (a .out .now) _ _ _ _
-    (c .before .before .before .before .before .before .if1 .left) (c .before .before .before .before .before .pose-of .ensures) (c .before .before .before .placed-plate .ensures) (c .built-number .ensures)
+    (c .before .before .before .before .before .before .if1 .left) (c .before .before .before .before .before .pose-of .ensures)
+    (c .before .before .before .placed-plate .ensures) (c .built-number .ensures)
 
 pub foldflake-placed-plate-spec : {M : Type 1} → statement M
 foldflake-placed-plate-spec =

@@ -34,7 +34,8 @@ corners-requires : tie.Need-corners-requires
 corners-requires c κs =
     let b1 = c .before .before .before .before .before .before in
     let f = b1 .before .before .before .before .before .args in
-    subst (λ (v : Vector). Asked (f .points .now) v (f .g) (f .xs .now) (f .ys .now)) (sym (c .before .before .point3 .ensures)) (b1 .before .before .before .before .before .pre .1)
+    subst (λ (v : Vector). Asked (f .points .now) v (f .g) (f .xs .now) (f .ys .now)) (sym (c .before .before .point3 .ensures))
+    (b1 .before .before .before .before .before .pre .1)
 
 same-length : tie.Need-same-length
 same-length c = search needs
@@ -49,9 +50,12 @@ returns c =
     let f = b2 .before .before .before .before .args in
     let k = c .before .before .before .before .corners in
     record {
-      corners = recentred (f .points .now) (b1 .before .point3 .result) (point (f .numbers .now) (f .i)) (f .g) _ _ (k .result) (b1 .before .point3 .ensures) (k .ensures);
-      first = subst (λ (v : Vector). Headed v (b1 .before .before .before .before .headed .result)) (b1 .before .before .before .before .before .point .ensures) (b1 .before .before .before .before .headed .ensures);
-      last = subst (λ (v : Vector). Headed v (b1 .before .before .headed2 .result)) (b1 .before .before .before .point2 .ensures) (b1 .before .before .headed2 .ensures);
+      corners = recentred (f .points .now) (b1 .before .point3 .result) (point (f .numbers .now) (f .i)) (f .g) _ _ (k .result)
+          (b1 .before .point3 .ensures) (k .ensures);
+      first = subst (λ (v : Vector). Headed v (b1 .before .before .before .before .headed .result))
+          (b1 .before .before .before .before .before .point .ensures) (b1 .before .before .before .before .headed .ensures);
+      last = subst (λ (v : Vector). Headed v (b1 .before .before .headed2 .result)) (b1 .before .before .before .point2 .ensures)
+          (b1 .before .before .headed2 .ensures);
     }
 
 pub body-of-spec : {M : Type 1} → statement M

@@ -11,7 +11,8 @@ use Rattle.grid_job.proofs.corners.Statement.{statement}
 use Rattle.grid_job.proofs.corners.Tie as tie
 
 abbrev Inv-loop : tie.InvT-loop
-Inv-loop points centre g xs₀ ys₀ best₀ i₀ xs ys best i = (i ≤ length xs) × (length xs ≡ length xs₀) × (length ys ≡ length ys₀) × Cornered points centre g xs ys i best
+Inv-loop points centre g xs₀ ys₀ best₀ i₀ xs ys best i = (i ≤ length xs) × (length xs ≡ length xs₀) × (length ys ≡ length ys₀) × Cornered points centre g
+    xs ys i best
 
 abbrev μ-loop : tie.MeasureT-loop
 μ-loop points centre g xs₀ ys₀ best₀ i₀ xs ys best i = length xs - i
@@ -69,7 +70,11 @@ add-i : tie.Need-add-i Inv-loop μ-loop
 add-i c = search needs
 
 loop-less : tie.Need-loop-less Inv-loop μ-loop
-loop-less c = omega (arith, length-set (c .before .before .before .before .before .before .before .loop .xs) (c .before .before .before .before .before .before .before .loop .i) (c .before .before .before .before .offset .result))
+loop-less c = omega (
+  arith,
+  length-set (c .before .before .before .before .before .before .before .loop .xs)
+      (c .before .before .before .before .before .before .before .loop .i) (c .before .before .before .before .offset .result),
+)
 
 loop-again : tie.Need-loop-again Inv-loop μ-loop
 loop-again c =
@@ -80,7 +85,8 @@ loop-again c =
     let y = c .before .before .offset2 in
     let r = c .before .span in
     let new = c .if1 .best in
-    let more = corner-more (a .points .now) (a .centre) (a .g) (l .xs) (l .ys) (l .i) (l .best) new (x .result) (y .result) (r .result) (l .inv .3) (omega arith) (omega arith) (x .ensures) (y .ensures) (r .ensures) in
+    let more = corner-more (a .points .now) (a .centre) (a .g) (l .xs) (l .ys) (l .i) (l .best) new (x .result) (y .result) (r .result) (l .inv .3) (omega
+    arith) (omega arith) (x .ensures) (y .ensures) (r .ensures) in
     let lx = length-set (l .xs) (l .i) (x .result) in
     let ly = length-set (l .ys) (l .i) (y .result) in
     ⊎-elim (λ w. (omega (arith, lx), omega (arith, lx), omega (arith, ly), more (omega arith) (omega arith) (omega (arith, r .ensures .small))))
@@ -97,7 +103,13 @@ returns c =
     let l = c .before .loop in
     let k = l .inv .3 in
     record {
-      corners = record { close = λ i h. k .close i (omega arith); small-x = λ i h. k .small-x i (omega arith); small-y = λ i h. k .small-y i (omega arith); inside = λ i h. k .inside i (omega arith); small = k .small };
+      corners = record {
+        close = λ i h. k .close i (omega arith);
+        small-x = λ i h. k .small-x i (omega arith);
+        small-y = λ i h. k .small-y i (omega arith);
+        inside = λ i h. k .inside i (omega arith);
+        small = k .small;
+      };
       count = omega (arith, l .inv .1, c .before .before .before .before .before .pre .count);
       alike = omega (arith, l .inv .1, l .inv .2, c .before .before .before .before .before .pre .alike);
     }

@@ -33,8 +33,19 @@ returns c = λ h.
     let g = c .before .largest5 in
     let some = all-near (f .numbers .now) 3 10 (e .result) (g .result) (e .ensures .1) (g .ensures .0) (omega arith) in
     record {
-      a = all-near (f .points-a .now) 0 (length (f .points-a .now)) (a .result) (g .result) (a .ensures .1) (omega (arith, b .ensures .0, d .ensures .0, e .ensures .0, g .ensures .0)) (omega arith);
-      b = all-near (f .points-b .now) 0 (length (f .points-b .now)) (b .result) (g .result) (b .ensures .1) (omega (arith, d .ensures .0, e .ensures .0, g .ensures .0)) (omega arith);
+      a = all-near (f .points-a .now) 0 (length (f .points-a .now)) (a .result) (g .result) (a .ensures .1) (omega (
+        arith,
+        b .ensures .0,
+        d .ensures .0,
+        e .ensures .0,
+        g .ensures .0,
+      )) (omega arith);
+      b = all-near (f .points-b .now) 0 (length (f .points-b .now)) (b .result) (g .result) (b .ensures .1) (omega (
+        arith,
+        d .ensures .0,
+        e .ensures .0,
+        g .ensures .0,
+      )) (omega arith);
       radii = all-near (f .numbers .now) 0 2 (d .result) (g .result) (d .ensures .1) (omega (arith, e .ensures .0, g .ensures .0)) (omega arith);
       slop = λ k l m. some k l (omega arith);
       moveA = λ k l m. some k (omega arith) m;

@@ -22,7 +22,8 @@ returns-2 : tie.Need-returns-2
 returns-2 c =
     let n = c .natural in
     let a = c .before .grid-down in
-    down-law (c .before .before .before .before .args .x) (c .before .before .before .to-bits .result) (n .result) (intOf (a .result)) (c .before .before .before .to-bits .ensures) (omega arith) (a .ensures) (n .ensures .1) (n .ensures .2) (n .ensures .3)
+    down-law (c .before .before .before .before .args .x) (c .before .before .before .to-bits .result) (n .result) (intOf (a .result))
+    (c .before .before .before .to-bits .ensures) (omega arith) (a .ensures) (n .ensures .1) (n .ensures .2) (n .ensures .3)
 
 pub fraction-down-spec : {M : Type 1} → statement M
 fraction-down-spec =

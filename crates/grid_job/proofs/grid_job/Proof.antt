@@ -52,8 +52,11 @@ body-of-requires c κs =
     let b1 = c .before .before .before .before .before .before in
     let b2 = b1 .before .before .before .before .before .before in
     let f = b2 .before .before .before .before .before .args in
-    let e = c .before .before .before .before .exponent in
-    (omega arith, asked-a (f .points-a .now) (f .points-b .now) (f .numbers .now) (e .result .g) (e .ensures (not-false (e .result .found) (c .before .before .if6 .left))) (f .axs .now) (f .ays .now) (omega arith) (omega arith))
+    let e = c .before .before .before .before .exponent in (
+      omega arith,
+      asked-a (f .points-a .now) (f .points-b .now) (f .numbers .now) (e .result .g) (e .ensures (not-false (e .result .found)
+          (c .before .before .if6 .left))) (f .axs .now) (f .ays .now) (omega arith) (omega arith),
+    )
 
 body-of-requires-2 : tie.Need-body-of-requires-2
 body-of-requires-2 c κs =
@@ -62,8 +65,11 @@ body-of-requires-2 c κs =
     let b3 = b2 .before .before .before .before .before .before in
     let b4 = b3 .before .before .before .before .before .before in
     let f = b4 .args in
-    let e = b1 .before .before .before .before .before .exponent in
-    (omega arith, asked-b (f .points-a .now) (f .points-b .now) (f .numbers .now) (e .result .g) (e .ensures (not-false (e .result .found) (b1 .before .before .before .if6 .left))) (f .bxs .now) (f .bys .now) (omega arith) (omega arith))
+    let e = b1 .before .before .before .before .before .exponent in (
+      omega arith,
+      asked-b (f .points-a .now) (f .points-b .now) (f .numbers .now) (e .result .g) (e .ensures (not-false (e .result .found)
+          (b1 .before .before .before .if6 .left))) (f .bxs .now) (f .bys .now) (omega arith) (omega arith),
+    )
 
 job-of-requires : tie.Need-job-of-requires
 job-of-requires c κs =
@@ -73,7 +79,8 @@ job-of-requires c κs =
     let b4 = b3 .before .before .before .before .before .before in
     let f = b4 .before .before .before .before .before .args in
     let e = b2 .before .before .before .before .exponent in
-    limits-law (f .points-a .now) (f .points-b .now) (f .numbers .now) (e .result .g) (e .ensures (not-false (e .result .found) (b2 .before .before .if6 .left)))
+    limits-law (f .points-a .now) (f .points-b .now) (f .numbers .now) (e .result .g) (e .ensures (not-false (e .result .found)
+    (b2 .before .before .if6 .left)))
 
 same-length : tie.Need-same-length
 same-length c = search needs
@@ -96,7 +103,9 @@ returns-7 c = λ h.
     let b5 = b4 .before .before .before .before .before .before in
     let f = b5 .args in
     let e = b2 .before .before .before .before .before .exponent in
-    on-board (f .points-a .now) (f .points-b .now) (f .numbers .now) (e .result .g) _ _ _ _ (b2 .body-of .result) (c .before .before .before .before .before .body-of2 .result) (c .job-of .result .job) (b2 .body-of .ensures) (c .before .before .before .before .before .body-of2 .ensures) (c .job-of .ensures h)
+    on-board (f .points-a .now) (f .points-b .now) (f .numbers .now) (e .result .g) _ _ _ _ (b2 .body-of .result)
+    (c .before .before .before .before .before .body-of2 .result) (c .job-of .result .job) (b2 .body-of .ensures)
+    (c .before .before .before .before .before .body-of2 .ensures) (c .job-of .ensures h)
 
 pub grid-job-spec : {M : Type 1} → statement M
 grid-job-spec =

@@ -45,8 +45,11 @@ returns-3 c = λ h. absurd (true≢false (sym h ∙ c .none3 .ensures))
 
 returns-4 : tie.Need-returns-4
 returns-4 c = λ h.
-    let a = c .before .before .before .before .before .before .before .before .headings-fit .ensures (not-false (c .before .before .before .before .before .before .before .before .headings-fit .result) (c .before .before .before .before .before .before .before .if1 .left)) in
-    let b = c .before .before .before .before .before .before .headings-fit2 .ensures (not-false (c .before .before .before .before .before .before .headings-fit2 .result) (c .before .before .before .before .before .if2 .left)) in
+    let a = c .before .before .before .before .before .before .before .before .headings-fit .ensures (not-false
+    (c .before .before .before .before .before .before .before .before .headings-fit .result)
+    (c .before .before .before .before .before .before .before .if1 .left)) in
+    let b = c .before .before .before .before .before .before .headings-fit2 .ensures (not-false
+    (c .before .before .before .before .before .before .headings-fit2 .result) (c .before .before .before .before .before .if2 .left)) in
     record {
       firstA = a .0;
       lastA = a .1;

@@ -31,9 +31,12 @@ returns c =
     let f = c .before .before .before .before .before .before .before .args in
     let p = c .before .before .before .before .before .point .ensures in
     let q = c .before .before .before .before .point2 .ensures in
-    keep-down-law (f .numbers .now) (f .g) (c .keep-down .result) (c .before .before .before .to-bits .result) (c .before .before .to-bits2 .result) (c .before .to-bits3 .result)
-    (c .before .before .before .to-bits .ensures ∙ ap (λ (v : Vector). toBits binary32 (v .y)) q) (c .before .before .to-bits2 .ensures ∙ ap (λ (v : Vector). toBits binary32 (v .x)) p) (c .before .to-bits3 .ensures ∙ ap (λ (v : Vector). toBits binary32 (v .y)) p)
-    (c .before .before .before .before .before .before .before .pre .0) (c .before .before .before .before .before .before .before .pre .1) (c .keep-down .ensures .1)
+    keep-down-law (f .numbers .now) (f .g) (c .keep-down .result) (c .before .before .before .to-bits .result) (c .before .before .to-bits2 .result)
+    (c .before .to-bits3 .result)
+    (c .before .before .before .to-bits .ensures ∙ ap (λ (v : Vector). toBits binary32 (v .y)) q) (c .before .before .to-bits2 .ensures ∙ ap (λ (v :
+    Vector). toBits binary32 (v .x)) p) (c .before .to-bits3 .ensures ∙ ap (λ (v : Vector). toBits binary32 (v .y)) p)
+    (c .before .before .before .before .before .before .before .pre .0) (c .before .before .before .before .before .before .before .pre .1)
+    (c .keep-down .ensures .1)
 
 pub kept-down-spec : {M : Type 1} → statement M
 kept-down-spec =

@@ -38,7 +38,8 @@ loop-again c =
     let l = c .before .before .before .before .loop in
     let b = c .before .to-bits in
     let keep = pattern-more (a .list .now) (a .from) (l .i) (l .best) (c .if1 .best) (l .inv .1) in
-    ⊎-elim (λ w. (omega arith, keep (omega arith) (omega (arith, b .ensures)))) (λ w. (omega arith, keep (omega arith) (omega (arith, b .ensures)))) (c .if1 .came)
+    ⊎-elim (λ w. (omega arith, keep (omega arith) (omega (arith, b .ensures)))) (λ w. (omega arith, keep (omega arith) (omega (arith, b .ensures))))
+    (c .if1 .came)
 
 returns : tie.Need-returns Inv-loop μ-loop
 returns c = (omega arith, λ k f t. c .before .loop .inv .1 k f (omega arith))

@@ -34,8 +34,10 @@ returns c =
     let b = c .before .before .before .before .before .grid2 in
     let f = b1 .before .before .before .args in
     less-law (f .x) (f .c) (f .g) (intOf (a .result)) (intOf (b .result)) (c .norm .result)
-    (put (f .x) (b1 .before .before .to-bits .result) (f .g) (intOf (a .result)) (b1 .before .before .to-bits .ensures) (b1 .before .before .before .pre .0) (a .ensures))
-    (put (f .c) (b1 .to-bits2 .result) (f .g) (intOf (b .result)) (b1 .to-bits2 .ensures) (b1 .before .before .before .pre .1) (b .ensures)) (c .norm .ensures)
+    (put (f .x) (b1 .before .before .to-bits .result) (f .g) (intOf (a .result)) (b1 .before .before .to-bits .ensures)
+    (b1 .before .before .before .pre .0) (a .ensures))
+    (put (f .c) (b1 .to-bits2 .result) (f .g) (intOf (b .result)) (b1 .to-bits2 .ensures) (b1 .before .before .before .pre .1) (b .ensures))
+    (c .norm .ensures)
 
 pub less-spec : {M : Type 1} → statement M
 less-spec =

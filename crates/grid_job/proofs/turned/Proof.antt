@@ -16,7 +16,8 @@ grid-requires : tie.Need-grid-requires
 grid-requires c κs = search needs
 
 returns-2 : tie.Need-returns-2
-returns-2 c = λ h. turned-law (c .before .before .before .args .x) (c .before .before .to-bits .result) (intOf (c .grid .result)) (c .before .before .to-bits .ensures) (omega arith) (c .grid .ensures)
+returns-2 c = λ h. turned-law (c .before .before .before .args .x) (c .before .before .to-bits .result) (intOf (c .grid .result))
+    (c .before .before .to-bits .ensures) (omega arith) (c .grid .ensures)
 
 pub turned-spec : {M : Type 1} → statement M
 turned-spec = tie.close (tie.spec to-bits-requires returns grid-requires returns-2)

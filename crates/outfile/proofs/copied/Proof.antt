@@ -1,14 +1,14 @@
--- `outfile::copied` is safe and ends: the turns that are left fall. Nothing has to hold from turn to turn. Assumes nothing.
+-- `outfile::copied` is safe and ends: the reads that are left fall. Nothing has to hold from one read to the next. Assumes nothing.
 use Prim.Native.Nat.{_-_}
 use borrow.Author.Needs.{needs}
 use Rattle.outfile.proofs.copied.Statement.{statement}
 use Rattle.outfile.proofs.copied.Tie as tie
 
 abbrev Inv-loop : tie.InvT-loop
-Inv-loop fd to turn₀ turn = Unit {0}
+Inv-loop fd to reads₀ reads = Unit {0}
 
 abbrev μ-loop : tie.MeasureT-loop
-μ-loop fd to turn₀ turn = 18446744073709551615 - turn
+μ-loop fd to reads₀ reads = 18446744073709551615 - reads
 
 lseek-requires : tie.Need-lseek-requires Inv-loop μ-loop
 lseek-requires c κs = search needs
@@ -46,8 +46,8 @@ write-all-requires c κs = search needs
 returns-4 : tie.Need-returns-4 Inv-loop μ-loop
 returns-4 c = search needs
 
-add-turn : tie.Need-add-turn Inv-loop μ-loop
-add-turn c = search needs
+add-reads : tie.Need-add-reads Inv-loop μ-loop
+add-reads c = search needs
 
 loop-less : tie.Need-loop-less Inv-loop μ-loop
 loop-less c = search needs
@@ -76,7 +76,7 @@ copied-spec =
     slice-aggregate-write-all
     write-all-requires
     returns-4
-    add-turn
+    add-reads
     loop-less
     loop-again
     returns-5)

@@ -17,8 +17,10 @@ use Rattle.outline.proofs.support_pair.Tie as tie
 
 abbrev Inv-loop : tie.InvT-loop
 Inv-loop points direction origin count _ _ _ _ first second value i = (1 ≤ i)
-    × (supportFrom binary32 direction origin (drop (2 * i) points) i first value ≡ supportFrom binary32 direction origin (drop 2 points) 1 0 (Ground.zero binary32))
-    × (secondFrom binary32 direction origin (drop (2 * i) points) i second value ≡ secondFrom binary32 direction origin (drop 2 points) 1 0 (Ground.zero binary32))
+    × (supportFrom binary32 direction origin (drop (2 * i) points) i first value ≡ supportFrom binary32 direction origin (drop 2 points) 1 0
+    (Ground.zero binary32))
+    × (secondFrom binary32 direction origin (drop (2 * i) points) i second value ≡ secondFrom binary32 direction origin (drop 2 points) 1 0
+    (Ground.zero binary32))
 
 abbrev μ-loop : tie.MeasureT-loop
 μ-loop _ _ _ count _ _ _ _ _ _ _ i = count - i

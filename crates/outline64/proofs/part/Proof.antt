@@ -1,3 +1,4 @@
+-- Written by tests/written/wide.py from outline, in f64.
 -- `part` meets its contract: past the end a list reads as NaN, which 0 / 0 is. Assumes nothing.
 use mathlib.Core.Path.{sym}
 use lib.Ieee.{nan, div, ofBits}

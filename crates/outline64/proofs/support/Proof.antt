@@ -1,3 +1,4 @@
+-- Written by tests/written/wide.py from outline, in f64.
 -- `support` meets its contract, by what its check's answer says. Assumes nothing.
 use lib.Ieee.{binary64}
 use Rattle.outline64.proofs.Laws.{outline-refused, outline-passed}

@@ -1,3 +1,4 @@
+-- Written by tests/written/wide.py from outline, in f64.
 -- `support_index` meets its contract: the first of the pair. Assumes nothing.
 use borrow.Author.Needs.{needs}
 use Rattle.outline64.proofs.support_index.Statement.{statement}

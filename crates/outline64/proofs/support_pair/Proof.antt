@@ -1,3 +1,4 @@
+-- Written by tests/written/wide.py from outline, in f64.
 -- `support_pair` meets its contract. The invariant: what is left of the list, from the best so far, gives what the whole gives.
 -- Assumes nothing.
 use Prim.Native.Nat.{_≤_, _*_, _-_, _%_}
@@ -17,8 +18,10 @@ use Rattle.outline64.proofs.support_pair.Tie as tie
 
 abbrev Inv-loop : tie.InvT-loop
 Inv-loop points direction origin count _ _ _ _ first second value i = (1 ≤ i)
-    × (supportFrom binary64 direction origin (drop (2 * i) points) i first value ≡ supportFrom binary64 direction origin (drop 2 points) 1 0 (Ground.zero binary64))
-    × (secondFrom binary64 direction origin (drop (2 * i) points) i second value ≡ secondFrom binary64 direction origin (drop 2 points) 1 0 (Ground.zero binary64))
+    × (supportFrom binary64 direction origin (drop (2 * i) points) i first value ≡ supportFrom binary64 direction origin (drop 2 points) 1 0
+    (Ground.zero binary64))
+    × (secondFrom binary64 direction origin (drop (2 * i) points) i second value ≡ secondFrom binary64 direction origin (drop 2 points) 1 0
+    (Ground.zero binary64))
 
 abbrev μ-loop : tie.MeasureT-loop
 μ-loop _ _ _ count _ _ _ _ _ _ _ i = count - i

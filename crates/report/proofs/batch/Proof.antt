@@ -1,14 +1,14 @@
--- `report::batch` is safe and ends: the turns that are left fall. Nothing has to hold from turn to turn. Assumes nothing.
+-- `report::batch` is safe and ends: the reads that are left fall. Nothing has to hold from one read to the next. Assumes nothing.
 use Prim.Native.Nat.{_-_}
 use borrow.Author.Needs.{needs}
 use Rattle.report.proofs.batch.Statement.{statement}
 use Rattle.report.proofs.batch.Tie as tie
 
 abbrev Inv-loop : tie.InvT-loop
-Inv-loop fd name so-far₀ turn₀ so-far turn = Unit {0}
+Inv-loop fd name so-far₀ reads₀ so-far reads = Unit {0}
 
 abbrev μ-loop : tie.MeasureT-loop
-μ-loop fd name so-far₀ turn₀ so-far turn = 18446744073709551615 - turn
+μ-loop fd name so-far₀ reads₀ so-far reads = 18446744073709551615 - reads
 
 opened-requires : tie.Need-opened-requires Inv-loop μ-loop
 opened-requires c κs = search needs
@@ -22,8 +22,8 @@ next-part-requires c κs = search needs
 returns : tie.Need-returns Inv-loop μ-loop
 returns c = search needs
 
-add-turn : tie.Need-add-turn Inv-loop μ-loop
-add-turn c = search needs
+add-reads : tie.Need-add-reads Inv-loop μ-loop
+add-reads c = search needs
 
 loop-less : tie.Need-loop-less Inv-loop μ-loop
 loop-less c = search needs
@@ -47,7 +47,7 @@ batch-spec =
     loop-holds
     next-part-requires
     returns
-    add-turn
+    add-reads
     loop-less
     loop-again
     failed-requires

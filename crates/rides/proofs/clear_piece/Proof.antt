@@ -94,16 +94,29 @@ heading-requires c κs =
     let b1 = c .before .before .before .before .before .before in
     let b2 = b1 .before .before .before .before .before .before in
     let b3 = b2 .before .before .before .before .before .before in
-    let f = b3 .before .pre in
-    (larger (b3 .before .args .job .d1) (f .first), larger (b3 .before .args .job .d2) (f .last), omega (arith, b2 .before .if2 .left, b2 .before .before .if1 .left))
+    let f = b3 .before .pre in (
+      larger (b3 .before .args .job .d1) (f .first),
+      larger (b3 .before .args .job .d2) (f .last),
+      omega (
+        arith,
+        b2 .before .if2 .left,
+        b2 .before .before .if1 .left,
+      ),
+    )
 
 heading-requires-2 : tie.Need-heading-requires-2
 heading-requires-2 c κs =
     let b1 = c .before .before .before .before .before .before in
     let b2 = b1 .before .before .before .before .before .before in
     let b3 = b2 .before .before .before .before .before .before in
-    let f = b3 .before .before .pre in
-    (larger (b3 .before .before .args .job .d1) (f .first), larger (b3 .before .before .args .job .d2) (f .last), omega (arith, b2 .before .before .before .if1 .left))
+    let f = b3 .before .before .pre in (
+      larger (b3 .before .before .args .job .d1) (f .first),
+      larger (b3 .before .before .args .job .d2) (f .last),
+      omega (
+        arith,
+        b2 .before .before .before .if1 .left,
+      ),
+    )
 
 both-within-requires : tie.Need-both-within-requires
 both-within-requires c κs = search needs

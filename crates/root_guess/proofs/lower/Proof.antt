@@ -1,4 +1,4 @@
--- Made by tests/root_list.py. `lower` answers the list's entry: in each arm by looking it up, and there is no other. Assumes nothing.
+-- Made by tests/written/root_list.py. `lower` answers the list's entry: in each arm by looking it up, and there is no other. Assumes nothing.
 use native.Mathlib.Omega.{arith}
 use Rattle.root_list.specs.Guesses.{guesses}
 use Rattle.root_guess.proofs.Keys.{at-key, past-keys}

@@ -1,4 +1,4 @@
--- Made by tests/root_list.py. `upper` answers the list's entry: in each arm by looking it up, and past them because no entry is left. Assumes nothing.
+-- Made by tests/written/root_list.py. `upper` answers the list's entry: in each arm by looking it up, and past them because no entry is left. Assumes nothing.
 use Rattle.root_list.proofs.Rule.{past-end}
 use Rattle.root_list.specs.Guesses.{guesses}
 use Rattle.root_guess.proofs.Keys.{at-key, past-keys}

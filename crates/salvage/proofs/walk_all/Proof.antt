@@ -1,4 +1,4 @@
--- `salvage::walk_all` is safe and ends: the turns that are left fall, and the buffer keeps its size. Assumes nothing.
+-- `salvage::walk_all` is safe and ends: the reads that are left fall, and the buffer keeps its size. Assumes nothing.
 use mathlib.Core.Path.{_≡_}
 use Prim.Native.Nat.{_-_}
 use lib.ListN.{length}
@@ -7,10 +7,10 @@ use Rattle.salvage.proofs.walk_all.Statement.{statement}
 use Rattle.salvage.proofs.walk_all.Tie as tie
 
 abbrev Inv-loop : tie.InvT-loop
-Inv-loop name fd buffer₀ left₀ walk₀ turn₀ buffer left walk turn = 65536 ≡ length buffer
+Inv-loop name fd buffer₀ left₀ walk₀ reads₀ buffer left walk reads = 65536 ≡ length buffer
 
 abbrev μ-loop : tie.MeasureT-loop
-μ-loop name fd buffer₀ left₀ walk₀ turn₀ buffer left walk turn = 18446744073709551615 - turn
+μ-loop name fd buffer₀ left₀ walk₀ reads₀ buffer left walk reads = 18446744073709551615 - reads
 
 large-buffer-requires : tie.Need-large-buffer-requires Inv-loop μ-loop
 large-buffer-requires c κs = search needs
@@ -27,8 +27,8 @@ next-part-requires c κs = search needs
 returns : tie.Need-returns Inv-loop μ-loop
 returns c = search needs
 
-add-turn : tie.Need-add-turn Inv-loop μ-loop
-add-turn c = search needs
+add-reads : tie.Need-add-reads Inv-loop μ-loop
+add-reads c = search needs
 
 loop-less : tie.Need-loop-less Inv-loop μ-loop
 loop-less c = search needs
@@ -53,7 +53,7 @@ walk-all-spec =
     slice-aggregate-next-part
     next-part-requires
     returns
-    add-turn
+    add-reads
     loop-less
     loop-again
     failed-requires

@@ -87,7 +87,8 @@ module _ {M : Type 1} (𝓤 : URA M) (H : Heap 𝓤) (A : Atoms 𝓤) (W : Given
         → ent 𝓤 (onEntry 𝓤 H A new.signature (κ, tt) (q, tt) (s, (r, tt)) at) (WpFn 𝓤 H C Λ code.function (v ∷ vfloat binary32 r ∷ []) Post)
     walk p =
         qed W (raw (onEntry 𝓤 H A new.signature (κ, tt) (q, tt) (s, (r, tt)) at) ∷ []) ∵ enter ! C Λ code.function (v ∷ vfloat binary32 r ∷ []) _ $
-        alloc1 ! (λ l₀. alloc1 ! (λ l₁. alloc1 ! (λ l₂. alloc0 ! $ params1 ! $ pass1 ! (init ! 2 refl (shr-slice-lawful 𝓤 H A W (named 0) κ f32 .typed s (v ∷ []) p .0)) $ pass1 ! (init ! 0 refl (
+        alloc1 ! (λ l₀. alloc1 ! (λ l₁. alloc1 !
+        (λ l₂. alloc0 ! $ params1 ! $ pass1 ! (init ! 2 refl (shr-slice-lawful 𝓤 H A W (named 0) κ f32 .typed s (v ∷ []) p .0)) $ pass1 ! (init ! 0 refl (
           tt,
           passes _ fit,
         )) $ pass0 ! $

@@ -17,7 +17,8 @@ use contract.Monad.{Fun, fact}
 use contract.Running.{givenOf, tables, tablesOf}
 use types.Kit.{Given, ‵, raw, _⊛_, ⋆, some, later, _$_, _∵_, !, qed, by, move, use1, use2, split, join, pick, fsplit, fjoin, suffices, frame, await, done}
 use types.Part.{whole, sub, look-in}
-use types.Run.{look, init, forget, stop, fld, from, load, of-opd, and-then, no-more, assigns, land, returns, enter, alloc1, alloc0, params1, pass1, pass0, free1, free0}
+use types.Run.{look, init, forget, stop, fld, from, load, of-opd, and-then, no-more, assigns, land, returns, enter, alloc1, alloc0, params1, pass1, pass0}
+use types.Run.{free1, free0}
 use sound.WpLaws.{FmC, fmOf, WpFn-mono}
 use denote.RattleType.{RattleType, owns}
 use denote.Laws.{Is, shows}
@@ -123,7 +124,9 @@ module _ {M : Type 1} (𝓤 : URA M) (H : Heap 𝓤) (A : Atoms 𝓤) (W : Given
         → ent 𝓤 (onEntry 𝓤 H A support.signature (κ, tt) (q, tt) (d, (w, tt)) at) (WpFn 𝓤 H C Λ code.function (proxyVal d ∷ vectorVal w ∷ []) Post)
     walk p iw =
         qed W (raw (onEntry 𝓤 H A support.signature (κ, tt) (q, tt) (d, (w, tt)) at) ∷ []) ∵ enter ! C Λ code.function (proxyVal d ∷ vectorVal w ∷ []) _ $
-        alloc1 ! (λ l₀. alloc1 ! (λ l₁. alloc1 ! (λ l₂. alloc1 ! (λ l₃. alloc0 ! $ params1 ! $ pass1 ! (init ! 4 refl (typed α 𝓤 H A W d p)) $ pass1 ! (init ! 2 refl (LL.lawful Vec.the-type Vec′.the-laws 𝓤 H A W .typed w _ iw .0)) $ pass0 ! $
+        alloc1 ! (λ l₀. alloc1 ! (λ l₁. alloc1 !
+        (λ l₂. alloc1 ! (λ l₃. alloc0 ! $ params1 ! $ pass1 ! (init ! 4 refl (typed α 𝓤 H A W d p)) $ pass1 !
+        (init ! 2 refl (LL.lawful Vec.the-type Vec′.the-laws 𝓤 H A W .typed w _ iw .0)) $ pass0 ! $
         assigns ! (of-opd ! (load ! (from ! (fld ! refl (stop !))) (look-in ! 4 (sub ! 0 refl (whole !))))) (from ! (stop !)) (init ! 0 refl (
           tt,
           typed α 𝓤 H A W d p .1 .0,
@@ -132,7 +135,8 @@ module _ {M : Type 1} (𝓤 : URA M) (H : Heap 𝓤) (A : Atoms 𝓤) (W : Given
         -- [what the callee asks; what the proxy owns; _3; …; _2; …; _1; …; room for _0; …]
         calls-at ! fm (Core 𝓤 H A mem run) known to
         (and-then ! (load ! (from ! (stop !)) (look ! 2 refl)) (and-then ! (load ! (from ! (stop !)) (look ! 4 refl)) (no-more !))) (λ u.
-        use1 W (later (some (λ (r : SupportAnswer). ((‵ (flft κ q) ⊛ ‵ ftrue) ⊛ ‵ (S.the-row .own r (u ∷ []))) ⊛ raw (ensured 𝓤 H A core.ended (core.clauses 𝓤 H A mem run) (
+        use1 W (later (some (λ (r : SupportAnswer). ((‵ (flft κ q) ⊛ ‵ ftrue) ⊛ ‵ (S.the-row .own r (u ∷ []))) ⊛ raw
+        (ensured 𝓤 H A core.ended (core.clauses 𝓤 H A mem run) (
           κ,
           tt,
         ) (d .points, (w, tt)) tt r)))) (id⊢ 𝓤 _) $ await ! tt $ pick ! (λ r.

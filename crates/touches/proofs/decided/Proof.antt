@@ -28,16 +28,37 @@ returns-2 : tie.Need-returns-2
 returns-2 c = λ h. absurd (true≢false (sym h))
 
 heading-requires : tie.Need-heading-requires
-heading-requires c κs = (record { x = omega (arith, c .before .before .before .before .before .before .before .before .pre .first .x); y = omega (arith,
-    c .before .before .before .before .before .before .before .before .pre .first .y) }, record { x = omega (arith,
-        c .before .before .before .before .before .before .before .before .pre .last .x); y = omega (arith,
-        c .before .before .before .before .before .before .before .before .pre .last .y) },
-        c .before .before .before .before .before .before .before .before .pre .early)
+heading-requires c κs = (
+  record {
+    x = omega (arith, c .before .before .before .before .before .before .before .before .pre .first .x);
+    y = omega (
+      arith,
+      c .before .before .before .before .before .before .before .before .pre .first .y,
+    );
+  },
+  record {
+    x = omega (
+      arith,
+      c .before .before .before .before .before .before .before .before .pre .last .x,
+    );
+    y = omega (
+      arith,
+      c .before .before .before .before .before .before .before .before .pre .last .y,
+    );
+  },
+  c .before .before .before .before .before .before .before .before .pre .early,
+)
 
 way-between-requires : tie.Need-way-between-requires
-way-between-requires c κs = (c .before .before .before .before .before .before .before .before .before .pre .looseA .place, record { x =
-    c .heading .ensures .x .small; y = c .heading .ensures .y .small },
-        c .before .before .before .before .before .before .before .before .before .pre .looseB .place)
+way-between-requires c κs = (
+  c .before .before .before .before .before .before .before .before .before .pre .looseA .place,
+  record {
+    x =
+        c .heading .ensures .x .small;
+    y = c .heading .ensures .y .small;
+  },
+  c .before .before .before .before .before .before .before .before .before .pre .looseB .place,
+)
 
 reached-requires : tie.Need-reached-requires
 reached-requires c κs = search needs

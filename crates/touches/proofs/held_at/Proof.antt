@@ -34,8 +34,14 @@ weighted-requires : tie.Need-weighted-requires
 weighted-requires c κs = search needs
 
 turned-down-requires : tie.Need-turned-down-requires
-turned-down-requires c κs = (c .before .before .before .margin-of .ensures (c .before .before .if3 .left) .arc .p0, record { x =
-    c .weighted .ensures .x .small; y = c .weighted .ensures .y .small })
+turned-down-requires c κs = (
+  c .before .before .before .margin-of .ensures (c .before .before .if3 .left) .arc .p0,
+  record {
+    x =
+        c .weighted .ensures .x .small;
+    y = c .weighted .ensures .y .small;
+  },
+)
 
 blur-requires : tie.Need-blur-requires
 blur-requires c κs = search needs
@@ -54,17 +60,17 @@ returns-4 c =
         point = point .result;
         held = held-by (c .before .before .before .before .before .before .before .before .before .before .before .args .o)
             (c .before .before .before .before .before .before .before .before .before .before .before .args .xs .now)
-                (c .before .before .before .before .before .before .before .before .before .before .before .args .ys .now)
-                (c .before .before .before .before .before .before .before .before .before .before .before .args .k)
-                (c .before .before .before .before .before .before .before .before .before .before .before .args .l)
-                (c .before .before .before .before .before .before .before .before .before .before .before .args .i0)
-                (c .before .before .before .before .before .before .before .before .before .before .before .args .i1)
-                (c .before .before .before .before .before .before .before .before .before .before .before .args .i2)
-                (c .before .before .before .before .before .before .before .before .before .before .before .args .w0)
-                (c .before .before .before .before .before .before .before .before .before .before .before .args .w1)
-                (c .before .before .before .before .before .before .before .before .before .before .before .args .w2) (blurred .result) (margin .result)
-                (arc .result) (point .result) (placed .result) (c .before .before .before .before .before .before .before .before .if1 .left)
-                (arc .ensures) seen (blurred .ensures) (point .ensures) (placed .ensures);
+            (c .before .before .before .before .before .before .before .before .before .before .before .args .ys .now)
+            (c .before .before .before .before .before .before .before .before .before .before .before .args .k)
+            (c .before .before .before .before .before .before .before .before .before .before .before .args .l)
+            (c .before .before .before .before .before .before .before .before .before .before .before .args .i0)
+            (c .before .before .before .before .before .before .before .before .before .before .before .args .i1)
+            (c .before .before .before .before .before .before .before .before .before .before .before .args .i2)
+            (c .before .before .before .before .before .before .before .before .before .before .before .args .w0)
+            (c .before .before .before .before .before .before .before .before .before .before .before .args .w1)
+            (c .before .before .before .before .before .before .before .before .before .before .before .args .w2) (blurred .result) (margin .result)
+            (arc .result) (point .result) (placed .result) (c .before .before .before .before .before .before .before .before .if1 .left)
+            (arc .ensures) seen (blurred .ensures) (point .ensures) (placed .ensures);
       },
     )
 

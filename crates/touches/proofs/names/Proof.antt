@@ -40,8 +40,21 @@ returns-10 : tie.Need-returns-10
 returns-10 c = λ h. absurd (true≢false (sym h))
 
 returns-11 : tie.Need-returns-11
-returns-11 c = λ h. record { all = omega (arith,
-    c .before .before .before .before .before .before .before .before .before .before .before .before .before .before .before .before .before .before .before .before .before .if1 .left, c .before .before .before .before .before .before .before .before .before .before .before .before .before .before .before .before .before .before .if2 .left, c .before .before .before .before .before .before .before .before .before .before .before .before .before .before .if3 .left, c .before .before .before .before .before .before .before .before .before .before .before .before .if4 .left); a0 = c .before .before .before .before .before .before .before .before .before .before .if5 .left; a1 = c .before .before .before .before .before .before .before .before .if6 .left; a2 = c .before .before .before .before .before .before .if7 .left; b0 = c .before .before .before .before .if8 .left; b1 = c .before .before .if9 .left; b2 = c .if10 .left }
+returns-11 c = λ h. record {
+  all = omega (
+    arith,
+    c .before .before .before .before .before .before .before .before .before .before .before .before .before .before .before .before .before .before .before .before .before .if1 .left,
+    c .before .before .before .before .before .before .before .before .before .before .before .before .before .before .before .before .before .before .if2 .left,
+    c .before .before .before .before .before .before .before .before .before .before .before .before .before .before .if3 .left,
+    c .before .before .before .before .before .before .before .before .before .before .before .before .if4 .left,
+  );
+  a0 = c .before .before .before .before .before .before .before .before .before .before .if5 .left;
+  a1 = c .before .before .before .before .before .before .before .before .if6 .left;
+  a2 = c .before .before .before .before .before .before .if7 .left;
+  b0 = c .before .before .before .before .if8 .left;
+  b1 = c .before .before .if9 .left;
+  b2 = c .if10 .left;
+}
 
 pub names-spec : {M : Type 1} → statement M
 names-spec =

@@ -23,10 +23,13 @@ shared-slice-read-weighted-part-3 : tie.Need-shared-slice-read-weighted-part-3
 shared-slice-read-weighted-part-3 c = search needs
 
 weighted-part-requires : tie.Need-weighted-part-requires
-weighted-part-requires c κs = (c .before .before .before .before .before .pre .0 .small-x (c .before .before .before .before .before .args .i0) (omega
-    arith), c .before .before .before .before .before .pre .0 .small-x (c .before .before .before .before .before .args .i1) (omega arith),
-        c .before .before .before .before .before .pre .0 .small-x (c .before .before .before .before .before .args .i2) (omega arith),
-        c .before .before .before .before .before .pre .4)
+weighted-part-requires c κs = (
+  c .before .before .before .before .before .pre .0 .small-x (c .before .before .before .before .before .args .i0) (omega
+      arith),
+  c .before .before .before .before .before .pre .0 .small-x (c .before .before .before .before .before .args .i1) (omega arith),
+  c .before .before .before .before .before .pre .0 .small-x (c .before .before .before .before .before .args .i2) (omega arith),
+  c .before .before .before .before .before .pre .4,
+)
 
 mul-weighted-part-4 : tie.Need-mul-weighted-part-4
 mul-weighted-part-4 c = search needs
@@ -47,13 +50,15 @@ shared-slice-read-weighted-part-6 : tie.Need-shared-slice-read-weighted-part-6
 shared-slice-read-weighted-part-6 c = search needs
 
 weighted-part-requires-2 : tie.Need-weighted-part-requires-2
-weighted-part-requires-2 c κs = (c .before .before .before .before .before .before .before .before .before .pre .0 .small-y
-    (c .before .before .before .before .before .before .before .before .before .args .i0) (omega arith),
-        c .before .before .before .before .before .before .before .before .before .pre .0 .small-y
-        (c .before .before .before .before .before .before .before .before .before .args .i1) (omega arith),
-        c .before .before .before .before .before .before .before .before .before .pre .0 .small-y
-        (c .before .before .before .before .before .before .before .before .before .args .i2) (omega arith),
-        c .before .before .before .before .before .before .before .before .before .pre .4)
+weighted-part-requires-2 c κs = (
+  c .before .before .before .before .before .before .before .before .before .pre .0 .small-y
+      (c .before .before .before .before .before .before .before .before .before .args .i0) (omega arith),
+  c .before .before .before .before .before .before .before .before .before .pre .0 .small-y
+      (c .before .before .before .before .before .before .before .before .before .args .i1) (omega arith),
+  c .before .before .before .before .before .before .before .before .before .pre .0 .small-y
+      (c .before .before .before .before .before .before .before .before .before .args .i2) (omega arith),
+  c .before .before .before .before .before .before .before .before .before .pre .4,
+)
 
 returns : tie.Need-returns
 returns c = search needs

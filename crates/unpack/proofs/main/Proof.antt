@@ -1,4 +1,4 @@
--- `unpack::main` is safe and ends: the turns that are left fall, and both buffers keep their length. Assumes nothing.
+-- `unpack::main` is safe and ends: the reads that are left fall, and both buffers keep their length. Assumes nothing.
 use Prim.Native.Nat.{_-_}
 use mathlib.Core.Path.{_≡_, sym}
 use lib.ListN.{length}
@@ -7,10 +7,10 @@ use Rattle.unpack.proofs.main.Statement.{statement}
 use Rattle.unpack.proofs.main.Tie as tie
 
 abbrev Inv-loop : tie.InvT-loop
-Inv-loop out₀ err₀ blocks₀ turn₀ out err blocks turn = (length out ≡ 65536) × (length err ≡ 65536)
+Inv-loop out₀ err₀ blocks₀ reads₀ out err blocks reads = (length out ≡ 65536) × (length err ≡ 65536)
 
 abbrev μ-loop : tie.MeasureT-loop
-μ-loop out₀ err₀ blocks₀ turn₀ out err blocks turn = 18446744073709551615 - turn
+μ-loop out₀ err₀ blocks₀ reads₀ out err blocks reads = 18446744073709551615 - reads
 
 slice-aggregate-no-argument : tie.Need-slice-aggregate-no-argument Inv-loop μ-loop
 slice-aggregate-no-argument c = search needs
@@ -42,8 +42,8 @@ next-part-requires c κs = search needs
 returns-2 : tie.Need-returns-2 Inv-loop μ-loop
 returns-2 c = search needs
 
-add-turn : tie.Need-add-turn Inv-loop μ-loop
-add-turn c = search needs
+add-reads : tie.Need-add-reads Inv-loop μ-loop
+add-reads c = search needs
 
 loop-less : tie.Need-loop-less Inv-loop μ-loop
 loop-less c = search needs
@@ -70,7 +70,7 @@ main-spec =
     slice-aggregate-next-part-2
     next-part-requires
     returns-2
-    add-turn
+    add-reads
     loop-less
     loop-again
     returns-3)

@@ -28,13 +28,17 @@ work-block-requires c κs = good-counts _ _ (sym (c .before .before .before .che
 told-requires : tie.Need-told-requires
 told-requires c κs = search needs
 
+of-job-requires : tie.Need-of-job-requires
+of-job-requires c κs = search needs
+
 returns-2 : tie.Need-returns-2
 unfolding blockAnswer
 returns-2 c =
     simp (
-      c .told .ensures,
-      sym (c .before .before .before .before .before .check-block .ensures) ∙ c .before .before .before .checked .given .1,
-      c .before .work-block .ensures,
+      c .of-job .ensures,
+      c .before .told .ensures,
+      sym (c .before .before .before .before .before .before .check-block .ensures) ∙ c .before .before .before .before .checked .given .1,
+      c .before .before .work-block .ensures,
     )
 
 pub answer-block-spec : {M : Type 1} → statement M
@@ -48,4 +52,5 @@ answer-block-spec =
     returns
     work-block-requires
     told-requires
+    of-job-requires
     returns-2)

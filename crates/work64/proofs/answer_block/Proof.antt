@@ -1,3 +1,4 @@
+-- Written by tests/written/wide.py from work, in f64.
 -- `work::answer_block` meets its contract: the two cases are those of the definition. Assumes nothing.
 use mathlib.Core.Path.{sym, _∙_}
 use Rattle.model64.specs.Work.{blockAnswer}
@@ -28,13 +29,17 @@ work-block-requires c κs = good-counts _ _ (sym (c .before .before .before .che
 told-requires : tie.Need-told-requires
 told-requires c κs = search needs
 
+of-job-requires : tie.Need-of-job-requires
+of-job-requires c κs = search needs
+
 returns-2 : tie.Need-returns-2
 unfolding blockAnswer
 returns-2 c =
     simp (
-      c .told .ensures,
-      sym (c .before .before .before .before .before .check-block .ensures) ∙ c .before .before .before .checked .given .1,
-      c .before .work-block .ensures,
+      c .of-job .ensures,
+      c .before .told .ensures,
+      sym (c .before .before .before .before .before .before .check-block .ensures) ∙ c .before .before .before .before .checked .given .1,
+      c .before .before .work-block .ensures,
     )
 
 pub answer-block-spec : {M : Type 1} → statement M
@@ -48,4 +53,5 @@ answer-block-spec =
     returns
     work-block-requires
     told-requires
+    of-job-requires
     returns-2)

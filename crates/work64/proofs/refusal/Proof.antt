@@ -1,3 +1,4 @@
+-- Written by tests/written/wide.py from work, in f64.
 -- `work::refusal` meets its contract, case by case. Assumes nothing.
 use borrow.Author.Needs.{needs}
 use Rattle.work64.proofs.refusal.Statement.{statement}

@@ -1,3 +1,4 @@
+-- Written by tests/written/wide.py from work, in f64.
 -- `work::work_block` meets its contract: the lent parts of the arrays are the block's points and numbers. Assumes nothing.
 use mathlib.Core.Path.{sym}
 use lib.Seq.{length-take-le}

@@ -12,7 +12,8 @@ use Rattle.distance.proofs.proxy_distance.rounds.Tie as tie
 
 abbrev Inv-loop : tie.InvT-loop
 Inv-loop pos12 points-a points-b simplex₀ count₀ direction₀ iterations₀ simplex count direction iterations = (count ≤ 3) × (iterations ≤ 20)
-    × (roundsFrom binary32 points-a points-b pos12 (20 - iterations) simplex count direction iterations ≡ roundsFrom binary32 points-a points-b pos12 20 simplex₀ count₀ direction₀ 0)
+    × (roundsFrom binary32 points-a points-b pos12 (20 - iterations) simplex count direction iterations
+    ≡ roundsFrom binary32 points-a points-b pos12 20 simplex₀ count₀ direction₀ 0)
 
 abbrev μ-loop : tie.MeasureT-loop
 μ-loop pos12 points-a points-b simplex₀ count₀ direction₀ iterations₀ simplex count direction iterations = 20 - iterations
@@ -33,7 +34,8 @@ free c = room binary32 _ _ _ _ (c .before .before .before .solve .ensures) (c .i
 
 -- a round up to its new vertex
 made : (c : tie.After-vertex Inv-loop μ-loop) →
-    let x = c .before .before .before .before .before .before .before .before .before .before .before .before .before .before .before .before .before .before .args in
+    let x = c .before .before .before .before .before .before .before .before .before .before .before .before .before .before .before .before .before .before
+    .args in
     let l = c .before .before .before .before .before .before .before .before .before .before .before .before .loop in
     Made binary32 (x .points-a .now) (x .points-b .now) (x .pos12) (l .simplex) (l .count) (l .iterations)
     (c .before .before .before .before .before .before .before .before .before .before .solve .result)

@@ -1,3 +1,4 @@
+-- Written by tests/written/wide.py from distance, in f64.
 -- `cache::cache_is_valid` meets its contract, by its test and what `all_below` ensures. Assumes nothing.
 use borrow.Author.Tests.{le-leb, lt-leb}
 use borrow.Author.Needs.{needs}

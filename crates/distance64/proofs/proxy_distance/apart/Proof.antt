@@ -1,3 +1,4 @@
+-- Written by tests/written/wide.py from distance, in f64.
 -- `proxy_distance::apart` meets its contract, by its test and what its callees ensure. Assumes nothing.
 use borrow.Author.Needs.{needs}
 use Rattle.distance64.proofs.proxy_distance.apart.Statement.{statement}

@@ -1,3 +1,4 @@
+-- Written by tests/written/wide.py from distance, in f64.
 -- `proxy_distance::blank` meets its contract, by what `zero` ensures. Assumes nothing.
 use borrow.Author.Needs.{needs}
 use Rattle.distance64.proofs.proxy_distance.blank.Statement.{statement}

@@ -1,3 +1,4 @@
+-- Written by tests/written/wide.py from distance, in f64.
 -- `proxy_distance::cached` meets its contract, by its test and what its callees ensure. Assumes nothing.
 use borrow.Author.Tests.{lt-ltb, le-ltb}
 use borrow.Author.Needs.{needs}

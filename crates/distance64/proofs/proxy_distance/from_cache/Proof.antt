@@ -1,3 +1,4 @@
+-- Written by tests/written/wide.py from distance, in f64.
 -- `proxy_distance::from_cache` meets its contract, by what `cache_is_valid` ensures. Assumes nothing.
 use borrow.Author.Needs.{needs}
 use Rattle.distance64.proofs.proxy_distance.from_cache.Statement.{statement}

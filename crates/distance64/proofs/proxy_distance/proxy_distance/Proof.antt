@@ -1,3 +1,4 @@
+-- Written by tests/written/wide.py from distance, in f64.
 -- `proxy_distance::proxy_distance` meets its contract: each ending is its law. Assumes nothing.
 use lib.Ieee.{binary64}
 use Rattle.distance64.proofs.Call.{pair-refused, pose-refused, cache-refused, all-passed}

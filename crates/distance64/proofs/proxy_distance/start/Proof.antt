@@ -1,3 +1,4 @@
+-- Written by tests/written/wide.py from distance, in f64.
 -- `proxy_distance::start` meets its contract, by its test and what its callees ensure. Assumes nothing.
 use mathlib.Core.Path.{sym, _∙_}
 use Rattle.model64.specs.Distance.{startSimplex}

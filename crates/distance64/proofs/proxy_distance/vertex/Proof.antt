@@ -1,3 +1,4 @@
+-- Written by tests/written/wide.py from distance, in f64.
 -- `proxy_distance::vertex` meets its contract, by what its callees ensure. Assumes nothing.
 use Rattle.model64.specs.Distance.{vertex}
 use borrow.Author.Needs.{needs}

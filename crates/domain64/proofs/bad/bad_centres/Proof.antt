@@ -1,3 +1,4 @@
+-- Written by tests/written/wide.py from domain, in f64.
 -- `bad::bad_centres` meets its contract, by what its callees ensure. Assumes nothing.
 use borrow.Author.Needs.{needs}
 use Rattle.domain64.proofs.bad.bad_centres.Statement.{statement}

@@ -1,3 +1,4 @@
+-- Written by tests/written/wide.py from domain, in f64.
 -- `bad::bad_part` meets its contract, by what `abs` ensures. Assumes nothing.
 use borrow.Author.Needs.{needs}
 use Rattle.domain64.proofs.bad.bad_part.Statement.{statement}

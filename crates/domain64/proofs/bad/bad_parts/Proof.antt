@@ -1,3 +1,4 @@
+-- Written by tests/written/wide.py from domain, in f64.
 -- `bad::bad_parts` meets its contract. The invariant: what is left of the list has a bad part just where the list has one. Assumes nothing.
 use Prim.Native.Nat.{_≤_, _-_}
 use native.Mathlib.Omega.{arith}

@@ -1,3 +1,4 @@
+-- Written by tests/written/wide.py from domain, in f64.
 -- `bad::bad_rotation` meets its contract, by what `abs` ensures. Assumes nothing.
 use borrow.Author.Needs.{needs}
 use Rattle.domain64.proofs.bad.bad_rotation.Statement.{statement}

@@ -2,7 +2,7 @@
 use mathlib.Core.List.{List, [], _∷_}
 use mathlib.Core.Path.{refl}
 use lib.Ieee.{Float}
-use Rattle.entries.proofs.Filled.{stored, filled}
+use Rattle.list_calls.proofs.Filled.{stored, filled}
 use borrow.Author.Needs.{needs}
 use Rattle.foldflake.proofs.tell_moment.put_gap.Statement.{statement}
 use Rattle.foldflake.proofs.tell_moment.put_gap.Tie as tie

@@ -1,7 +1,7 @@
 -- `foldflake::tell_moment::put_pose` meets its contract: every place is stored to. Assumes nothing.
 use mathlib.Core.Path.{refl}
 use Rattle.foldflake.specs.Moment.{poseFloats}
-use Rattle.entries.proofs.Filled.{stored, filled}
+use Rattle.list_calls.proofs.Filled.{stored, filled}
 use borrow.Author.Needs.{needs}
 use Rattle.foldflake.proofs.tell_moment.put_pose.Statement.{statement}
 use Rattle.foldflake.proofs.tell_moment.put_pose.Tie as tie

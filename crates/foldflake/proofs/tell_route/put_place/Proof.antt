@@ -1,7 +1,7 @@
 -- `foldflake::tell_route::put_place` meets its contract: every place is stored to. Assumes nothing.
 use mathlib.Core.Path.{refl}
 use mathlib.Core.List.{[], _∷_}
-use Rattle.entries.proofs.Filled.{stored, filled}
+use Rattle.list_calls.proofs.Filled.{stored, filled}
 use borrow.Author.Needs.{needs}
 use Rattle.foldflake.proofs.tell_route.put_place.Statement.{statement}
 use Rattle.foldflake.proofs.tell_route.put_place.Tie as tie

@@ -1,3 +1,4 @@
+-- Written by tests/written/wide.py from ground, in f64.
 -- `bits::from_bits` meets its contract: a magnitude above the infinity's is a NaN. Assumes nothing.
 use mathlib.Core.Path.{sym}
 use borrow.Author.Needs.{needs}

@@ -1,3 +1,4 @@
+-- Written by tests/written/wide.py from ground, in f64.
 -- `bits::to_bits` meets its contract: what differs from itself is NaN. Assumes nothing.
 use borrow.Author.Needs.{needs}
 use lib.Ieee.{toBits}

@@ -1,3 +1,4 @@
+-- Written by tests/written/wide.py from ground, in f64.
 -- `rotation::reciprocal_or_zero` meets its contract, by its test. Assumes nothing.
 use Rattle.ground64.proofs.rotation.reciprocal_or_zero.Statement.{statement}
 use Rattle.ground64.proofs.rotation.reciprocal_or_zero.Tie as tie

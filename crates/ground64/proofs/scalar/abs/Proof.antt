@@ -1,3 +1,4 @@
+-- Written by tests/written/wide.py from ground, in f64.
 -- `scalar::abs` meets its contract: dropping the sign's bit of a pattern is `abs`. Assumes nothing.
 use mathlib.Core.Path.{sym, subst}
 use lib.Dec.{T}

@@ -1,3 +1,4 @@
+-- Written by tests/written/wide.py from ground, in f64.
 -- `scalar::max` meets its contract, by its two tests. Assumes nothing.
 use Rattle.model.proofs.Bits.{differs-is-nan, same-not-nan}
 use Rattle.ground64.proofs.scalar.max.Statement.{statement}

@@ -1,3 +1,4 @@
+-- Written by tests/written/wide.py from ground, in f64.
 -- `vector::normalize_or_zero` meets its contract, by its test and what its callees ensure. Assumes nothing.
 use borrow.Author.Needs.{needs}
 use Rattle.ground64.proofs.vector.normalize_or_zero.Statement.{statement}

@@ -1,10 +1,11 @@
--- `job_text::block_line::put_job` meets its contract: the numbers, the words but one, and the last. Assumes nothing.
+-- `job_text::block_line::put_job` meets its contract: nothing where a count is none of an outline or there is no room, else the line. Assumes nothing.
 use mathlib.Core.Path.{_≡_, sym, _∙_}
-use Prim.Native.Nat.{suc, _+_, _*_}
+use Prim.Native.Nat.{_+_, _≤_, _<_}
 use native.Mathlib.Omega.{arith}
-use Rattle.text.proofs.Pasted.{put-then}
-use Rattle.text.proofs.Lengths.{ends}
-use Rattle.job_text.proofs.Lines.{length-head, length-fields, job-line-is}
+use borrow.Author.Tests.{lt-ltb, le-ltb}
+use lib.ListN.{length}
+use Rattle.model.specs.Wire.{byte}
+use Rattle.text.proofs.Pasted.{put-nothing}
 use borrow.Author.Needs.{needs}
 use Rattle.job_text.proofs.block_line.put_job.Statement.{statement}
 use Rattle.job_text.proofs.block_line.put_job.Tie as tie
@@ -12,90 +13,84 @@ use Rattle.job_text.proofs.block_line.put_job.Tie as tie
 byte-requires : tie.Need-byte-requires
 byte-requires c κs = search needs
 
-cast-last : tie.Need-cast-last
-cast-last c = search needs
-
-mul-last : tie.Need-mul-last
-mul-last c = search needs
-
-add-last : tie.Need-add-last
-add-last c = search needs
+returns : tie.Need-returns
+returns c =
+    let many = c .if1 .taken in
+    let b = c .before .before .before .before .args .block .now in
+    let most : 16 < byte b 4 = omega (arith, many, c .before .byte .ensures) in
+    rw (lt-ltb 16 (byte b 4) most) (put-nothing _ _)
 
 byte-requires-2 : tie.Need-byte-requires-2
 byte-requires-2 c κs = search needs
 
-cast-last-2 : tie.Need-cast-last-2
-cast-last-2 c = search needs
+returns-2 : tie.Need-returns-2
+returns-2 c =
+    let few = c .before .before in
+    let b = few .before .before .before .before .args .block .now in
+    let a-most : byte b 4 ≤ 16 = omega (arith, few .if1 .left, few .before .byte .ensures) in
+    let b-many : 16 < byte b 5 = omega (arith, c .if2 .taken, c .before .byte2 .ensures) in
+    rw (le-ltb 16 (byte b 4) a-most, lt-ltb 16 (byte b 5) b-many) (put-nothing _ _)
 
-mul-last-2 : tie.Need-mul-last-2
-mul-last-2 c = search needs
+returns-3 : tie.Need-returns-3
+returns-3 c =
+    let second = c .before in
+    let first = second .before .before in
+    let a = first .before .before .before .before .args in
+    let b = a .block .now in
+    let a-most : byte b 4 ≤ 16 = omega (arith, first .if1 .left, first .before .byte .ensures) in
+    let b-most : byte b 5 ≤ 16 = omega (arith, second .if2 .left, second .before .byte2 .ensures) in
+    let no-room : length (a .out .now) < a .at + 855 = omega (arith, c .if3 .taken) in
+    rw (le-ltb 16 (byte b 4) a-most, le-ltb 16 (byte b 5) b-most, lt-ltb (length (a .out .now)) (a .at + 855) no-room) (put-nothing _ _)
 
-add-last-2 : tie.Need-add-last-2
-add-last-2 c = search needs
+sub-if4 : tie.Need-sub-if4
+sub-if4 c = search needs
 
-put-head-requires : tie.Need-put-head-requires
-put-head-requires c κs = search needs
+returns-4 : tie.Need-returns-4
+returns-4 c =
+    let second = c .before .before in
+    let first = second .before .before in
+    let a = first .before .before .before .before .args in
+    let b = a .block .now in
+    let a-most : byte b 4 ≤ 16 = omega (arith, first .if1 .left, first .before .byte .ensures) in
+    let b-most : byte b 5 ≤ 16 = omega (arith, second .if2 .left, second .before .byte2 .ensures) in
+    let no-room : length (a .out .now) < a .at + 855 = omega (arith, c .if4 .taken, c .before .if3 .left) in
+    rw (le-ltb 16 (byte b 4) a-most, le-ltb 16 (byte b 5) b-most, lt-ltb (length (a .out .now)) (a .at + 855) no-room) (put-nothing _ _)
 
-put-fields-requires : tie.Need-put-fields-requires
-put-fields-requires c κs =
-    let p = c .before .before .before .put-head in
-    let b = c .before .before .before .before .before in
-    let a = b .before .before .before .before in (
-      omega (arith, a .pre .0, a .pre .1, a .pre .2, b .byte2 .ensures, b .before .byte .ensures, ends (p .ensures) (length-head (a .args .block .now)), p .kept .0),
-      a .pre .1,
-      omega (arith, a .pre .1, a .pre .2, b .byte2 .ensures, b .before .byte .ensures),
-    )
-
-put-field-requires : tie.Need-put-field-requires
-put-field-requires c κs =
-    let q = c .before .before .before .put-fields in
-    let p = c .before .before .before .before .before .before .before .put-head in
-    let b = c .before .before .before .before .before .before .before .before .before in
-    let a = b .before .before .before .before in (
-      omega (
-        arith,
-        a .pre .0,
-        a .pre .1,
-        a .pre .2,
-        b .byte2 .ensures,
-        b .before .byte .ensures,
-        ends (p .ensures) (length-head (a .args .block .now)),
-        p .kept .0,
-        q .ensures .place,
-        length-fields (a .args .block .now) (23 + 2 * b .before .byte .result + 2 * b .byte2 .result),
-        q .kept .0,
-      ),
-      a .pre .1,
-      omega (arith, a .pre .1, a .pre .2, b .byte2 .ensures, b .before .byte .ensures),
+put-line-requires : tie.Need-put-line-requires
+put-line-requires c κs =
+    let second = c .before .before .before in
+    let first = second .before .before in (
+      omega (arith, c .before .if4 .left, c .before .before .if3 .left),
+      omega (arith, first .if1 .left, first .before .byte .ensures),
+      omega (arith, second .if2 .left, second .before .byte2 .ensures),
     )
 
 same-length : tie.Need-same-length
 same-length c = search needs
 
-returns : tie.Need-returns
-returns c =
-    let b = c .before .before .before .before .before .before .before .before .before .before .before .before in
-    let a = b .before .before .before .before in
-    let last = 23 + 2 * b .before .byte .result + 2 * b .byte2 .result in
-    let q = c .before .before .before .before .before .before .put-fields in
-    let p = c .before .before .before .before .before .before .before .before .before .before .put-head in
-    rw (job-line-is (a .args .block .now) last (omega (arith, b .byte2 .ensures, b .before .byte .ensures)))
-    (put-then (omega (arith, a .pre .0)) (put-then (omega (arith, a .pre .0)) (p .ensures) (q .ensures)) (c .before .before .put-field .ensures))
+returns-5 : tie.Need-returns-5
+returns-5 c =
+    let room = c .before .before .before .before in
+    let second = room .before .before in
+    let first = second .before .before in
+    let a = first .before .before .before .before .args in
+    let b = a .block .now in
+    let a-most : byte b 4 ≤ 16 = omega (arith, first .if1 .left, first .before .byte .ensures) in
+    let b-most : byte b 5 ≤ 16 = omega (arith, second .if2 .left, second .before .byte2 .ensures) in
+    let fits : a .at + 855 ≤ length (a .out .now) = omega (arith, room .if4 .left, room .before .if3 .left) in
+    rw (le-ltb 16 (byte b 4) a-most, le-ltb 16 (byte b 5) b-most, le-ltb (length (a .out .now)) (a .at + 855) fits) (c .before .before .put-line .ensures)
 
 pub put-job-spec : {M : Type 1} → statement M
 put-job-spec =
     tie.close
     (tie.spec
     byte-requires
-    cast-last
-    mul-last
-    add-last
+    returns
     byte-requires-2
-    cast-last-2
-    mul-last-2
-    add-last-2
-    put-head-requires
-    put-fields-requires
-    put-field-requires
+    returns-2
+    returns-3
+    sub-if4
+    returns-4
+    put-line-requires
     same-length
-    returns)
+    returns-5)

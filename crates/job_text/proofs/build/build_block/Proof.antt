@@ -13,7 +13,8 @@ use Rattle.job_text.proofs.build.build_block.Statement.{statement}
 use Rattle.job_text.proofs.build.build_block.Tie as tie
 
 abbrev Inv-loop : tie.InvT-loop
-Inv-loop numbers block₀ sum₀ at₀ i₀ block sum at i = (i ≤ 127) × (at ≡ 4 * i) × (length block ≡ 512) × Put block₀ 0 (firstWords numbers i) block at × (sum ≡ sumOfFirst numbers i % 2 ^ 32)
+Inv-loop numbers block₀ sum₀ at₀ i₀ block sum at i = (i ≤ 127) × (at ≡ 4 * i) × (length block ≡ 512) × Put block₀ 0 (firstWords numbers i) block at
+    × (sum ≡ sumOfFirst numbers i % 2 ^ 32)
 
 abbrev μ-loop : tie.MeasureT-loop
 μ-loop numbers block₀ sum₀ at₀ i₀ block sum at i = 127 - i

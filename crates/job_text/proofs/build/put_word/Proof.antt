@@ -4,8 +4,8 @@ use borrow.Author.Needs.{needs}
 use Rattle.job_text.proofs.build.put_word.Statement.{statement}
 use Rattle.job_text.proofs.build.put_word.Tie as tie
 
-bytes-of-requires : tie.Need-bytes-of-requires
-bytes-of-requires c κs = search needs
+word-bytes-requires : tie.Need-word-bytes-requires
+word-bytes-requires c κs = search needs
 
 slice-aggregate-put-text : tie.Need-slice-aggregate-put-text
 slice-aggregate-put-text c = search needs
@@ -18,10 +18,10 @@ same-length c = search needs
 
 returns : tie.Need-returns
 returns c =
-    roomy 4 (rw (c .before .before .before .before .before .bytes-of .ensures) at (c .before .before .put-text .ensures))
+    roomy 4 (rw (c .before .before .before .before .before .word-bytes .ensures) at (c .before .before .put-text .ensures))
     (c .before .before .before .before .before .before .before .pre)
 
 pub put-word-spec : {M : Type 1} → statement M
 put-word-spec =
     tie.close
-    (tie.spec bytes-of-requires slice-aggregate-put-text put-text-requires same-length returns)
+    (tie.spec word-bytes-requires slice-aggregate-put-text put-text-requires same-length returns)

@@ -1,6 +1,6 @@
 -- `job_text::job::has_line` meets its contract, case by case. Assumes nothing.
 use mathlib.Core.Path.{_≡_, sym, ap, _∙_}
-use Rattle.job_text.specs.Job.{passes}
+use Rattle.model.specs.Blocks.{isGood}
 use Rattle.job_text.proofs.Passed.{what-passed}
 use borrow.Author.Needs.{needs}
 use Rattle.job_text.proofs.job.has_line.Statement.{statement}
@@ -14,7 +14,7 @@ enum-told c = search needs
 
 prints-as-requires : tie.Need-prints-as-requires
 prints-as-requires c κs =
-    let p = what-passed _ (ap passes (sym (c .before .before .check-plain .ensures) ∙ c .enum-told .given .1)) in
+    let p = what-passed _ (ap isGood (sym (c .before .before .check-plain .ensures) ∙ c .enum-told .given .1)) in
     (p .count-a, p .count-b)
 
 enum-told-2 : tie.Need-enum-told-2

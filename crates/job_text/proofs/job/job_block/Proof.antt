@@ -14,20 +14,23 @@ read-numbers-requires c κs = search needs
 slice-aggregate-build-block : tie.Need-slice-aggregate-build-block
 slice-aggregate-build-block c = search needs
 
+slice-aggregate-build-block-2 : tie.Need-slice-aggregate-build-block-2
+slice-aggregate-build-block-2 c = search needs
+
 build-block-requires : tie.Need-build-block-requires
 build-block-requires c κs = search needs
+
+slice-aggregate-has-line : tie.Need-slice-aggregate-has-line
+slice-aggregate-has-line c = search needs
 
 has-line-requires : tie.Need-has-line-requires
 has-line-requires c κs = search needs
 
-same-length : tie.Need-same-length
-same-length c = search needs
-
 returns : tie.Need-returns
 unfolding isJob blockFor
 returns c =
-    let built = c .before .before .before .before .build-block .ensures
-    ∙ ap blockFrom (c .before .before .before .before .before .before .before .before .read-numbers .ensures) in
+    let made = c .before .before .before in
+    let built = made .build-block .ensures ∙ ap blockFrom (made .before .before .before .before .read-numbers .ensures) in
     (rw built at (c .has-line .ensures), built)
 
 pub job-block-spec : {M : Type 1} → statement M
@@ -37,7 +40,8 @@ job-block-spec =
     slice-aggregate-read-numbers
     read-numbers-requires
     slice-aggregate-build-block
+    slice-aggregate-build-block-2
     build-block-requires
+    slice-aggregate-has-line
     has-line-requires
-    same-length
     returns)

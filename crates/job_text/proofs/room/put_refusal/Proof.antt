@@ -1,31 +1,39 @@
--- `job_text::room::put_refusal` meets its contract: two numbers, one after the other. Assumes nothing.
+-- `job_text::room::put_refusal` meets its contract: nothing where there is no room, else the refusal. Assumes nothing.
+use Prim.Native.Nat.{_+_, _≤_, _<_}
 use native.Mathlib.Omega.{arith}
-use Rattle.text.proofs.Pasted.{put-then}
-use Rattle.text.proofs.Lengths.{length-number, ends, roomy}
-use Rattle.job_text.specs.Room.{refusal}
+use borrow.Author.Tests.{lt-ltb, le-ltb}
+use lib.ListN.{length}
+use Rattle.text.proofs.Pasted.{put-nothing}
 use borrow.Author.Needs.{needs}
 use Rattle.job_text.proofs.room.put_refusal.Statement.{statement}
 use Rattle.job_text.proofs.room.put_refusal.Tie as tie
 
-put-number-requires : tie.Need-put-number-requires
-put-number-requires c κs = search needs
+returns : tie.Need-returns
+returns c =
+    let a = c .before .before .args in
+    let no-room : length (a .err .now) < a .at + 42 = omega (arith, c .if1 .taken) in
+    rw (lt-ltb (length (a .err .now)) (a .at + 42) no-room) (put-nothing _ _)
 
-put-number-requires-2 : tie.Need-put-number-requires-2
-put-number-requires-2 c κs = search needs
+sub-if2 : tie.Need-sub-if2
+sub-if2 c = search needs
+
+returns-2 : tie.Need-returns-2
+returns-2 c =
+    let a = c .before .before .before .args in
+    let no-room : length (a .err .now) < a .at + 42 = omega (arith, c .if2 .taken, c .before .if1 .left) in
+    rw (lt-ltb (length (a .err .now)) (a .at + 42) no-room) (put-nothing _ _)
+
+put-both-requires : tie.Need-put-both-requires
+put-both-requires c κs = omega (arith, c .before .if2 .left, c .before .before .if1 .left)
 
 same-length : tie.Need-same-length
 same-length c = search needs
 
-returns : tie.Need-returns
-unfolding refusal
-returns c =
-    let q = c .before .before .put-number2 in
-    let p = c .before .before .before .before .before .before .put-number in
-    let room = c .before .before .before .before .before .before .before .before .before .pre in
-    let one = roomy 21 (p .ensures) (omega (arith, room)) in
-    let two = roomy 21 (q .ensures) (omega (arith, room, ends one (length-number _ _), p .kept .0)) in
-    put-then (omega (arith, room)) one two
+returns-3 : tie.Need-returns-3
+returns-3 c =
+    let a = c .before .before .before .before .before .before .before .args in
+    let room : a .at + 42 ≤ length (a .err .now) = omega (arith, c .before .before .before .before .if2 .left, c .before .before .before .before .before .if1 .left) in
+    rw (le-ltb (length (a .err .now)) (a .at + 42) room) (c .before .before .put-both .ensures)
 
 pub put-refusal-spec : {M : Type 1} → statement M
-put-refusal-spec =
-    tie.close (tie.spec put-number-requires put-number-requires-2 same-length returns)
+put-refusal-spec = tie.close (tie.spec returns sub-if2 returns-2 put-both-requires same-length returns-3)

@@ -1,4 +1,4 @@
--- `job_text::room::tell_refusal` meets its contract: nothing where there is no room or no count left, else the refusal. Assumes nothing.
+-- `job_text::room::tell_refusal` meets its contract: nothing where there is no count left, else the refusal where there is room. Assumes nothing.
 use borrow.Author.Tests.{lt-ltb, le-ltb}
 use Rattle.text.proofs.Pasted.{put-nothing}
 use borrow.Author.Needs.{needs}
@@ -7,9 +7,6 @@ use Rattle.job_text.proofs.room.tell_refusal.Tie as tie
 
 returns : tie.Need-returns
 returns c = simp (le-ltb _ _ (c .if1 .taken)) (put-nothing _ _)
-
-returns-2 : tie.Need-returns-2
-returns-2 c = simp (lt-ltb _ _ (c .before .if1 .left), lt-ltb _ _ (c .if2 .taken)) (put-nothing _ _)
 
 add-put-refusal : tie.Need-add-put-refusal
 add-put-refusal c = search needs
@@ -20,14 +17,8 @@ put-refusal-requires c κs = search needs
 same-length : tie.Need-same-length
 same-length c = search needs
 
-returns-3 : tie.Need-returns-3
-returns-3 c =
-    simp (
-      lt-ltb _ _ (c .before .before .before .before .before .if1 .left),
-      le-ltb _ _ (c .before .before .before .before .if2 .left),
-    ) (c .before .before .put-refusal .ensures)
+returns-2 : tie.Need-returns-2
+returns-2 c = rw (lt-ltb _ _ (c .before .before .before .before .if1 .left)) (c .before .before .put-refusal .ensures)
 
 pub tell-refusal-spec : {M : Type 1} → statement M
-tell-refusal-spec =
-    tie.close
-    (tie.spec returns returns-2 add-put-refusal put-refusal-requires same-length returns-3)
+tell-refusal-spec = tie.close (tie.spec returns add-put-refusal put-refusal-requires same-length returns-2)

@@ -7,7 +7,8 @@ use Rattle.replay.proofs.routes.read_input.Statement.{statement}
 use Rattle.replay.proofs.routes.read_input.Tie as tie
 
 abbrev Inv-loop : tie.InvT-loop
-Inv-loop input floats₀ lengths₀ reader₀ from₀ floats lengths reader from = (from ≤ length input) × (length floats ≡ length floats₀) × (length lengths ≡ length lengths₀)
+Inv-loop input floats₀ lengths₀ reader₀ from₀ floats lengths reader from = (from ≤ length input) × (length floats ≡ length floats₀)
+    × (length lengths ≡ length lengths₀)
 
 abbrev μ-loop : tie.MeasureT-loop
 μ-loop input floats₀ lengths₀ reader₀ from₀ floats lengths reader from = length input - from

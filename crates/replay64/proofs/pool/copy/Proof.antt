@@ -1,3 +1,4 @@
+-- Written by tests/written/wide.py from replay, in f64.
 -- `replay::pool::copy` is safe and ends: each number has its place in the list, and the numbers that are left fall. Assumes nothing.
 use Prim.Native.Nat.{_≤_, _-_}
 use borrow.Author.Needs.{needs}

@@ -1,3 +1,4 @@
+-- Written by tests/written/wide.py from replay, in f64.
 -- `replay::tally::print` is safe and ends: the kinds that are left fall. Assumes nothing.
 use Prim.Native.Nat.{_≤_, _-_}
 use borrow.Author.Needs.{needs}

@@ -1,3 +1,4 @@
+-- Written by tests/written/wide.py from separation, in f64.
 -- `separation::deepest_a` meets its contract, by cases on the kind and what its callees ensure. Assumes nothing.
 use borrow.Author.Needs.{needs}
 use Rattle.separation64.proofs.separation.deepest_a.Statement.{statement}

@@ -1,3 +1,4 @@
+-- Written by tests/written/wide.py from separation, in f64.
 -- `separation::find_min_separation` meets its contract, by what its callees ensure. Assumes nothing.
 use lib.Ieee.{binary64}
 use Rattle.separation64.proofs.Laws.{found-by}

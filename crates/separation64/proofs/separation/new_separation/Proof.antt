@@ -1,3 +1,4 @@
+-- Written by tests/written/wide.py from separation, in f64.
 -- `separation::new_separation` meets its contract, by its tests and what its callees ensure. Assumes nothing.
 use borrow.Author.Tests.{eq-eqb, ne-eqb}
 use borrow.Author.Needs.{needs}

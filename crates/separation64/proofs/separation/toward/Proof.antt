@@ -1,3 +1,4 @@
+-- Written by tests/written/wide.py from separation, in f64.
 -- `separation::toward` meets its contract, by its test and what its callees ensure. Assumes nothing.
 use borrow.Author.Needs.{needs}
 use Rattle.separation64.proofs.separation.toward.Statement.{statement}

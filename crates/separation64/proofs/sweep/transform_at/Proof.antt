@@ -1,3 +1,4 @@
+-- Written by tests/written/wide.py from separation, in f64.
 -- `sweep::transform_at` meets its contract, by what its callees ensure. Assumes nothing.
 use Rattle.model64.specs.Sweep.{transformAt}
 use borrow.Author.Needs.{needs}

@@ -8,7 +8,8 @@ use Rattle.simplex.proofs.solvers.solve_simplex3.Tie as tie
 
 -- the nine numbers
 told : (c : tie.After-perp-dot4)
-    → let s = c .before .before .before .before .before .before .before .before .before .before .before .before .before .before .before .before .before .before .before .args .simplex in
+    → let s = c .before .before .before .before .before .before .before .before .before .before .before .before .before .before .before .before .before
+    .before .before .args .simplex in
     Told binary32 (slot s 0 .w) (slot s 1 .w) (slot s 2 .w)
     (c .before .before .before .before .before .before .before .before .before .before .before .dot .result)
     (neg (c .before .before .before .before .before .before .before .before .before .before .dot2 .result))
@@ -156,7 +157,9 @@ unfolding solveSimplex3
 returns-3 c =
     let n = c .before .before .before .before .before .before .before in
     let t = told n in
-    keep-13 binary32 _ _ (on-13 binary32 t (c .before .before .before .before .before .before .if1 .left) (c .before .before .before .before .before .if2 .left) (c .before .before .before .before .if3 .taken)) _ _ (t .near13) (t .far13) _ (c .off-edge2 .ensures)
+    keep-13 binary32 _ _ (on-13 binary32 t (c .before .before .before .before .before .before .if1 .left)
+    (c .before .before .before .before .before .if2 .left) (c .before .before .before .before .if3 .taken)) _ _ (t .near13) (t .far13) _
+    (c .off-edge2 .ensures)
 
 way-write-given-simplex-6 : tie.Need-way-write-given-simplex-6
 way-write-given-simplex-6 c = search needs
@@ -175,7 +178,8 @@ unfolding solveSimplex3
 returns-4 c =
     let n = c .before .before .before .before .before .before .before in
     let t = told n in
-    keep-2 binary32 _ _ (at-2 binary32 t (c .before .before .before .before .before .before .if1 .left) (c .before .before .before .before .before .if2 .left) (c .before .before .before .before .if3 .left) (c .before .before .before .if4 .taken)) _ (c .neg2 .ensures)
+    keep-2 binary32 _ _ (at-2 binary32 t (c .before .before .before .before .before .before .if1 .left) (c .before .before .before .before .before .if2 .left)
+    (c .before .before .before .before .if3 .left) (c .before .before .before .if4 .taken)) _ (c .neg2 .ensures)
 
 way-write-given-simplex-7 : tie.Need-way-write-given-simplex-7
 way-write-given-simplex-7 c = search needs
@@ -194,7 +198,9 @@ unfolding solveSimplex3
 returns-5 c =
     let n = c .before .before .before .before .before .before .before .before in
     let t = told n in
-    keep-3 binary32 _ _ (at-3 binary32 t (c .before .before .before .before .before .before .before .if1 .left) (c .before .before .before .before .before .before .if2 .left) (c .before .before .before .before .before .if3 .left) (c .before .before .before .before .if4 .left) (c .before .before .before .if5 .taken)) _ (c .neg3 .ensures)
+    keep-3 binary32 _ _ (at-3 binary32 t (c .before .before .before .before .before .before .before .if1 .left)
+    (c .before .before .before .before .before .before .if2 .left) (c .before .before .before .before .before .if3 .left)
+    (c .before .before .before .before .if4 .left) (c .before .before .before .if5 .taken)) _ (c .neg3 .ensures)
 
 way-write-given-simplex-8 : tie.Need-way-write-given-simplex-8
 way-write-given-simplex-8 c = search needs
@@ -216,7 +222,10 @@ unfolding solveSimplex3
 returns-6 c =
     let n = c .before .before .before .before .before .before .before .before .before .before in
     let t = told n in
-    keep-23 binary32 _ _ (on-23 binary32 t (c .before .before .before .before .before .before .before .before .before .if1 .left) (c .before .before .before .before .before .before .before .before .if2 .left) (c .before .before .before .before .before .before .before .if3 .left) (c .before .before .before .before .before .before .if4 .left) (c .before .before .before .before .before .if5 .left) (c .before .before .before .before .if6 .taken)) _ _ (t .near23) (t .far23) _ (c .off-edge3 .ensures)
+    keep-23 binary32 _ _ (on-23 binary32 t (c .before .before .before .before .before .before .before .before .before .if1 .left)
+    (c .before .before .before .before .before .before .before .before .if2 .left) (c .before .before .before .before .before .before .before .if3 .left)
+    (c .before .before .before .before .before .before .if4 .left) (c .before .before .before .before .before .if5 .left)
+    (c .before .before .before .before .if6 .taken)) _ _ (t .near23) (t .far23) _ (c .off-edge3 .ensures)
 
 way-write-given-simplex-10 : tie.Need-way-write-given-simplex-10
 way-write-given-simplex-10 c = search needs
@@ -233,7 +242,10 @@ returns-7 c =
     let n = c .before .before .before .before .before .before .before .before .before in
     let t = told n in
     keep-all binary32 _ _
-    (within binary32 t (c .before .before .before .before .before .before .before .before .if1 .left) (c .before .before .before .before .before .before .before .if2 .left) (c .before .before .before .before .before .before .if3 .left) (c .before .before .before .before .before .if4 .left) (c .before .before .before .before .if5 .left) (c .before .before .before .if6 .left)) _ _ _ (t .opposite1) (t .opposite2) (t .opposite3)
+    (within binary32 t (c .before .before .before .before .before .before .before .before .if1 .left)
+    (c .before .before .before .before .before .before .before .if2 .left) (c .before .before .before .before .before .before .if3 .left)
+    (c .before .before .before .before .before .if4 .left) (c .before .before .before .before .if5 .left) (c .before .before .before .if6 .left)) _ _ _
+    (t .opposite1) (t .opposite2) (t .opposite3)
 
 pub solve-simplex3-spec : {M : Type 1} → statement M
 solve-simplex3-spec =

@@ -1,3 +1,4 @@
+-- Written by tests/written/wide.py from simplex, in f64.
 -- `solvers::off_edge` meets its contract, by what its callees ensure. Assumes nothing.
 use borrow.Author.Needs.{needs}
 use Rattle.simplex64.proofs.solvers.off_edge.Statement.{statement}

@@ -1,3 +1,4 @@
+-- Written by tests/written/wide.py from sweep_toi, in f64.
 -- `sweep_toi::at_time` meets its contract, by the poses. Assumes nothing.
 use borrow.Author.Needs.{needs}
 use Rattle.sweep_toi64.proofs.moment.at_time.Statement.{statement}

@@ -1,3 +1,4 @@
+-- Written by tests/written/wide.py from sweep_toi, in f64.
 -- `sweep_toi::same_three` meets its contract: three equal parts are all that there is. Assumes nothing.
 use Rattle.sweep_toi64.proofs.Steps.{three-same}
 use borrow.Author.Needs.{needs}

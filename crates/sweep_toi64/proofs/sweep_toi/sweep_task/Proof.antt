@@ -1,3 +1,4 @@
+-- Written by tests/written/wide.py from sweep_toi, in f64.
 -- `sweep_toi::sweep_task` meets its contract, by what its callees ensure. Assumes nothing.
 use Rattle.model64.specs.SweepToi.{sweepTask}
 use borrow.Author.Needs.{needs}

@@ -1,3 +1,4 @@
+-- Written by tests/written/wide.py from sweep_toi, in f64.
 -- `sweep_toi::sweep_time_of_impact` meets its contract: each ending is its law. Assumes nothing.
 use mathlib.Core.Path.{_∙_}
 use lib.Ieee.{binary64}

@@ -1,3 +1,4 @@
+-- Written by tests/written/wide.py from sweep_toi, in f64.
 -- `trail::pushed_on` meets its contract: eight times fifty more fit. Assumes nothing.
 use native.Mathlib.Nat.{mul-le-mul}
 use native.Mathlib.Omega.{arith}

@@ -19,7 +19,8 @@ same-length : tie.Need-same-length
 same-length c = search needs
 
 returns-2 : tie.Need-returns-2
-returns-2 c = simp (← c .before .before .before .before .before .lacks .ensures, c .before .before .before .before .if1 .left) (c .before .before .copy .ensures)
+returns-2 c = simp (← c .before .before .before .before .before .lacks .ensures, c .before .before .before .before .if1 .left)
+    (c .before .before .copy .ensures)
 
 pub put-text-spec : {M : Type 1} → statement M
 put-text-spec = tie.close (tie.spec lacks-requires returns copy-requires same-length returns-2)

@@ -4,6 +4,7 @@ use native.Mathlib.Omega.{arith}
 use native.Mathlib.Nat.{mul-le-mul}
 use borrow.Author.Tests.{lt-ltb, le-ltb}
 use borrow.Author.Needs.{needs}
+use Rattle.text.proofs.ReadBack.{hex-most}
 use Rattle.text.proofs.read.next_value.Statement.{statement}
 use Rattle.text.proofs.read.next_value.Tie as tie
 
@@ -19,19 +20,20 @@ base-at-requires c κs = search needs
 mul-result : tie.Need-mul-result
 mul-result c = omega (arith, most (c .before .before .args .value) (c .base-at .result) (search needs) (c .base-at .ensures .1))
 
-digit-of-requires : tie.Need-digit-of-requires
-digit-of-requires c κs = search needs
+hex-digit-requires : tie.Need-hex-digit-requires
+hex-digit-requires c κs = search needs
 
 add-result : tie.Need-add-result
 add-result c =
     let b = c .before .base-at in
-    omega (arith, most (c .before .before .before .args .value) (b .result) (search needs) (b .ensures .1), c .digit-of .ensures .1)
+    let a = c .before .before .before .args in
+    omega (arith, most (a .value) (b .result) (search needs) (b .ensures .1), hex-most (a .x), c .hex-digit .ensures)
 
 cast-result : tie.Need-cast-result
 cast-result c = search needs
 
 returns-2 : tie.Need-returns-2
-returns-2 c = rw (le-ltb _ _ (c .before .before .if1 .left), ← c .digit-of .ensures .0, ← c .before .base-at .ensures .0)
+returns-2 c = rw (← c .hex-digit .ensures, ← c .before .base-at .ensures .0, le-ltb _ _ (c .before .before .if1 .left))
 
 pub next-value-spec : {M : Type 1} → statement M
 next-value-spec =
@@ -40,7 +42,7 @@ next-value-spec =
     returns
     base-at-requires
     mul-result
-    digit-of-requires
+    hex-digit-requires
     add-result
     cast-result
     returns-2)

@@ -13,7 +13,8 @@ use Rattle.text.proofs.read.read_numbers.Statement.{statement}
 use Rattle.text.proofs.read.read_numbers.Tie as tie
 
 abbrev Inv-loop : tie.InvT-loop
-Inv-loop line decimals words₀ k₀ value₀ i₀ words k value i = (i ≤ length line) × (k ≤ i) × (length words ≡ length words₀) × (stored decimals k value words (drop i line) ≡ stored decimals 0 0 words₀ line)
+Inv-loop line decimals words₀ k₀ value₀ i₀ words k value i =
+    (i ≤ length line) × (k ≤ i) × (length words ≡ length words₀) × (stored decimals k value words (drop i line) ≡ stored decimals 0 0 words₀ line)
 
 abbrev μ-loop : tie.MeasureT-loop
 μ-loop line decimals words₀ k₀ value₀ i₀ words k value i = length line - i

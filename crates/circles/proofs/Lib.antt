@@ -1,0 +1,3 @@
+pub mod Along
+pub mod NoCircles
+pub mod Shorter

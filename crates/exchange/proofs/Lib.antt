@@ -1,0 +1,4 @@
+pub mod Exchange
+pub mod Places
+pub mod Shift
+pub mod Told

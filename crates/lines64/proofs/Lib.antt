@@ -1,3 +1,0 @@
-pub mod Pieces
-mod Parts
-pub mod Run

@@ -1,0 +1,5 @@
+mod Holding
+mod Runs
+pub mod Alone
+pub mod PackRun
+mod Slips

@@ -1,0 +1,9 @@
+pub mod Between
+pub mod Edge
+pub mod Ends
+pub mod InTime
+pub mod Potential
+pub mod Regions
+pub mod States
+pub mod Triangles
+pub mod Turning

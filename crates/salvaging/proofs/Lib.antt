@@ -1,5 +1,0 @@
-pub mod Passing
-pub mod Steps
-mod Laws
-pub mod Run
-pub mod Told

@@ -1,0 +1,9 @@
+// The lines of the sheet, written into lent bytes.
+mod answer;
+mod part;
+mod put;
+mod write;
+
+pub use part::Written;
+pub use part::write_line;
+pub use part::write_part;

@@ -1,0 +1,3 @@
+pub mod Ground
+pub mod Domain
+pub mod Geometry

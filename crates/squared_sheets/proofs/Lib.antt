@@ -1,0 +1,5 @@
+pub mod CircleInstances
+pub mod ExchangeInstances
+pub mod Instances
+pub mod Reached
+pub mod Sheets

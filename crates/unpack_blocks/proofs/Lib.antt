@@ -1,0 +1,3 @@
+mod Blocks
+pub mod UnpackRun
+mod Slips
