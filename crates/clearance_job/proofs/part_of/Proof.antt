@@ -1,0 +1,103 @@
+-- Each test leaves what is asked. Assumes nothing.
+use Prim.Native.Nat.{_≤_}
+use lib.Ieee.{binary32, toBits}
+use Rattle.clearance_job.proofs.Laws.{not-less, down-by}
+use borrow.Author.Needs.{needs}
+use Rattle.clearance_job.proofs.part_of.Statement.{statement}
+use Rattle.clearance_job.proofs.part_of.Tie as tie
+
+to-bits-requires : tie.Need-to-bits-requires
+to-bits-requires c κs = search needs
+
+nothing-requires : tie.Need-nothing-requires
+nothing-requires c κs = search needs
+
+returns : tie.Need-returns
+returns c = λ h. absurd (not-less (c .nothing .ensures h))
+
+to-bits-requires-2 : tie.Need-to-bits-requires-2
+to-bits-requires-2 c κs = search needs
+
+nothing-requires-2 : tie.Need-nothing-requires-2
+nothing-requires-2 c κs = search needs
+
+returns-2 : tie.Need-returns-2
+returns-2 c = λ h. absurd (not-less (c .nothing2 .ensures h))
+
+fraction-down-requires : tie.Need-fraction-down-requires
+fraction-down-requires c κs = search needs
+
+fraction-down-requires-2 : tie.Need-fraction-down-requires-2
+fraction-down-requires-2 c κs = search needs
+
+end-after-requires : tie.Need-end-after-requires
+end-after-requires c κs = search needs
+
+nothing-requires-3 : tie.Need-nothing-requires-3
+nothing-requires-3 c κs = search needs
+
+returns-3 : tie.Need-returns-3
+returns-3 c = λ h. absurd (not-less (c .nothing3 .ensures h))
+
+nothing-requires-4 : tie.Need-nothing-requires-4
+nothing-requires-4 c κs = search needs
+
+returns-4 : tie.Need-returns-4
+returns-4 c = λ h. absurd (not-less (c .nothing4 .ensures h))
+
+nothing-requires-5 : tie.Need-nothing-requires-5
+nothing-requires-5 c κs = search needs
+
+returns-5 : tie.Need-returns-5
+returns-5 c = λ h. absurd (not-less (c .nothing5 .ensures h))
+
+add-if6 : tie.Need-add-if6
+add-if6 c = search needs
+
+nothing-requires-6 : tie.Need-nothing-requires-6
+nothing-requires-6 c κs = search needs
+
+returns-6 : tie.Need-returns-6
+returns-6 c = λ h. absurd (not-less (c .nothing6 .ensures h))
+
+returns-7 : tie.Need-returns-7
+returns-7 c = λ h.
+    let first : toBits binary32 (c .before .before .before .before .before .before .before .before .before .before .before .args .from) ≤ 1065353216 = rw
+    (c .before .before .before .before .before .before .before .before .before .before .to-bits .ensures) at
+    (c .before .before .before .before .before .before .before .before .before .if1 .left) in
+    let last : toBits binary32 (c .before .before .before .before .before .before .before .before .before .before .before .args .end) ≤ 1065353216 = rw
+    (c .before .before .before .before .before .before .before .before .to-bits2 .ensures) at
+    (c .before .before .before .before .before .before .before .if2 .left) in
+    record {
+      span = record { some = c .before .before .if4 .left; whole = c .before .before .before .if3 .left; over = c .before .if5 .left; under = c .if6 .left };
+      starts = down-by (c .before .before .before .before .before .before .before .before .before .before .before .args .from)
+          (c .before .before .before .before .before .before .fraction-down .result)
+          (c .before .before .before .before .before .before .fraction-down .ensures) first;
+      within = down-by (c .before .before .before .before .before .before .before .before .before .before .before .args .end)
+          (c .before .before .before .before .before .fraction-down2 .result) (c .before .before .before .before .before .fraction-down2 .ensures) last;
+      ends = c .before .before .before .before .end-after .ensures last;
+    }
+
+pub part-of-spec : {M : Type 1} → statement M
+part-of-spec =
+    tie.close
+    (tie.spec
+    to-bits-requires
+    nothing-requires
+    returns
+    to-bits-requires-2
+    nothing-requires-2
+    returns-2
+    fraction-down-requires
+    fraction-down-requires-2
+    end-after-requires
+    nothing-requires-3
+    returns-3
+    nothing-requires-4
+    returns-4
+    nothing-requires-5
+    returns-5
+    add-if6
+    nothing-requires-6
+    returns-6
+    returns-7)

@@ -1,0 +1,35 @@
+-- What the verdict on a job says, over the job's own numbers.
+use mathlib.Core.Path.{_≡_}
+use mathlib.Core.List.{List}
+use Prim.Native.Nat.{ℕ, _+_, _≤_, _<_}
+use lib.Ieee.{Float, binary32, toBits}
+use Rattle.integers.specs.Signed.{ofNat, _⊠_, _≼_}
+use Rattle.grid.specs.Grid.{unit}
+use Rattle.planned.specs.Planned.{worthOf, Clear, Touch, Open}
+use Rattle.model.specs.Support.{point}
+use Rattle.board.specs.declared.GridJob.{GridJob}
+use Rattle.clearance_verdict.specs.Verdict.{Span, Settled}
+use Rattle.clearance_verdict.specs.declared.Answer.{Answer}
+use Rattle.clearance_verdict.specs.declared.Answer.the-variants as answer
+use Rattle.clearance_job.specs.declared.Part.{Part}
+
+-- r 2^24-ths are not less than a fraction up to 1
+abbrev pub NotBefore : Float → ℕ → Type 0
+NotBefore x r = toBits binary32 x ≤ 1065353216 → worthOf x ⊠ ofNat 16777216 ≼ ofNat r ⊠ ofNat unit
+
+pub record Asked (from end : Float) (r : Part) : Type 0 where
+  pub span : Span (r .from) (r .low) (r .high)
+  pub starts : ofNat (r .from) ⊠ ofNat unit ≼ worthOf from ⊠ ofNat 16777216
+  pub within : ofNat (r .low) ⊠ ofNat unit ≼ worthOf end ⊠ ofNat 16777216
+  pub ends : worthOf end ⊠ ofNat 16777216 ≼ ofNat (r .high) ⊠ ofNat unit
+
+-- what the loop says of the job on the board, over the part that was asked for
+pub record Spoken (numbers : List Float) (from : Float) (job : GridJob) (axs ays bxs bys : List ℕ) (a : Answer) : Type 0 where
+  pub part : Part
+  pub asked : Asked from (point numbers 1 .x) part
+  pub settled : Settled job (part .from) (part .low) (part .high) axs ays bxs bys a
+
+abbrev pub Promised : (pointsA pointsB numbers : List Float) (from : Float) → Answer → Type 0
+Promised pointsA pointsB numbers from (answer.Clear n) = Clear pointsA pointsB numbers from
+Promised pointsA pointsB numbers from (answer.Touch u t n) = Touch pointsA pointsB numbers from u t
+Promised pointsA pointsB numbers from (answer.Open u n) = Open pointsA pointsB numbers from u

@@ -1,0 +1,140 @@
+// The verdict on a job that a caller hands in as lists of numbers: its numbers on the grid, the span to look at, and the loop over pieces.
+use board::GridJob;
+use clearance_verdict::Answer;
+use clearance_verdict::settle_job;
+use grid_job::fraction_down;
+use grid_job::fraction_up;
+use grid_job::grid_job;
+use outline::point;
+ghost use mathlib.Core.Bool.{true};
+ghost use mathlib.Core.Path.{_≡_};
+ghost use Prim.Native.Nat.{_+_, _≤_, _<_};
+ghost use Rattle.board.specs.Board.{Fits};
+ghost use Rattle.clearance_job.specs.Promise.{NotBefore, Asked, Spoken, Promised};
+
+// Whether there is anything to look at, from where and to where, in 2^24-ths: the end rounded down and up.
+pub struct Part {
+    pub some: bool,
+    pub from: u64,
+    pub low: u64,
+    pub high: u64,
+}
+
+// Whether the job could be settled at all, and its answer.
+pub struct Verdict {
+    pub settled: bool,
+    pub answer: Answer,
+}
+
+fn nothing() -> Part
+    ensures { λ r. ⌜ (r .some ≡ true → 1 ≤ 0) ⌝ }
+{
+    Part {
+        some: false,
+        from: 0,
+        low: 0,
+        high: 0,
+    }
+}
+
+// A place after the first one, and not before the end.
+fn end_after(first: u64, end: f32) -> u64
+    ensures { λ r. ⌜ NotBefore end r ⌝ }
+{
+    let up = fraction_up(end);
+    if first < up {
+        return up;
+    }
+    up + 1
+}
+
+// The fractions from 0 to 1 have patterns up to that of 1.
+fn part_of(from: f32, end: f32) -> Part
+    ensures { λ r. ⌜ (r .some ≡ true → Asked from end r) ⌝ }
+{
+    if ground::to_bits(from) > 1065353216 {
+        return nothing();
+    }
+    if ground::to_bits(end) > 1065353216 {
+        return nothing();
+    }
+    let first = fraction_down(from);
+    let low = fraction_down(end);
+    let high = end_after(first, end);
+    if high > 16777216 {
+        return nothing();
+    }
+    if first >= high {
+        return nothing();
+    }
+    if low > high {
+        return nothing();
+    }
+    if high > low + 1 {
+        return nothing();
+    }
+    Part {
+        some: true,
+        from: first,
+        low,
+        high,
+    }
+}
+
+fn unsettled() -> Verdict
+    ensures { λ r. ⌜ (r .settled ≡ true → 1 ≤ 0) ⌝ }
+{
+    Verdict {
+        settled: false,
+        answer: Answer::Open {
+            clear_up_to: 0,
+            pieces: 0,
+        },
+    }
+}
+
+// On a board that the job stands on.
+fn settle_board(
+    job: GridJob,
+    numbers: &[f32],
+    from: f32,
+    axs: &[u64],
+    ays: &[u64],
+    bxs: &[u64],
+    bys: &[u64],
+) -> Verdict
+    requires { ⌜ Fits job (now axs) (now ays) (now bxs) (now bys) ⌝ }
+    ensures { λ r. ⌜ (r .settled ≡ true → Spoken (now (numbers .entry)) from job (now (axs .entry)) (now (ays .entry)) (now (bxs .entry)) (now (bys .entry)) (r .answer)) ⌝ }
+{
+    let limits = point(numbers, 1);
+    let part = part_of(from, limits.x);
+    if !part.some {
+        return unsettled();
+    }
+    let answer = settle_job(job, part.from, part.low, part.high, axs, ays, bxs, bys);
+    Verdict {
+        settled: true,
+        answer,
+    }
+}
+
+// The verdict from a fraction on. The lists are room for the corners on the grid, as long as the outlines; nothing is asked of any of it.
+pub fn settle_lists(
+    points_a: &[f32],
+    points_b: &[f32],
+    numbers: &[f32],
+    from: f32,
+    axs: &mut [u64],
+    ays: &mut [u64],
+    bxs: &mut [u64],
+    bys: &mut [u64],
+) -> Verdict
+    ensures { λ r. ⌜ (r .settled ≡ true → Promised (now («points_a» .entry)) (now («points_b» .entry)) (now (numbers .entry)) from (r .answer)) ⌝ }
+{
+    let placed = grid_job(points_a, points_b, numbers, axs, ays, bxs, bys);
+    if !placed.found {
+        return unsettled();
+    }
+    let job = placed.job;
+    settle_board(job, numbers, from, axs, ays, bxs, bys)
+}

@@ -1,0 +1,23 @@
+-- `grid_job::turned` meets its contract. Assumes nothing.
+use native.Mathlib.Omega.{arith}
+use Rattle.grid.specs.Grid.{intOf}
+use Rattle.grid_job.proofs.Laws.{turned-law}
+use borrow.Author.Needs.{needs}
+use Rattle.grid_job.proofs.turned.Statement.{statement}
+use Rattle.grid_job.proofs.turned.Tie as tie
+
+to-bits-requires : tie.Need-to-bits-requires
+to-bits-requires c κs = search needs
+
+returns : tie.Need-returns
+returns c = search needs
+
+grid-requires : tie.Need-grid-requires
+grid-requires c κs = search needs
+
+returns-2 : tie.Need-returns-2
+returns-2 c = λ h. turned-law (c .before .before .before .args .x) (c .before .before .to-bits .result) (intOf (c .grid .result))
+    (c .before .before .to-bits .ensures) (omega arith) (c .grid .ensures)
+
+pub turned-spec : {M : Type 1} → statement M
+turned-spec = tie.close (tie.spec to-bits-requires returns grid-requires returns-2)

@@ -1,0 +1,5 @@
+mod Parts
+mod Numbers
+mod Bodies
+mod Centres
+pub mod Clear
