@@ -35,7 +35,7 @@ unfolding supportAnswer badParts abs le ofBits
 support-number-lost = refl
 
 -- ---- the two-vertex solver at an end that is just as near: (0, 0) and (1, 0) keep the first alone
-abbrev vertex : ℕ → Float → Float → SimplexVertex
+abbrev pub vertex : ℕ → Float → Float → SimplexVertex
 vertex i x y = record { wa = vector n0 n0; wb = vector n0 n0; w = vector x y; a = n0; «index_a» = i; «index_b» = 0 }
 
 pub two-first-strictly : solveSimplex2 binary32 (vertex 0 n0 n0 ∷ vertex 1 n1 n0 ∷ vertex 2 n0 n0 ∷ []) .count ≡ 1
