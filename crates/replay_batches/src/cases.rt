@@ -2,6 +2,7 @@
 // output, to standard error and to a second file, and 1; then the input and the three stored texts, one behind another, and zeros.
 use replay_rows::Words;
 use replay_rows::put;
+use replay_rows::put_long;
 ghost use Prim.Native.Nat.{_≤_};
 ghost use lib.ListN.{length};
 
@@ -22,30 +23,34 @@ pub fn input_end(row: &[u8]) -> usize
     INPUT + size
 }
 
+// The place behind a text that stands in the row from a place on; one past the row where it does not.
+fn behind(row: &[u8], at: usize, text: &[u8]) -> usize {
+    if row.len() < at {
+        return at;
+    }
+    if row.len() - at < text.len() {
+        return usize::MAX;
+    }
+    let end = at + text.len();
+    if check::same(&row[at..end], text) {
+        end
+    } else {
+        usize::MAX
+    }
+}
+
+fn put_length(words: &mut Words, i: usize, text: &[u8]) {
+    put_long(words, i, text.len() as u64);
+}
+
 // The answer's words: the lengths of the three texts, and 1 where they all stand in the row behind its input.
 pub fn tell(row: &[u8], end: usize, out: &[u8], err: &[u8], file: &[u8], words: &mut Words) {
-    put(words, 0, (out.len() % 0x1_0000_0000) as u32);
-    put(words, 1, (err.len() % 0x1_0000_0000) as u32);
-    put(words, 2, (file.len() % 0x1_0000_0000) as u32);
-    if row.len() < end {
-        return;
-    }
-    if row.len() - end < out.len() {
-        return;
-    }
-    let err_at = end + out.len();
-    if row.len() - err_at < err.len() {
-        return;
-    }
-    let file_at = err_at + err.len();
-    if row.len() - file_at < file.len() {
-        return;
-    }
-    let file_end = file_at + file.len();
-    let out_same = check::same(&row[end..err_at], out);
-    let err_same = check::same(&row[err_at..file_at], err);
-    let file_same = check::same(&row[file_at..file_end], file);
-    put(words, 3, (out_same & err_same & file_same) as u32);
+    put_length(words, 0, out);
+    put_length(words, 1, err);
+    put_length(words, 2, file);
+    let err_at = behind(row, end, out);
+    let file_at = behind(row, err_at, err);
+    put(words, 3, (behind(row, file_at, file) <= row.len()) as u32);
 }
 
 // The first n bytes of a text behind what stands there already; the answer is the place after them.
