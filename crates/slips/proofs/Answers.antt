@@ -7,6 +7,7 @@ use lib.ListN.{replicate}
 use lib.Ieee.{Float, nan, binary32, binary64, ofBits, toBits, add, sub, mul, div, neg, lt, le}
 use Rattle.model.specs.declared.Vector.{Vector}
 use Rattle.model.specs.declared.Sweep.{Sweep}
+use Rattle.model.specs.declared.Status.the-variants.{Failed}
 use Rattle.model.specs.Root.{root}
 use Rattle.model.specs.Ground.{vector, rotation, pose, abs}
 use Rattle.model.specs.Support.{supportFrom}
@@ -28,6 +29,7 @@ use Rattle.route_legs.specs.declared.RouteAnswer.the-variants.{Refused}
 use Rattle.route_legs.specs.Route.{stop, startOf, legMove, sweepAt, walkFrom, wrong, route}
 use Rattle.list_calls.specs.Entry.{sweepFits, cacheOf, distanceFor, distanceFits, distanceCall, distanceNumber}
 use Rattle.foldflake.specs.Entry.{lineTo}
+use Rattle.foldflake.specs.Route.{endNumber}
 use Rattle.foldflake.specs.Moment.{poseFloats, gapCall, gapAfter}
 use Rattle.slips.proofs.Ground.{n0, n1, n2, n3, n4, n5, -n0, -n1, bits, both}
 
@@ -88,6 +90,10 @@ last-outline-of-the-leg = refl
 pub passed-33-legs : map (λ (n : ℕ). wrong binary32 there (replicate n n0) there (2 ∷ []) n1) (132 ∷ 136 ∷ []) ≡ (0 ∷ 16 ∷ [])
 unfolding startOf
 passed-33-legs = refl
+
+-- F is told to C as 35, a hit as 34
+pub route-failed-told-as-hit : endNumber Failed ≡ 35
+route-failed-told-as-hit = refl
 
 -- ---- calls over lists
 -- seven words of counts and corners, not three

@@ -12,6 +12,7 @@ use Rattle.model.specs.declared.SeparationType.{SeparationType}
 use Rattle.model.specs.declared.SeparationType.the-variants.{Points, FaceA, FaceB}
 use Rattle.model.specs.declared.SimplexCache.{SimplexCache}
 use Rattle.model.specs.declared.SweepTask.{SweepTask}
+use Rattle.model.specs.declared.Closest.{Closest}
 use Rattle.model.specs.declared.DistanceAnswer.the-variants.{Refused}
 use Rattle.model.specs.declared.CheckedPose.the-variants as CheckedPose
 use Rattle.model.specs.declared.BlockAnswer.the-variants as Answer
@@ -23,8 +24,8 @@ use Rattle.model.specs.Domain.{badParts, refusalOfPose}
 use Rattle.model.specs.Simplex.{region2, kept, solve, solveSimplex2}
 use Rattle.model.specs.Distance.{cache, allBelow, replaced, held, vertex, startSimplex, roundsFrom, witnessPoints, measure, proxyDistance}
 use Rattle.model.specs.Sweep.{transformAt}
-use Rattle.model.specs.Separation.{function, noIndex, deepestB, evaluate}
-use Rattle.model.specs.SweepToi.{tried, rootFrom}
+use Rattle.model.specs.Separation.{function, deepestB, evaluate, findMinSeparation}
+use Rattle.model.specs.SweepToi.{noCounts, PushEnd, ended, moved, tried, rootFrom, pushFrom, sweepRefusal}
 use Rattle.model.specs.Corners.{cornersA}
 use Rattle.model.specs.Blocks.{wholeBlocks, blocks}
 use Rattle.model.specs.Sheet.{answers}
@@ -57,6 +58,17 @@ there = n0 ∷ n0 ∷ []
 pub number-written-on-touching : measure binary32 upright there n0 there n0 false 7 (empty 5) .cache .pair ≡ 5
 unfolding measure startSimplex vertex roundsFrom solve witnessPoints add sub neg mul lt ofBits
 number-written-on-touching = refl
+
+-- nor is the cache emptied
+pub cache-emptied-on-touching
+    : measure binary32 upright there n0 there n0 false 7 (cache 5 1 (0 ∷ 0 ∷ 0 ∷ []) (0 ∷ 0 ∷ 0 ∷ [])) .cache .count ≡ 1
+unfolding measure startSimplex allBelow vertex roundsFrom solve witnessPoints add sub neg mul lt ofBits
+cache-emptied-on-touching = refl
+
+-- points that are 3 apart settle, and the cache that is written has the caller's number
+pub written-cache-keeps-number : measure binary32 upright there n0 (n3 ∷ n0 ∷ []) n0 false 7 (empty 5) .cache .pair ≡ 7
+unfolding measure startSimplex vertex roundsFrom supportFrom held solve witnessPoints add sub neg mul lt ofBits
+written-cache-keeps-number = refl
 
 -- outline B has no point; 2 modulo 2 would let the call go on
 pub pair-number-lost : proxyDistance binary32 upright there n0 [] n0 false 7 (empty 7) .answer ≡ Refused 2
@@ -97,11 +109,31 @@ coming = record {
   tolerance = ofBits binary32 0x3e80_0000;
 }
 
+abbrev between : SeparationFunction
+between = function still (coming .«sweep_b») (vector n0 n0) (vector n1 n0) Points
+
 pub time-taken-outside-the-tolerance
-    : bits (rootFrom binary32 coming there there (function still (coming .«sweep_b») (vector n0 n0) (vector n1 n0) Points) 0 0 n1 50 n0 n1 n4 n0 0 .t)
+    : bits (rootFrom binary32 coming there there between 0 0 n1 50 n0 n1 n4 n0 0 .t)
     ≡ 0x3f40_0000
 unfolding rootFrom tried evaluate transformAt root abs add sub neg mul div lt le ofBits toBits
 time-taken-outside-the-tolerance = refl
+
+-- and comes to three quarters of the way, in two searches and two steps; counted by the push-backs that are left, eight
+abbrev steps : PushEnd → ℕ
+steps (ended x) = 0
+steps (moved t n) = n .«root_steps»
+
+abbrev closest : Closest
+closest = record { distance = n4; point = vector n0 n0; normal = vector n1 n0; cache = empty 0 }
+
+pub root-steps-counted-by-push-backs : steps (pushFrom binary32 coming there there between n0 closest 8 n1 noCounts) ≡ 2
+unfolding pushFrom findMinSeparation supportFrom rootFrom tried evaluate transformAt root abs add sub neg mul div lt le ofBits
+root-steps-counted-by-push-backs = refl
+
+-- a slop of 0, with a max fraction that would pass for one
+pub slop-not-checked : sweepRefusal binary32 there n0 still there n0 still n1 n0 ≡ 8
+unfolding badParts abs add mul lt le ofBits
+slop-not-checked = refl
 
 -- ---- a block's work
 -- a short block is refused by 9, in a sheet and in a report

@@ -26,6 +26,11 @@ pub nan-wins : support binary32 (n0 ∷ n0 ∷ nan ∷ n1 ∷ []) (vector n1 n0)
 unfolding supportFrom add sub neg mul lt ofBits
 nan-wins = refl
 
+-- two that are as far: the first, in a flat list and in a list of points
+pub points-tie-later : support binary32 (n1 ∷ n0 ∷ n1 ∷ n1 ∷ []) (vector n1 n0) ≡ 0
+unfolding supportFrom add sub neg mul lt ofBits
+points-tie-later = refl
+
 pub point-y-of-next : both (point (n0 ∷ n1 ∷ n2 ∷ n3 ∷ []) 0) ≡ (0 ∷ 0x3f80_0000 ∷ [])
 unfolding ofBits toBits
 point-y-of-next = refl

@@ -16,7 +16,8 @@ use Rattle.model.specs.Ground.{vector}
 use Rattle.model.specs.Corners.{noSearch}
 use Rattle.model.specs.SweepToi.{counts, contact}
 use Rattle.model.specs.Parts.{partSize, isLast}
-use Rattle.model.specs.Text.{decimalBy}
+use Rattle.model.specs.Text.{decimalBy, line}
+use Rattle.model.specs.Sheet.{totals, totalLine}
 use Rattle.any_contact_search.specs.First.{firstFrom, said}
 use Rattle.any_contact_search.specs.Search.{searchedTo}
 use Rattle.report_counts.specs.declared.most.Most.the-variants.{Nowhere, At}
@@ -73,6 +74,12 @@ unfolding decimalBy
 no-maximum-told-as-block-1 = refl
 
 -- ---- lines
+-- `TOTAL 1 2 3 4 5`: refused is the last
+pub undecided-printed-after-refused : totalLine (totals 1 2 3 4 5)
+    ≡ 84 ∷ 79 ∷ 84 ∷ 65 ∷ 76 ∷ 32 ∷ 49 ∷ 32 ∷ 50 ∷ 32 ∷ 51 ∷ 32 ∷ 52 ∷ 32 ∷ 53 ∷ 10 ∷ []
+unfolding totalLine line decimalBy
+undecided-printed-after-refused = refl
+
 -- a count of 17 in a job's line is taken for 16, so that the line is not the block's
 pub line-of-17-points-passed : countAt (7 ∷ 17 ∷ 1 ∷ []) 1 ≡ 16
 line-of-17-points-passed = refl
