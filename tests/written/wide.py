@@ -39,8 +39,8 @@ PATCHES = [
     ('sheet_run64/src/lib.rt', 'b"sheet"', 'b"sheet64"'),
     ('sheet_run64/src/lib.rt', 'The run of `sheet`', 'The run of `sheet64`'),
     # a block's numbers are taken over from f32
-    ('work64/src/lib.rt', 'floats[i] = ground64::from_bits(wire::word(part, from + 4 * i));',
-     'floats[i] = f32_to_f64_with_nan(ground::from_bits(wire::word(part, from + 4 * i)));'),
+    ('work64/src/lib.rt', 'floats[i] = ground64::from_bits(wire::word(bytes, from + 4 * i));',
+     'floats[i] = f32_to_f64_with_nan(ground::from_bits(wire::word(bytes, from + 4 * i)));'),
     ('work64/src/lib.rt', 'use model64::Swept;', 'use model64::Swept;\nuse std::num::f32_to_f64_with_nan;'),
     # stored words have eight bytes
     ('replay64/src/floats.rt', ' as u64', ''),
