@@ -36,7 +36,8 @@ def main():
         rows = written([sheet if word == "SHEET" else word for word in script.split()])
         same = bool(rows) and len(rows) % 65536 == 0 and stored.find(rows) % 65536 == 0
         wrong += not same
-        print(f"table {' and '.join(tables)}: {len(rows) // 65536} parts of crates/replay_batches/stdin {'are' if same else 'WRONG: are not'} those of {script}")
+        told = f"{len(rows) // 65536} parts of crates/replay_batches/stdin {'are' if same else 'WRONG: are not'} those of {script}"
+        print(f"table {' and '.join(tables)}: {told}")
     with tempfile.TemporaryDirectory() as folder:
         written(["salvage_cases.py", "gate"], folder)
         for name in ("stdin", "stdout"):

@@ -17,18 +17,19 @@ use Rattle.report_counts.specs.declared.most.Most.the-variants.{Nowhere, At}
 use Rattle.report_lines.specs.Text.{labels, rowText, rowsText, placeText, mostText, namedText}
 
 -- ---- names
--- the names in one text, each in eleven bytes, as the code has it: every name stands at its place
-abbrev StandsIn : List ℕ → List (List ℕ) → Type 0
-StandsIn text [] = Unit {0}
-StandsIn text (l ∷ ls) = (take (length l) text ≡ l) × StandsIn (drop 11 text) ls
+-- the pieces of a text of names, each in eleven bytes, that are as long as names
+unfoldable pieces : List ℕ → List (List ℕ) → List (List ℕ)
+pieces text [] = []
+pieces text (l ∷ ls) = take (length l) text ∷ pieces (drop 11 text) ls
 
-piece-at : (text : List ℕ) (ls : List (List ℕ)) → StandsIn text ls → (i : ℕ) → i < length ls
-    → take (length (getD ls i [])) (drop (11 * i) text) ≡ getD ls i []
-piece-at text [] s i h = absurd (not-suc-le-zero h)
-piece-at text (l ∷ ls) s zero h = s .0
-piece-at text (l ∷ ls) s (suc i) h =
+piece-at : (text : List ℕ) (ls : List (List ℕ)) (i : ℕ) → i < length ls
+    → take (length (getD ls i [])) (drop (11 * i) text) ≡ getD (pieces text ls) i []
+unfolding pieces
+piece-at text [] i h = absurd (not-suc-le-zero h)
+piece-at text (l ∷ ls) zero h = refl
+piece-at text (l ∷ ls) (suc i) h =
     ap (λ (rest : List ℕ). take (length (getD ls i [])) rest) (ap (λ (n : ℕ). drop n text) (next i) ∙ sym (drop-drop (11 * i) 11 text))
-    ∙ piece-at (drop 11 text) ls (s .1) i (le-of-suc-le-suc h)
+    ∙ piece-at (drop 11 text) ls i (le-of-suc-le-suc h)
   where
     next : (j : ℕ) → 11 * suc j ≡ 11 + 11 * j
     next j = omega arith
@@ -56,13 +57,14 @@ sizes =
     7 ∷ 6 ∷ 11 ∷ 7 ∷ 4 ∷ 8 ∷ 8 ∷ 8 ∷ 8 ∷ 8 ∷ 8 ∷ 8 ∷ 8 ∷ 6 ∷ 10 ∷ 10 ∷ 8 ∷ 8 ∷ 10 ∷ 10 ∷ 10 ∷ 10 ∷ 10 ∷ 10 ∷ 10 ∷ 11 ∷ 11 ∷ 11
     ∷ []
 
-all-stand : StandsIn text labels
-unfolding labels
-all-stand = (refl, (refl, (refl, (refl, (refl, (refl, (refl, (refl, (refl, (refl, (refl, (refl, (refl, (refl, (refl, (refl, (refl, (refl, (refl, (refl, (refl, (refl, (refl, (refl, (refl, (refl, (refl, (refl, tt))))))))))))))))))))))))))))
+-- each name stands at its place
+all-stand : pieces text labels ≡ labels
+unfolding pieces labels
+all-stand = refl
 
 label-at : (row : ℕ) → row < 28 → take (length (getD labels row [])) (drop (11 * row) text) ≡ getD labels row []
 unfolding labels
-label-at row h = piece-at text labels all-stand row h
+label-at row h = piece-at text labels row h ∙ ap (λ (ls : List (List ℕ)). getD ls row []) all-stand
 
 -- the piece of that size is the name
 pub label-put : {d d' : List ℕ} {at e : ℕ} (row size : ℕ) → row < 28 → size ≡ length (getD labels row [])

@@ -45,7 +45,8 @@ pub gap-seen-from-the-centre-of-b
     : bits (gap binary32 there (along (ofBits binary32 0x3ce0_0000) (ofBits binary32 0x3d60_0000)) there
     (along (ofBits binary32 0x497f_fff0) (ofBits binary32 0x497f_fff0)) n1)
     ≡ 0x497f_fff0
-unfolding gap shifted transformAt root supportFrom solve vertex startSimplex roundsFrom held witnessPoints measure allBelow replaced add sub neg mul div lt le ofBits toBits
+unfolding gap shifted transformAt root supportFrom solve vertex startSimplex roundsFrom held witnessPoints measure
+    allBelow replaced add sub neg mul div lt le ofBits toBits
 gap-seen-from-the-centre-of-b = refl
 
 -- B has no point
@@ -56,7 +57,8 @@ outline-b-not-checked = refl
 -- A stands at 0 and B at 3: both by A's move there is no gap
 pub gap-of-one-move : gapAfter (gapCall there (n0 ∷ n0 ∷ n0 ∷ n0 ∷ n0 ∷ n0 ∷ n1 ∷ n0 ∷ n1 ∷ n0 ∷ []) there
     (n0 ∷ n0 ∷ n3 ∷ n0 ∷ n3 ∷ n0 ∷ n1 ∷ n0 ∷ n1 ∷ n0 ∷ []) n0) (n0 ∷ []) ≡ n3 ∷ []
-unfolding moveAt gapAt gap shifted transformAt root supportFrom solve vertex startSimplex roundsFrom held witnessPoints measure allBelow replaced badParts abs add sub neg mul div lt le ofBits
+unfolding moveAt gapAt gap shifted transformAt root supportFrom solve vertex startSimplex roundsFrom held witnessPoints measure
+    allBelow replaced badParts abs add sub neg mul div lt le ofBits
 gap-of-one-move = refl
 
 pub pose-translation-exchanged : map bits (poseFloats (pose (rotation n1 n0) (vector n2 n3))) ≡ (0x3f80_0000 ∷ 0 ∷ 0x4000_0000 ∷ 0x4040_0000 ∷ [])
@@ -114,7 +116,10 @@ line-of-511-bytes = refl
 abbrev o : Float
 o = ofBits binary64 0
 
+abbrev upright : List Float
+upright = ofBits binary64 0x3ff0_0000_0000_0000 ∷ replicate 5 o
+
 pub distance64-number-of-the-radii
-    : distanceNumber (distanceCall binary64 (o ∷ o ∷ []) (o ∷ o ∷ []) (ofBits binary64 0x3ff0_0000_0000_0000 ∷ replicate 5 o) 1 7 (7 ∷ 1 ∷ replicate 6 0) .answer) ≡ 16
+    : distanceNumber (distanceCall binary64 (o ∷ o ∷ []) (o ∷ o ∷ []) upright 1 7 (7 ∷ 1 ∷ replicate 6 0) .answer) ≡ 16
 unfolding distanceFor cacheOf proxyDistance badParts abs solve vertex startSimplex roundsFrom witnessPoints measure allBelow add sub neg mul lt le ofBits
 distance64-number-of-the-radii = refl

@@ -3,7 +3,7 @@ use mathlib.Core.Path.{_≡_, refl}
 use Prim.Native.Nat.{ℕ}
 use mathlib.Core.Bool.{Bool, true, false}
 use mathlib.Core.List.{List, [], _∷_}
-use lib.Ieee.{Float, nan, binary32, ofBits, toBits, add, sub, mul, div, neg, lt, le}
+use lib.Ieee.{Float, nan, binary32, ofBits, toBits, add, sub, mul, div, neg, lt, le, isNan}
 use Rattle.model.specs.declared.Pose.{Pose}
 use Rattle.model.specs.declared.Sweep.{Sweep}
 use Rattle.model.specs.declared.SimplexVertex.{SimplexVertex}
@@ -13,6 +13,8 @@ use Rattle.model.specs.declared.SeparationType.the-variants.{Points, FaceA, Fac
 use Rattle.model.specs.declared.SimplexCache.{SimplexCache}
 use Rattle.model.specs.declared.SweepTask.{SweepTask}
 use Rattle.model.specs.declared.Closest.{Closest}
+use Rattle.model.specs.declared.SweepAnswer.{SweepAnswer}
+use Rattle.model.specs.declared.SweepAnswer.the-variants as Swept
 use Rattle.model.specs.declared.DistanceAnswer.the-variants.{Refused}
 use Rattle.model.specs.declared.CheckedPose.the-variants as CheckedPose
 use Rattle.model.specs.declared.BlockAnswer.the-variants as Answer
@@ -23,9 +25,10 @@ use Rattle.model.specs.Second.{secondFrom}
 use Rattle.model.specs.Domain.{badParts, refusalOfPose}
 use Rattle.model.specs.Simplex.{region2, kept, solve, solveSimplex2}
 use Rattle.model.specs.Distance.{cache, allBelow, replaced, held, vertex, startSimplex, roundsFrom, witnessPoints, measure, proxyDistance}
-use Rattle.model.specs.Sweep.{transformAt}
-use Rattle.model.specs.Separation.{function, deepestB, evaluate, findMinSeparation}
-use Rattle.model.specs.SweepToi.{noCounts, PushEnd, ended, moved, tried, rootFrom, pushFrom, sweepRefusal}
+use Rattle.model.specs.Sweep.{transformAt, shifted}
+use Rattle.model.specs.Separation.{function, newSeparation, deepestB, evaluate, findMinSeparation}
+use Rattle.model.specs.SweepToi.{noCounts, PushEnd, ended, moved, tried, rootFrom, pushFrom, closestAt, advanceFrom}
+use Rattle.model.specs.SweepToi.{sweepTask, sweepRefusal, sweepTimeOfImpact}
 use Rattle.model.specs.Corners.{cornersA}
 use Rattle.model.specs.Blocks.{wholeBlocks, blocks}
 use Rattle.model.specs.Sheet.{answers}
@@ -134,6 +137,37 @@ root-steps-counted-by-push-backs = refl
 pub slop-not-checked : sweepRefusal binary32 there n0 still there n0 still n1 n0 ≡ 8
 unfolding badParts abs add mul lt le ofBits
 slop-not-checked = refl
+
+-- A by its own move, whose centre is no number; by that of B nothing would be refused
+pub sweep-move-of-b
+    : sweepRefusal binary32 there n0 (record { «local_center» = vector nan n0; c1 = vector n0 n0; c2 = vector n0 n0; q1 = rotation n1 n0; q2 = rotation n1 n0 })
+    there n0 still n1 n1
+    ≡ 6
+unfolding badParts abs add mul lt le ofBits
+sweep-move-of-b = refl
+
+-- points that stand still, (1, 15) apart: the distance is a digit above the slop and a quarter of it, the separation along its own axis is not. So no call decides,
+-- each leaves what it found, and there are twenty; with one repeat less, nineteen
+abbrev beside : Sweep
+beside = record {
+  «local_center» = vector n0 n0;
+  c1 = vector n1 (ofBits binary32 0x4170_0000);
+  c2 = vector n1 (ofBits binary32 0x4170_0000);
+  q1 = rotation n1 n0;
+  q2 = rotation n1 n0;
+}
+
+abbrev calls : SweepAnswer → ℕ
+calls (Swept.Overlapped n) = n .«distance_calls»
+calls (Swept.Hit c n) = n .«distance_calls»
+calls (Swept.Separated c n) = n .«distance_calls»
+calls (Swept.Failed c n) = n .«distance_calls»
+calls (Swept.Refused k) = 0
+
+pub one-repeat-too-few : calls (sweepTimeOfImpact binary32 there n0 still there n0 beside n1 (ofBits binary32 0x4140_6d1a)) ≡ 20
+unfolding sweepTimeOfImpact sweepTask shifted advanceFrom closestAt newSeparation pushFrom findMinSeparation evaluate transformAt rootFrom tried
+    measure startSimplex allBelow replaced vertex roundsFrom held solve witnessPoints supportFrom badParts root abs add sub neg mul div lt le isNan ofBits
+one-repeat-too-few = refl
 
 -- ---- a block's work
 -- a short block is refused by 9, in a sheet and in a report

@@ -31,6 +31,11 @@ pub points-tie-later : support binary32 (n1 ∷ n0 ∷ n1 ∷ n1 ∷ []) (vector
 unfolding supportFrom add sub neg mul lt ofBits
 points-tie-later = refl
 
+-- the second point is the farthest; without the first it is point 0
+pub support-list-shorter : support binary32 (n0 ∷ n0 ∷ n1 ∷ n0 ∷ []) (vector n1 n0) ≡ 1
+unfolding supportFrom add sub neg mul lt ofBits
+support-list-shorter = refl
+
 pub point-y-of-next : both (point (n0 ∷ n1 ∷ n2 ∷ n3 ∷ []) 0) ≡ (0 ∷ 0x3f80_0000 ∷ [])
 unfolding ofBits toBits
 point-y-of-next = refl
