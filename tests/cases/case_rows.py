@@ -1,4 +1,4 @@
-"""Rows of a program's cases for `replay`, from bytes to bytes; docs/REPLAYS.md says what a row is like. For the scripts that name the cases."""
+"""Rows of a program's cases for `replay_batches`, from bytes to bytes; docs/REPLAYS.md says what a row is like. For the scripts that name the cases."""
 import struct
 import sys
 

@@ -1,5 +1,5 @@
 #!/usr/bin/env python3
-"""The rows of `replay`'s table 5 on standard output: parts of a batch, with the text of their first contact.
+"""The rows of `replay_batches`'s table 5 on standard output: parts of a batch, with the text of their first contact.
 
 Each block is one of examples/every-answer.batch, named by its status or its refusal. docs/REPLAYS.md says what a row is like."""
 import pathlib

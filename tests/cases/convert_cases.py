@@ -1,5 +1,5 @@
 #!/usr/bin/env python3
-"""The cases of `convert`: the rows of `replay`'s table 7 on standard output or, with a folder as argument, four files for each case, in larger cases
+"""The cases of `convert`: the rows of `replay_batches`'s table 7 on standard output or, with a folder as argument, four files for each case, in larger cases
 too: NAME.in, what is read; NAME.out, what is printed; NAME.file, what is written; NAME.kept, what two conversions leave."""
 import pathlib
 import sys

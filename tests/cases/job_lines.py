@@ -2,7 +2,7 @@
 """What `pack` and `unpack` must write, worked out from the rules of the two forms alone, and the cases that both are tried on.
 
   job_lines.py pack|unpack FOLDER    write each case's input, standard output and standard error to FOLDER/NAME.{in,out,err}
-  job_lines.py rows                  write the rows of `replay`'s tables 8 and 9 to standard output
+  job_lines.py rows                  write the rows of `replay_batches`'s tables 8 and 9 to standard output
 """
 import case_rows
 import pathlib

@@ -2,7 +2,7 @@
 """The monthly report worked out from printed sheets alone, and the cases of `report`.
 
 report_cases.py text SHEET..       the report of batches whose sheets those files hold, in order
-report_cases.py rows SHEET         the rows of `replay`'s table 11; SHEET is the program
+report_cases.py rows SHEET         the rows of `replay_batches`'s table 11; SHEET is the program
 report_cases.py files SHEET FOLDER the cases as files: NAME.1, NAME.2 .. the batches, NAME.out what is printed; and their names
 """
 import pathlib

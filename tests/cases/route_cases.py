@@ -2,7 +2,7 @@
 """Cases of `route`: texts of routes with the line that each comes to. The rules of texts and of the order of sweeps stand here a second time, in Python;
 a sweep's own answer is the oracle's, asked through `oracle sheet` for one block a sweep. What they come to is stored in tests/cases/route_answers.txt.
   route_cases.py answers ORACLE     works all answers out and prints that file
-  route_cases.py rows               the parts of table 12 for `replay`, of all cases that fit in a row
+  route_cases.py rows               the parts of table 12 for `replay_batches`, of all cases that fit in a row
   route_cases.py example ORACLE     the line of examples/hall.route, and figures for each leg
   route_cases.py FOLDER             NAME.in and NAME.out of every case, larger ones too, for tests/programs/programs.sh
 """

@@ -1,5 +1,5 @@
 #!/usr/bin/env python3
-"""The cases of `salvage`: the rows of `replay`'s table 10 on standard output or, with a folder as argument, three files for each case, in larger cases
+"""The cases of `salvage`: the rows of `replay_batches`'s table 10 on standard output or, with a folder as argument, three files for each case, in larger cases
 too: NAME.in, what is read; NAME.out, what is printed; NAME.file, what is written. With `gate` and a folder: what the program is run on there."""
 import pathlib
 import random

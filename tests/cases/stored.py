@@ -12,7 +12,7 @@ import tempfile
 
 HERE = pathlib.Path(__file__).resolve().parent
 CRATES = HERE.parents[1] / "crates"
-# the scripts that write whole parts of crates/replay/stdin, with the number of their tables
+# the scripts that write whole parts of crates/replay_batches/stdin, with the number of their tables
 ROWS = {
     "contact_rows.py": ("5",), "convert_cases.py": ("7",), "job_lines.py rows": ("8", "9"), "salvage_cases.py": ("10",),
     "report_cases.py rows SHEET": ("11",), "route_cases.py rows": ("12",),
@@ -31,12 +31,13 @@ def sheet_command():
 
 def main():
     sheet = sheet_command()
-    stored, wrong = (CRATES / "replay/stdin").read_bytes(), 0
+    stored, wrong = (CRATES / "replay_batches/stdin").read_bytes(), 0
     for script, tables in ROWS.items():
         rows = written([sheet if word == "SHEET" else word for word in script.split()])
         same = bool(rows) and len(rows) % 65536 == 0 and stored.find(rows) % 65536 == 0
         wrong += not same
-        print(f"table {' and '.join(tables)}: {len(rows) // 65536} parts of crates/replay/stdin {'are' if same else 'WRONG: are not'} those of {script}")
+        told = f"{len(rows) // 65536} parts of crates/replay_batches/stdin {'are' if same else 'WRONG: are not'} those of {script}"
+        print(f"table {' and '.join(tables)}: {told}")
     with tempfile.TemporaryDirectory() as folder:
         written(["salvage_cases.py", "gate"], folder)
         for name in ("stdin", "stdout"):

@@ -20,7 +20,8 @@ OWN = "promises"
 SYSTEM = "what it answers is the system's, and no contract can fix it"
 ONE_WAY = "it says yes only where something holds, and which of two sound answers comes is the search's"
 WHOLE_MOVE = "grid pairs corners board apart turns arcs pieces rides touches clear_search clearance_verdict grid_job clearance_job"
-LEFT_OUT = {"streams": SYSTEM, "outfile": SYSTEM, **{crate: ONE_WAY for crate in WHOLE_MOVE.split()}}
+TEST = "it compares and counts stored rows, and nothing of the product calls it"
+LEFT_OUT = {"streams": SYSTEM, "outfile": SYSTEM, "replay_rows": TEST, **{crate: ONE_WAY for crate in WHOLE_MOVE.split()}}
 TOLD = {1: "told", 2: "told-in-two"}  # by the number of clauses
 
 HEAD = """\

@@ -29,7 +29,7 @@ ROOM = {'fields': [('floatRoom = 9', 'floatRoom = 17'), ('contactRoom = 45', 'co
         'sheet_lines': [('longestLine = 240', 'longestLine = 280'), ('LONGEST_LINE: usize = 240', 'LONGEST_LINE: usize = 280'), ('238', '278'),
                   ('five floats of eight', 'five floats of sixteen')]}
 # crates of which only some files have a counterpart
-ONLY = {'replay': ['words', 'pool', 'operations', 'distances', 'sweeps', 'tally']}
+ONLY = {'replay': ['main', 'table', 'floats', 'pool', 'operations', 'distances', 'sweeps']}
 # files that speak of a block's own numbers, which are f32's
 OF_BLOCK = {'work64/proofs/Laws.antt'}
 # files that speak of the sheet alone: what they say is said of model's
@@ -39,24 +39,17 @@ PATCHES = [
     ('sheet_run64/src/lib.rt', 'b"sheet"', 'b"sheet64"'),
     ('sheet_run64/src/lib.rt', 'The run of `sheet`', 'The run of `sheet64`'),
     # a block's numbers are taken over from f32
-    ('work64/src/lib.rt', 'floats[i] = ground64::from_bits(wire::word(part, from + 4 * i));',
-     'floats[i] = f32_to_f64_with_nan(ground::from_bits(wire::word(part, from + 4 * i)));'),
+    ('work64/src/lib.rt', 'floats[i] = ground64::from_bits(wire::word(bytes, from + 4 * i));',
+     'floats[i] = f32_to_f64_with_nan(ground::from_bits(wire::word(bytes, from + 4 * i)));'),
     ('work64/src/lib.rt', 'use model64::Swept;', 'use model64::Swept;\nuse std::num::f32_to_f64_with_nan;'),
     # stored words have eight bytes
-    ('replay64/src/words.rt', 'use model64::Vector;', 'use crate::long::long;\nuse model64::Vector;'),
-    ('replay64/src/words.rt', '[u32; 40]', '[u64; 40]'),
-    ('replay64/src/words.rt', 'words[i] = word;', 'words[i] = word as u64;'),
-    ('replay64/src/words.rt', 'spoil: u32', 'spoil: u64'),
-    ('replay64/src/words.rt', 'std::num::wrapping_add_u32(wire::word(row, from), spoil)', 'std::num::wrapping_add_u64(long(row, from), spoil)'),
-    ('replay64/src/words.rt', 'wire::word(row, from + 4 * i)', 'long(row, from + 8 * i)'),
-    ('replay64/src/pool.rt', 'use model::SimplexCache;', 'use crate::long::long;\nuse model::SimplexCache;'),
+    ('replay64/src/floats.rt', ' as u64', ''),
     ('replay64/src/pool.rt', 'wire::word(pool, 16 + 4 * i)', 'wire::word(pool, 32 + 8 * i)'),
-    ('replay64/src/pool.rt', 'ground64::from_bits(word(pool, i))', 'ground64::from_bits(long(pool, 32 + 8 * i))'),
+    ('replay64/src/pool.rt', 'ground64::from_bits(word(pool, i))', 'ground64::from_bits(replay_rows::long(pool, 32 + 8 * i))'),
     ('replay64/src/pool.rt', '[f64; 16380]', '[f64; 8188]'),
     ('replay64/src/pool.rt', '[0.0f64; 16380]', '[0.0f64; 8188]'),
     ('replay64/src/pool.rt', '0usize..16380usize', '0usize..8188usize'),
-    ('replay64/src/operations.rt', 'use crate::words::Words;', 'use crate::long::long;\nuse crate::words::Words;'),
-    ('replay64/src/operations.rt', 'wire::word(row, 4 + 4 * i)', 'long(row, 8 + 8 * i)'),
+    ('replay64/src/operations.rt', 'wire::word(row, 4 + 4 * i)', 'replay_rows::long(row, 8 + 8 * i)'),
     ('replay64/src/distances.rt', 'wire::word(row, 8)', 'wire::word(row, 16)'),
     ('replay64/src/distances.rt', 'index(row, 4)', 'index(row, 8)'),
     ('replay64/src/distances.rt', 'index(row, 5)', 'index(row, 9)'),
@@ -81,7 +74,7 @@ PATCHES = [
 
 HAND = {
     'work64': ['proofs/floats_at/'],
-    'replay64': ['src/main.rt', 'src/table.rt', 'src/long.rt', 'proofs/main/', 'proofs/table/', 'proofs/words/', 'proofs/pool/numbers/'],
+    'replay64': ['src/main.rt', 'src/table.rt', 'proofs/pool/numbers/'],
 }
 
 

@@ -31,12 +31,12 @@ fn other_number(form: u8) -> u8
 }
 
 // A block in the other form.
-fn other_form(part: &[u8]) -> [u8; 512]
-    requires { ⌜ length (now part) ≡ blockSize ⌝ }
-    ensures { λ r. ⌜ r ≡ otherForm (now (part .entry)) ⌝ }
+fn other_form(bytes: &[u8]) -> [u8; 512]
+    requires { ⌜ length (now bytes) ≡ blockSize ⌝ }
+    ensures { λ r. ⌜ r ≡ otherForm (now (bytes .entry)) ⌝ }
 {
     let mut turned = [0u8; 512];
-    bytes::copy(part, &mut turned);
+    bytes::copy(bytes, &mut turned);
     let form = other_number(turned[6]);
     turned[6] = form;
     let check = 0xffff_ffff - block::sum_before(&turned, form);
@@ -49,14 +49,14 @@ fn other_form(part: &[u8]) -> [u8; 512]
 }
 
 // One block with n before it: in the other form behind what the file has, or its number behind what is told.
-fn convert_block(part: &[u8], n: u64, file: &mut [u8], text: &mut [u8], at: Places) -> Places
-    requires { ⌜ (length (now part) ≡ blockSize) × (n < 0xffff_ffff_ffff_ffff) ⌝ }
+fn convert_block(bytes: &[u8], n: u64, file: &mut [u8], text: &mut [u8], at: Places) -> Places
+    requires { ⌜ (length (now bytes) ≡ blockSize) × (n < 0xffff_ffff_ffff_ffff) ⌝ }
     requires { ⌜ (at .file + blockSize ≤ length (now file)) × (at .text + 21 ≤ length (now text)) ⌝ }
-    ensures { λ r. ⌜ Put (now (file .entry)) (at .file) (fileBy (now (part .entry))) (now (file .exit)) (r .file) ⌝ }
-    ensures { λ r. ⌜ Put (now (text .entry)) (at .text) (textBy n (now (part .entry))) (now (text .exit)) (r .text) ⌝ }
+    ensures { λ r. ⌜ Put (now (file .entry)) (at .file) (fileBy (now (bytes .entry))) (now (file .exit)) (r .file) ⌝ }
+    ensures { λ r. ⌜ Put (now (text .entry)) (at .text) (textBy n (now (bytes .entry))) (now (text .exit)) (r .text) ⌝ }
 {
-    if block::good(block::check_block(part)) {
-        let turned = other_form(part);
+    if block::good(block::check_block(bytes)) {
+        let turned = other_form(bytes);
         let end = text::put_text(file, at.file, &turned);
         return Places {
             file: end,

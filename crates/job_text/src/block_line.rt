@@ -12,14 +12,14 @@ ghost use Rattle.job_text.specs.Pieces.{spaced, headOf};
 const LONGEST_LINE: usize = 855;
 
 // As `sheet` reads it where byte 6 is 0; else refused, by the sum of form 1.
-pub fn check_plain(part: &[u8]) -> CheckedBlock
-    ensures { λ r. ⌜ r ≡ plainBlock (now (part .entry)) ⌝ }
+pub fn check_plain(bytes: &[u8]) -> CheckedBlock
+    ensures { λ r. ⌜ r ≡ plainBlock (now (bytes .entry)) ⌝ }
 {
-    if wire::byte(part, 6) == 0 {
-        return block::check_block(part);
+    if wire::byte(bytes, 6) == 0 {
+        return block::check_block(bytes);
     }
-    if block::sum_of_words(part) == 0xffff_ffff {
-        return CheckedBlock::Refused(wire::word(part, 0), 11);
+    if block::sum_of_words(bytes) == 0xffff_ffff {
+        return CheckedBlock::Refused(wire::word(bytes, 0), 11);
     }
     CheckedBlock::Refused(0, 10)
 }

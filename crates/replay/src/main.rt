@@ -1,23 +1,14 @@
-// Replays the oracle's stored answers, bit for bit with all NaNs as one. Standard input holds parts of 65,536 bytes: the number of a table, how many
-// of its rows came before, two words of 0, and rows. A part of table 0 is the pool that the rows after it refer to. Prints, by table and kind, how
-// many rows there were, how many differ, and how many were noticed to differ when the stored answer was spoiled on purpose.
-mod blocks;
-mod cases;
-mod conversions;
+// Replays the oracle's stored answers, bit for bit with all NaNs as one: operations, distance calls, sweeps and plates. Standard input holds parts of
+// 65,536 bytes: the number of a table, how many of its rows came before, two words of 0, and rows. A part of table 0 is the pool that the rows after it
+// refer to. Prints, by table and kind, how many rows there were, how many differ, and how many were noticed to differ when the stored answer was spoiled
+// on purpose.
 mod distances;
-mod first_contacts;
+mod floats;
 mod operations;
-mod packed;
 mod plates;
 mod pool;
-mod reports;
-mod routes;
-mod salvages;
 mod sweeps;
 mod table;
-mod tally;
-mod unpacked;
-mod words;
 
 use libc::STDIN_FILENO;
 
@@ -28,12 +19,12 @@ const POOL: u32 = 0;
 fn main() {
     let mut pool = io::large_buffer();
     let mut numbers = pool::numbers(&pool);
-    let mut counts = tally::nothing();
+    let mut counts = replay_rows::nothing();
     for reads in 0..u64::MAX {
         let mut part = io::large_buffer();
         let n = io::read_full(STDIN_FILENO, &mut part);
         if n == 0 {
-            tally::print(&counts);
+            replay_rows::print(&counts);
             return;
         }
         if wire::word(&part, 0) == POOL {

@@ -1,10 +1,10 @@
 // Table 1: the ground operations by their numbers. A row has 16 words: the operation, eight inputs, and up to four answers from word 9 on.
-use crate::words::Words;
-use crate::words::put_float;
-use crate::words::put_vector;
+use crate::floats::put_float;
+use crate::floats::put_vector;
 use model::Pose;
 use model::Rotation;
 use model::Vector;
+use replay_rows::Words;
 ghost use Prim.Native.Nat.{_≤_};
 
 // Input i, and the vectors, rotations and poses that start there.

@@ -1,6 +1,6 @@
 // One stored plate: its half sizes, and its four corners in the order of the numbers that the Rust gives them.
-use crate::words::Words;
-use crate::words::put_float;
+use crate::floats::put_float;
+use replay_rows::Words;
 
 // Words 1 and 2 of a row are the half sizes.
 pub fn answer(row: &[u8], words: &mut Words) {

@@ -1,12 +1,10 @@
 // Replays the f64 oracle's stored answers, bit for bit with all NaNs as one, as `replay` does those of f32; every word of the file has eight bytes.
 mod distances;
-mod long;
+mod floats;
 mod operations;
 mod pool;
 mod sweeps;
 mod table;
-mod tally;
-mod words;
 
 use libc::STDIN_FILENO;
 
@@ -17,12 +15,12 @@ const POOL: u32 = 0;
 fn main() {
     let mut pool = io::large_buffer();
     let mut numbers = pool::numbers(&pool);
-    let mut counts = tally::nothing();
+    let mut counts = replay_rows::nothing();
     for reads in 0..u64::MAX {
         let mut part = io::large_buffer();
         let n = io::read_full(STDIN_FILENO, &mut part);
         if n == 0 {
-            tally::print(&counts);
+            replay_rows::print(&counts);
             return;
         }
         if wire::word(&part, 0) == POOL {

@@ -1,19 +1,18 @@
 // Written by tests/written/wide.py from replay, in f64.
 // Table 1: the ground operations by their numbers. A row has 16 words: the operation, eight inputs, and up to four answers from word 9 on.
-use crate::long::long;
-use crate::words::Words;
-use crate::words::put_float;
-use crate::words::put_vector;
+use crate::floats::put_float;
+use crate::floats::put_vector;
 use model64::Pose;
 use model64::Rotation;
 use model64::Vector;
+use replay_rows::Words;
 ghost use Prim.Native.Nat.{_≤_};
 
 // Input i, and the vectors, rotations and poses that start there.
 fn input(row: &[u8], i: usize) -> f64
     requires { ⌜ i ≤ 8 ⌝ }
 {
-    ground64::from_bits(long(row, 8 + 8 * i))
+    ground64::from_bits(replay_rows::long(row, 8 + 8 * i))
 }
 
 fn vector(row: &[u8], i: usize) -> Vector

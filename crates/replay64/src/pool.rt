@@ -1,7 +1,6 @@
 // Written by tests/written/wide.py from replay, in f64.
 // The pool that rows refer to by bytes. Its words after a part's first four: where each of 128 outlines starts and how many numbers it has, poses of
 // four, caches of eight, radii of two, moves of ten, fractions, slops, and then the outlines' numbers.
-use crate::long::long;
 use model::SimplexCache;
 use model64::Pose;
 use model64::Rotation;
@@ -33,7 +32,7 @@ fn word(pool: &[u8], i: usize) -> u32
 pub fn numbers(pool: &[u8]) -> Numbers {
     let mut numbers = [0.0f64; 8188];
     for i in 0usize..8188usize {
-        numbers[i] = ground64::from_bits(long(pool, 32 + 8 * i));
+        numbers[i] = ground64::from_bits(replay_rows::long(pool, 32 + 8 * i));
     }
     numbers
 }

@@ -3,35 +3,27 @@ use crate::distances;
 use crate::operations;
 use crate::pool::Numbers;
 use crate::sweeps;
-use crate::tally;
-use crate::tally::Counts;
-use crate::words;
-use crate::words::Words;
-ghost use mathlib.Core.Path.{_≡_};
+use replay_rows::Counts;
+use replay_rows::RowShape;
+use replay_rows::Words;
 ghost use Prim.Native.Nat.{_≤_};
 
-// A row's size in bytes, the place of its kind, and where its stored answer stands, of how many words.
-struct RowShape {
-    size: usize,
-    kind: usize,
-    answer: usize,
-    words: usize,
-}
-
 fn shape(size: usize, kind: usize, answer: usize, words: usize) -> RowShape
-    ensures { λ r. ⌜ (r .size ≡ size) × (r .kind ≡ kind) × (r .answer ≡ answer) × (r .words ≡ words) ⌝ }
+    requires { ⌜ 1 ≤ size ⌝ }
+    ensures { λ r. ⌜ 1 ≤ r .size ⌝ }
 {
     RowShape {
         size,
         kind,
         answer,
         words,
+        bytes: 8,
     }
 }
 
 // What the rows of a table are like. Of an unknown table no part has a row.
 fn shape_of(table: u32) -> RowShape
-    ensures { λ r. ⌜ (1 ≤ r .size) × (r .answer ≤ 512) × (r .words ≤ 40) ⌝ }
+    ensures { λ r. ⌜ 1 ≤ r .size ⌝ }
 {
     match table {
         1 => shape(128, 0, 72, 4),
@@ -58,18 +50,13 @@ fn replay_row(
     pool: &[u8],
     numbers: &[f64],
     counts: &mut Counts,
-)
-    requires { ⌜ (shape .answer ≤ 512) × (shape .words ≤ 40) ⌝ }
-{
-    let kind = wire::word(row, shape.kind);
-    if kind == 0 {
+) {
+    if replay_rows::kind(row, shape) == 0 {
         return;
     }
-    let mut words = [0u64; 40];
+    let mut words = replay_rows::no_words();
     answer(table, row, pool, numbers, &mut words);
-    let differs = words::differ(&words, shape.words, row, shape.answer, 0);
-    let noticed = words::differ(&words, shape.words, row, shape.answer, 1);
-    tally::count(counts, table, kind, differs, noticed);
+    replay_rows::compare(table, shape, row, &words, counts);
 }
 
 // All whole rows of a part.

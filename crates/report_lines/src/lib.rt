@@ -3,8 +3,9 @@ use report_counts::Largest;
 use report_counts::Most;
 use report_counts::Report;
 ghost use Prim.Native.Nat.{_+_, _<_, _≤_};
+ghost use mathlib.Core.Path.{_≡_};
 ghost use mathlib.Core.List.{[]};
-ghost use lib.ListN.{length, getD};
+ghost use lib.ListN.{length, getD, take, drop};
 ghost use Rattle.text.specs.Put.{Put};
 ghost use Rattle.report_lines.specs.Text.{labels, rowText, rowsText, placeText, mostText, namedText, largestText, textIn};
 
@@ -14,41 +15,42 @@ const ROWS: usize = 28;
 // No report is longer.
 const LONGEST_REPORT: usize = 1200;
 
-// A row's name, and a blank.
+fn wide(x: u8) -> usize
+    ensures { λ r. ⌜ r ≡ x ⌝ }
+{
+    x as usize
+}
+
+// How long a row's name is, with the blank after it.
+fn label_size(row: usize) -> usize
+    requires { ⌜ row < 28 ⌝ }
+    ensures { λ r. ⌜ r ≡ length (getD labels row []) ⌝ }
+{
+    let sizes =
+        b"\x07\x06\x0b\x07\x04\x08\x08\x08\x08\x08\x08\x08\x08\x06\x0a\x0a\x08\x08\x0a\x0a\x0a\x0a\x0a\x0a\x0a\x0b\x0b\x0b";
+    wide(sizes[row])
+}
+
+// So many bytes of a text, from a place on.
+fn put_piece(out: &mut [u8], at: usize, text: &[u8], from: usize, size: usize) -> usize
+    requires { ⌜ (at + size ≤ length (now out)) × (from + size ≤ length (now text)) ⌝ }
+    ensures { λ r. ⌜ Put (now (out .entry)) at (take size (drop from (now (text .entry)))) (now (out .exit)) r ⌝ }
+{
+    let end = from + size;
+    text::put_text(out, at, &text[from..end])
+}
+
+// A row's name, and a blank: the names stand in one text, each in eleven bytes.
 fn put_label(out: &mut [u8], at: usize, row: usize) -> usize
     requires { ⌜ (at + 11 ≤ length (now out)) × (row < 28) ⌝ }
     ensures { λ r. ⌜ Put (now (out .entry)) at (getD labels row []) (now (out .exit)) r ⌝ }
 {
-    match row {
-        0 => text::put_text(out, at, b"BLOCKS "),
-        1 => text::put_text(out, at, b"CLEAR "),
-        2 => text::put_text(out, at, b"OVERLAPPED "),
-        3 => text::put_text(out, at, b"FAILED "),
-        4 => text::put_text(out, at, b"HIT "),
-        5 => text::put_text(out, at, b"HIT 0/8 "),
-        6 => text::put_text(out, at, b"HIT 1/8 "),
-        7 => text::put_text(out, at, b"HIT 2/8 "),
-        8 => text::put_text(out, at, b"HIT 3/8 "),
-        9 => text::put_text(out, at, b"HIT 4/8 "),
-        10 => text::put_text(out, at, b"HIT 5/8 "),
-        11 => text::put_text(out, at, b"HIT 6/8 "),
-        12 => text::put_text(out, at, b"HIT 7/8 "),
-        13 => text::put_text(out, at, b"HIT 1 "),
-        14 => text::put_text(out, at, b"HIT BELOW "),
-        15 => text::put_text(out, at, b"HIT ABOVE "),
-        16 => text::put_text(out, at, b"HIT NAN "),
-        17 => text::put_text(out, at, b"REFUSED "),
-        18 => text::put_text(out, at, b"REFUSED 3 "),
-        19 => text::put_text(out, at, b"REFUSED 4 "),
-        20 => text::put_text(out, at, b"REFUSED 5 "),
-        21 => text::put_text(out, at, b"REFUSED 6 "),
-        22 => text::put_text(out, at, b"REFUSED 7 "),
-        23 => text::put_text(out, at, b"REFUSED 8 "),
-        24 => text::put_text(out, at, b"REFUSED 9 "),
-        25 => text::put_text(out, at, b"REFUSED 10 "),
-        26 => text::put_text(out, at, b"REFUSED 11 "),
-        _ => text::put_text(out, at, b"REFUSED 13 "),
-    }
+    let size = label_size(row);
+    let names = b"BLOCKS     CLEAR      OVERLAPPED FAILED     HIT        HIT 0/8    HIT 1/8    \
+        HIT 2/8    HIT 3/8    HIT 4/8    HIT 5/8    HIT 6/8    HIT 7/8    HIT 1      \
+        HIT BELOW  HIT ABOVE  HIT NAN    REFUSED    REFUSED 3  REFUSED 4  REFUSED 5  \
+        REFUSED 6  REFUSED 7  REFUSED 8  REFUSED 9  REFUSED 10 REFUSED 11 REFUSED 13 ";
+    put_piece(out, at, names, 11 * row, size)
 }
 
 // The line of a row.

@@ -19,6 +19,11 @@ pub outline-of-65 : map (λ (n : ℕ). badOutline (replicate n (at 0))) (128 ∷
 unfolding ofBits
 outline-of-65 = refl
 
+-- as a list of points, too
+pub points-65 : outlineRefusal binary32 (replicate 130 (at 0)) ≡ 1
+unfolding ofBits
+points-65 = refl
+
 -- 1048576 passes, 1048576.125 does not
 pub part-above-limit : map (λ (b : ℕ). badPart binary32 (at b)) (0x4980_0000 ∷ 0x4980_0001 ∷ []) ≡ (false ∷ true ∷ [])
 unfolding abs le ofBits

@@ -26,6 +26,16 @@ pub nan-wins : support binary32 (n0 ∷ n0 ∷ nan ∷ n1 ∷ []) (vector n1 n0)
 unfolding supportFrom add sub neg mul lt ofBits
 nan-wins = refl
 
+-- two that are as far: the first, in a flat list and in a list of points
+pub points-tie-later : support binary32 (n1 ∷ n0 ∷ n1 ∷ n1 ∷ []) (vector n1 n0) ≡ 0
+unfolding supportFrom add sub neg mul lt ofBits
+points-tie-later = refl
+
+-- the second point is the farthest; without the first it is point 0
+pub support-list-shorter : support binary32 (n0 ∷ n0 ∷ n1 ∷ n0 ∷ []) (vector n1 n0) ≡ 1
+unfolding supportFrom add sub neg mul lt ofBits
+support-list-shorter = refl
+
 pub point-y-of-next : both (point (n0 ∷ n1 ∷ n2 ∷ n3 ∷ []) 0) ≡ (0 ∷ 0x3f80_0000 ∷ [])
 unfolding ofBits toBits
 point-y-of-next = refl
@@ -35,7 +45,7 @@ unfolding supportAnswer badParts abs le ofBits
 support-number-lost = refl
 
 -- ---- the two-vertex solver at an end that is just as near: (0, 0) and (1, 0) keep the first alone
-abbrev vertex : ℕ → Float → Float → SimplexVertex
+abbrev pub vertex : ℕ → Float → Float → SimplexVertex
 vertex i x y = record { wa = vector n0 n0; wb = vector n0 n0; w = vector x y; a = n0; «index_a» = i; «index_b» = 0 }
 
 pub two-first-strictly : solveSimplex2 binary32 (vertex 0 n0 n0 ∷ vertex 1 n1 n0 ∷ vertex 2 n0 n0 ∷ []) .count ≡ 1

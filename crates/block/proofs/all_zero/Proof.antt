@@ -9,10 +9,10 @@ use Rattle.block.proofs.all_zero.Statement.{statement}
 use Rattle.block.proofs.all_zero.Tie as tie
 
 abbrev Inv-loop : tie.InvT-loop
-Inv-loop part from n zero₀ i₀ zero i = (i ≤ n) × (zero ≡ allZero part from (4 * i))
+Inv-loop bytes from n zero₀ i₀ zero i = (i ≤ n) × (zero ≡ allZero bytes from (4 * i))
 
 abbrev μ-loop : tie.MeasureT-loop
-μ-loop part from n zero₀ i₀ zero i = n - i
+μ-loop bytes from n zero₀ i₀ zero i = n - i
 
 loop-holds : tie.Need-loop-holds Inv-loop μ-loop
 unfolding allZero
@@ -40,7 +40,7 @@ returns : tie.Need-returns Inv-loop μ-loop
 returns c =
     let l = c .before .loop in
     let a = c .before .before .before .args in
-    l .inv .1 ∙ ap (λ (k : ℕ). allZero (a .part .now) (a .from) (4 * k)) (le-antisymm (l .inv .0) (c .loop-test .left))
+    l .inv .1 ∙ ap (λ (k : ℕ). allZero (a .bytes .now) (a .from) (4 * k)) (le-antisymm (l .inv .0) (c .loop-test .left))
 
 pub all-zero-spec : {M : Type 1} → statement M
 all-zero-spec =

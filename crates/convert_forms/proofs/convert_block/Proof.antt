@@ -34,7 +34,7 @@ returns c =
     let start = checked .before .before .before .before in
     let good = ap isGood (sym (checked .check-block .ensures)) ∙ sym (tested .before .good2 .ensures) ∙ tested .if1 .taken in
     rw good (
-      put-turned (start .args .part .now) _ (start .pre .1 .0) (start .pre .0 .0) (turned .other-form .ensures) (c .before .before .put-text .ensures),
+      put-turned (start .args .bytes .now) _ (start .pre .1 .0) (start .pre .0 .0) (turned .other-form .ensures) (c .before .before .put-text .ensures),
       put-nothing _ _,
     )
 

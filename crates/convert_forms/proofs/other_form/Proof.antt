@@ -60,7 +60,7 @@ returns : tie.Need-returns
 returns c =
     let start = c .before .before .before .before .before .before .before .before in
     rw (c .word-bytes .ensures)
-    (made (start .args .part .now) _ _ _ (start .pre) (c .before .before .before .before .before .copy .ensures .1 ∙ copied _ _ (start .pre) refl)
+    (made (start .args .bytes .now) _ _ _ (start .pre) (c .before .before .before .before .before .copy .ensures .1 ∙ copied _ _ (start .pre) refl)
     (c .before .before .before .other-number .ensures) (c .before .sum-before .ensures))
 
 pub other-form-spec : {M : Type 1} → statement M

@@ -1,4 +1,5 @@
--- `replay64::main` is safe and ends: the reads that are left fall. Nothing has to hold from one read to the next. Assumes nothing.
+-- Written by tests/written/wide.py from replay, in f64.
+-- `replay::main` is safe and ends: the reads that are left fall. Nothing has to hold from one read to the next. Assumes nothing.
 use Prim.Native.Nat.{_-_}
 use borrow.Author.Needs.{needs}
 use Rattle.replay64.proofs.main.Statement.{statement}

@@ -11,10 +11,10 @@ use Rattle.work64.proofs.floats_at.Statement.{statement}
 use Rattle.work64.proofs.floats_at.Tie as tie
 
 abbrev Inv-loop : tie.InvT-loop
-Inv-loop part from n floats₀ i₀ floats i = (i ≤ n) × (length floats ≡ 32) × (take i floats ≡ floatsAt part from i)
+Inv-loop bytes from n floats₀ i₀ floats i = (i ≤ n) × (length floats ≡ 32) × (take i floats ≡ floatsAt bytes from i)
 
 abbrev μ-loop : tie.MeasureT-loop
-μ-loop part from n floats₀ i₀ floats i = n - i
+μ-loop bytes from n floats₀ i₀ floats i = n - i
 
 loop-holds : tie.Need-loop-holds Inv-loop μ-loop
 unfolding floatsAt

@@ -1,15 +1,15 @@
 -- `replay::table::replay` is safe and ends: the place stays within the part, and what is left of it falls. Assumes nothing.
-use Prim.Native.Nat.{_+_, _≤_, _-_}
+use Prim.Native.Nat.{_≤_, _-_}
 use borrow.Author.Needs.{needs}
 use lib.ListN.{length}
 use Rattle.replay.proofs.table.replay.Statement.{statement}
 use Rattle.replay.proofs.table.replay.Tie as tie
 
 abbrev Inv-loop : tie.InvT-loop
-Inv-loop part pool numbers counts₀ table shape size n₀ at₀ counts n at = (at ≤ length part) × (n ≤ 4294967295 + at)
+Inv-loop part pool numbers counts₀ table shape size at₀ counts at = at ≤ length part
 
 abbrev μ-loop : tie.MeasureT-loop
-μ-loop part pool numbers counts₀ table shape size n₀ at₀ counts n at = length part - at
+μ-loop part pool numbers counts₀ table shape size at₀ counts at = length part - at
 
 returns : tie.Need-returns Inv-loop μ-loop
 returns c = search needs
@@ -20,12 +20,6 @@ word-requires c κs = search needs
 shape-of-requires : tie.Need-shape-of-requires Inv-loop μ-loop
 shape-of-requires c κs = search needs
 
-word-requires-2 : tie.Need-word-requires-2 Inv-loop μ-loop
-word-requires-2 c κs = search needs
-
-cast-n : tie.Need-cast-n Inv-loop μ-loop
-cast-n c = search needs
-
 loop-holds : tie.Need-loop-holds Inv-loop μ-loop
 loop-holds c = search needs
 
@@ -34,9 +28,6 @@ sub-loop c = search needs
 
 add-end : tie.Need-add-end Inv-loop μ-loop
 add-end c = search needs
-
-add-n : tie.Need-add-n Inv-loop μ-loop
-add-n c = search needs
 
 sub-replay-row : tie.Need-sub-replay-row Inv-loop μ-loop
 sub-replay-row c = search needs
@@ -68,12 +59,9 @@ replay-spec =
     returns
     word-requires
     shape-of-requires
-    word-requires-2
-    cast-n
     loop-holds
     sub-loop
     add-end
-    add-n
     sub-replay-row
     part-replay-row-start
     part-replay-row-end

@@ -1,5 +1,6 @@
--- `replay64::table::replay` is safe and ends: the place stays within the part, and what is left of it falls. Assumes nothing.
-use Prim.Native.Nat.{_+_, _≤_, _-_}
+-- Written by tests/written/wide.py from replay, in f64.
+-- `replay::table::replay` is safe and ends: the place stays within the part, and what is left of it falls. Assumes nothing.
+use Prim.Native.Nat.{_≤_, _-_}
 use borrow.Author.Needs.{needs}
 use lib.ListN.{length}
 use Rattle.replay64.proofs.table.replay.Statement.{statement}
