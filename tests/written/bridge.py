@@ -4,9 +4,9 @@
   python3 tests/written/bridge.py           name each definition without a law, and exit with 1 if there is one
   python3 tests/written/bridge.py --list    each definition with its law besides
 
-Looked for is what the contract of a public function of a crate NAME64 cites of `model64`, or of another such crate's specs where it rests on `model64`; what the
-two widths share, and what a crate says of room for its digits, needs no law. A law is a `pub` declaration in proofs of LAWS whose statement, that is its type with the
-sections around it, names the definition and the one of the same name in the f32 crate. That the law holds is the checker's matter.
+Looked for is what the contract of a public function of a crate NAME64 cites of `model64`, or of another such crate's specs where it rests on
+`model64`; what the two widths share, and what a crate says of room for its digits, needs no law. A law is a `pub` declaration in the proofs of LAWS whose
+type names the definition and the one of the same name in the f32 crate. That the law holds is the checker's matter.
 """
 import re
 import sys

@@ -16,7 +16,8 @@ use Rattle.model.specs.declared.DistanceAnswer.the-variants.{Measured, Refused}
 use Rattle.model.specs.Distance.{rounds, witnessPoints, measuredBy, measure, distanceBy, distanceRefusal, proxyDistance}
 use Rattle.exact.proofs.Demand3.{ending-told}
 
-rounds-told : (f : Format) (e : Ending) (radii : Bool) (ra rb : Float) (w : WitnessPoints) (r : Rounds) → measuredBy f e radii ra rb w r .iterations ≡ r .iterations
+rounds-told : (f : Format) (e : Ending) (radii : Bool) (ra rb : Float) (w : WitnessPoints) (r : Rounds)
+    → measuredBy f e radii ra rb w r .iterations ≡ r .iterations
 rounds-told f Touching radii ra rb w r = refl
 rounds-told f Settled true ra rb w r = refl
 rounds-told f Settled false ra rb w r = refl

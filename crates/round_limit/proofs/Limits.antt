@@ -35,7 +35,8 @@ module _ (f : Format) (a b : List Float) (p : Pose) where
   steady (suc k) zero less s n d it ends = absurd (not-suc-le-zero less)
   steady (suc k) (suc k') less s n d it ends =
       let r = solve f s n in
-      same-onward (touches f r) (held s n (supportA f a (r .direction)) (supportB f b p (r .direction))) _ _ _ _ (steady k k' (le-of-suc-le-suc less) _ _ _ _) ends
+      let again = held s n (supportA f a (r .direction)) (supportB f b p (r .direction)) in
+      same-onward (touches f r) again _ _ _ _ (steady k k' (le-of-suc-le-suc less) _ _ _ _) ends
 
   pub few-rounds : (k : ℕ) (s : List SimplexVertex) (n : ℕ) (d : Vector) (it : ℕ) → roundsFrom f a b p k s n d it .iterations ≤ it + k
   unfolding roundsFrom
@@ -43,4 +44,5 @@ module _ (f : Format) (a b : List Float) (p : Pose) where
   few-rounds (suc k) s n d it =
       let r = solve f s n in
       let rest = few-rounds k (extended f a b p r) (r .count + 1) (r .direction) (it + 1) in
-      few-onward (touches f r) (held s n (supportA f a (r .direction)) (supportB f b p (r .direction))) _ _ _ _ (omega arith) (omega arith) (omega (arith, rest))
+      let again = held s n (supportA f a (r .direction)) (supportB f b p (r .direction)) in
+      few-onward (touches f r) again _ _ _ _ (omega arith) (omega arith) (omega (arith, rest))
