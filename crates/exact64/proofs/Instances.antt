@@ -3,7 +3,7 @@
 use mathlib.Core.Path.{_≡_, refl, sym, _∙_, subst}
 use mathlib.Core.Bool.{Bool, true, false}
 use mathlib.Core.List.{List, [], _∷_}
-use Prim.Native.Nat.{ℕ}
+use Prim.Native.Nat.{ℕ, zero, suc}
 use native.Mathlib.Omega.{arith}
 use lib.Dec.{lit≤, lit<}
 use lib.IntN.{pos, negsuc}
@@ -29,14 +29,21 @@ use Rattle.model64.specs.Support.{supportFrom}
 use Rattle.model64.specs.Simplex.{region2, region3, kept, solveSimplex2, solveSimplex3, solve}
 use Rattle.model64.specs.Distance.{held, vertex, startSimplex, roundsFrom, witnessPoints, measure, proxyDistance}
 use Rattle.bridge.specs.Wide.{pose64}
+use Rattle.plane.specs.Plane.{Point}
+use Rattle.plane.specs.Fraction.{_<ᶠ_}
+use Rattle.circles.specs.NoCircles.{NearestOf, squaredLength}
+use Rattle.circles.proofs.Shorter.{least-by-level}
+use Rattle.exact.proofs.Below.{below2}
+use Rattle.exact.proofs.Kept.{two}
 use Rattle.exact.specs.Shared.{SpansNearestPlace}
 use Rattle.exact.specs.SquaredPaper.{SquaredPaper, outlineA, posedB, Fits, InTheDomain}
-use Rattle.squared_sheets.specs.Sheet.{Sheet, drawnMarked, drawnPose, every, OnPaper}
+use Rattle.squared_sheets.specs.Sheet.{Sheet, cornerOf, drawn, drawnMarked, drawnPose, every, OnPaper}
 use Rattle.squared_sheets.proofs.Marked.{on-marked-paper, marked-in-domain}
 use Rattle.squared_sheets.proofs.Instances.{none, ours}
 use Rattle.squared_sheets.proofs.Instances as Sheets
 use Rattle.exact64.specs.Call.{bound, read, call}
-use Rattle.exact64.proofs.Exact.{exact-wide}
+use Rattle.exact64.specs.Rounds.{State, GoesOn, start, next, Reaches, first, then, Nearer}
+use Rattle.exact64.proofs.Exact.{exact-wide, no-circles-wide}
 
 -- ---- the sheets
 -- a plate of 1,200 by 800, and a triangle that stands to its right, turned by a quarter
@@ -122,13 +129,43 @@ unfolding proxyDistance measure roundsFrom startSimplex vertex held solve solveS
     replaced badParts abs ofBits ofInt round add sub mul div neg lt le eq root isNan
 computed = record { hallEnds = refl; hallCache = refl; hallDistance = refl; thinEnds = refl; thinCache = refl }
 
--- The same thin sheet in f32, for which 2,048 leaves no room: it names the edge from corner 0 to corner 1, whose nearest place has the squared length
--- 104903985152/13090181; that of corners 0 and 2, 75426031044/9411881, is smaller.
+-- the same thin sheet in f32, for which 2,048 leaves no room: it names the edge from corner 0 to corner 1
 pub thin-in-f32 : Sheets.call thin none .cache ≡ cache ours 2 (0 ∷ 1 ∷ 0 ∷ []) (0 ∷ 0 ∷ 0 ∷ [])
 unfolding Narrow.proxyDistance Narrow.measure Narrow.roundsFrom Narrow.startSimplex Narrow.vertex Narrow.held Simplex.solve Simplex.solveSimplex2
     Simplex.solveSimplex3 Simplex.region2 Simplex.region3 Simplex.kept Support.supportFrom Narrow.witnessPoints allBelow replaced Domain.badParts abs ofBits
     ofInt round add sub mul div neg lt le eq root
 thin-in-f32 = refl
+
+-- which is not the nearest: of corners 0 and 2 the nearest place has a smaller squared length, 75426031044/9411881 and not 104903985152/13090181
+abbrev wholeEdge : ℕ → Point
+wholeEdge i = cornerOf (thin .a) (two 0 1 i)
+
+abbrev nearEdge : ℕ → Point
+nearEdge i = cornerOf (thin .a) (two 0 2 i)
+
+pub record LongerInF32 : Type 0 where
+  pub named : NearestOf 2 wholeEdge
+  pub nearest : NearestOf 2 nearEdge
+  pub longer : squaredLength 2 nearEdge (nearest .weight) <ᶠ squaredLength 2 wholeEdge (named .weight)
+
+pub longer-in-f32 : LongerInF32
+unfolding _⊠_
+longer-in-f32 =
+    let w = two 6852523 6237658 in
+    let v = two 1931875 7480006 in
+    record {
+      named = record {
+        weight = w;
+        some = lit< tt;
+        least = λ other h. least-by-level 2 wholeEdge w (below2 _ (lit≤ tt) (lit≤ tt)) other;
+      };
+      nearest = record {
+        weight = v;
+        some = lit< tt;
+        least = λ other h. least-by-level 2 nearEdge v (below2 _ (lit≤ tt) (lit≤ tt)) other;
+      };
+      longer = lit< tt;
+    }
 
 -- ---- what the theorem says of them
 module _ (p : Pose64) (a : List Float) (ra : Float) (b : List Float) (rb : Float) (radii : Bool) (paper : SquaredPaper bound (read p) a b) where
@@ -176,3 +213,24 @@ hall-in-domain =
     let a : Fits (drawnMarked binary64 marksA (hall .a)) = record { even = refl; some = lit< tt; few = lit≤ tt } in
     let b : Fits (drawnMarked binary64 marksB (hall .b)) = record { even = refl; some = lit< tt; few = lit≤ tt } in
     marked-in-domain binary64 hall bound marksA marksB hall-on-paper a b radiusA radiusB refl refl
+
+-- ---- the thin triangle's call does not go round in circles: after its second round another follows, and the place that the third keeps is shorter
+abbrev at : ℕ → State
+at zero = start (drawn binary64 (thin .a)) (drawn binary64 (thin .b)) (poseOf thin) none
+at (suc n) = next (drawn binary64 (thin .a)) (drawn binary64 (thin .b)) (poseOf thin) (at n)
+
+abbrev On : ℕ → Type 0
+On n = GoesOn (drawn binary64 (thin .a)) (drawn binary64 (thin .b)) (poseOf thin) (at n)
+
+pub thin-on : On 0 × On 1
+unfolding roundsFrom startSimplex vertex held solve solveSimplex2 solveSimplex3 region2 region3 kept supportFrom allBelow ofBits ofInt round add sub mul div
+    neg lt le eq
+thin-on = (record { apart = refl; new = refl }, record { apart = refl; new = refl })
+
+pub thin-nearer : Nearer thinPaper Settled 3 (at 1)
+unfolding proxyDistance measure roundsFrom startSimplex vertex held solve solveSimplex2 solveSimplex3 region2 region3 kept supportFrom witnessPoints allBelow
+    replaced badParts abs ofBits ofInt round add sub mul div neg lt le eq root
+thin-nearer =
+    let o = Ground64.zero binary64 in
+    no-circles-wide (poseOf thin) (drawn binary64 (thin .a)) o (drawn binary64 (thin .b)) o false ours none thinPaper _ refl 17 (at 1)
+    (then first (thin-on .0)) (thin-on .1)
