@@ -5,8 +5,8 @@
     wide.py --check    say which file is not what would be written, and write nothing (exit 1)
 
 Nothing rests on this script: what it writes is proved like any other text, and the crates `bridge` and `bridge_own` prove that the definitions
-which it writes are those that it writes them from. Files that HAND names are written by hand, in their place, and are neither written nor removed here. The output is as `rt fmt`
-lays it out.
+which it writes are those that it writes them from. Files that HAND names are written by hand, in their place, and are neither written nor removed
+here. The output is as `rt fmt` lays it out.
 """
 import re, sys, os
 from pathlib import Path
