@@ -214,7 +214,7 @@ hall-in-domain =
     let b : Fits (drawnMarked binary64 marksB (hall .b)) = record { even = refl; some = lit< tt; few = lit≤ tt } in
     marked-in-domain binary64 hall bound marksA marksB hall-on-paper a b radiusA radiusB refl refl
 
--- ---- the thin triangle's call does not go round in circles: after its second round another follows, and the place that the third keeps is shorter
+-- ---- no circles in the thin triangle's call: its second round goes on, and the third is the last, as the call tells
 abbrev at : ℕ → State
 at zero = start (drawn binary64 (thin .a)) (drawn binary64 (thin .b)) (poseOf thin) none
 at (suc n) = next (drawn binary64 (thin .a)) (drawn binary64 (thin .b)) (poseOf thin) (at n)
