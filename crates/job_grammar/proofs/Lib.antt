@@ -1,0 +1,4 @@
+pub mod Digits
+pub mod Block
+pub mod Grammar
+pub mod Shown
