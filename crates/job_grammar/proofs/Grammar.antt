@@ -16,9 +16,9 @@ use Rattle.job_text.specs.Job.{wordsOf, wordCount, hexes, jobLine, blockFrom, n
 use Rattle.job_text.proofs.Lines.{length-words}
 use Rattle.job_text.proofs.Read.{Bytes, word-below}
 use Rattle.job_text.proofs.RoundTrip.{line-block-line, job-accepted}
-use Rattle.job_grammar.specs.Grammar.{Decimal, wordsText, JobLine}
-use Rattle.job_grammar.proofs.Digits.{as-printed, at-least-one, print-is-decimal, wordNumbers, words-printed, words-fit, as-many-numbers}
-use Rattle.job_grammar.proofs.Digits.{hexes-are-words, as-many-hexes, line-by-grammar}
+use Rattle.numerals.proofs.Numerals.{as-printed, at-least-one, print-is-decimal}
+use Rattle.job_grammar.specs.Grammar.{wordsText, JobLine}
+use Rattle.job_grammar.proofs.Words.{wordNumbers, words-printed, words-fit, as-many-numbers, hexes-are-words, as-many-hexes, line-by-grammar}
 use Rattle.job_grammar.proofs.Block.{Fits, block-is-bytes, numbers-are-a-job}
 
 -- ---- of the grammar, so a job

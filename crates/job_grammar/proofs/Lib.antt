@@ -1,4 +1,4 @@
-pub mod Digits
+pub mod Words
 pub mod Block
 pub mod Grammar
 pub mod Shown

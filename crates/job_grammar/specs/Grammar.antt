@@ -1,41 +1,13 @@
 -- A job's line by its grammar: the job and both counts in decimal, then the words, a blank between fields and a newline at the end. Nothing here
 -- speaks of blocks or of what a program prints.
 use mathlib.Core.Path.{_≡_}
-use mathlib.Core.Logic.{_⊎_}
-use Prim.Native.Nat.{ℕ, _+_, _-_, _*_, _^_, _≤_, _<_}
+use Prim.Native.Nat.{ℕ, _+_, _*_, _^_, _≤_, _<_}
 use mathlib.Core.List.{List, [], _∷_, _++_}
-use lib.ListN.{length, getD}
+use lib.ListN.{length}
+use Rattle.numerals.specs.Numerals.{Decimal, Capitals}
 
--- ---- decimal
--- 0 to 9
-abbrev pub Digit : ℕ → Type 0
-Digit x = (48 ≤ x) × (x ≤ 57)
-
-unfoldable pub Digits : List ℕ → Type 0
-Digits [] = Unit {0}
-Digits (x ∷ s) = Digit x × Digits s
-
--- the number that digits say, behind those that said v
-unfoldable pub saidFrom : ℕ → List ℕ → ℕ
-saidFrom v [] = v
-saidFrom v (x ∷ s) = saidFrom (v * 10 + (x - 48)) s
-
--- a text of digits that says n; it has a first digit, which is not 0: so there is no leading zero, and n is at least 1
-pub record Decimal (s : List ℕ) (n : ℕ) : Type 0 where
-  pub digits : Digits s
-  pub leading : 49 ≤ getD s 0 0
-  pub says : saidFrom 0 s ≡ n
-
--- ---- words
--- 0 to 9 and A to F
-abbrev pub Capital : ℕ → Type 0
-Capital x = Digit x ⊎ ((65 ≤ x) × (x ≤ 70))
-
-unfoldable pub Capitals : List ℕ → Type 0
-Capitals [] = Unit {0}
-Capitals (x ∷ w) = Capital x × Capitals w
-
--- each is a word of eight such digits
+-- ---- the words
+-- each has eight digits, 0 to 9 and A to F
 unfoldable pub Words : List (List ℕ) → Type 0
 Words [] = Unit {0}
 Words (w ∷ ws) = Capitals w × (length w ≡ 8) × Words ws

@@ -1,19 +1,17 @@
--- Digits by the grammar are the printed digits of the number that they say, and the printed digits are of the grammar. Assumes nothing.
+-- Digits that are read are the printed digits of the number that they say, and the printed digits say that number. Assumes nothing.
 use mathlib.Core.Path.{_≡_, refl, sym, ap, _∙_}
 use mathlib.Core.Bool.{Bool, true, false, cond}
 use mathlib.Core.List.{List, [], _∷_, _++_, append-assoc, append-nil}
-use mathlib.Core.Logic.{_⊎_, inl, inr, ⊎-elim}
+use mathlib.Core.Logic.{_⊎_, inl, inr}
 use Prim.Native.Nat.{ℕ, zero, suc, _+_, _-_, _*_, _/_, _%_, _^_, _≤_, _<_}
 use native.Mathlib.Omega.{arith}
 use borrow.Author.Tests.{lt-ltb, le-ltb, ltb-true, ltb-false}
 use lib.Dec.{ltb}
 use lib.ListN.{length, getD}
-use Rattle.model.specs.Text.{decimalBy, decimal, capital, hexBy, line}
-use Rattle.text.specs.Read.{hexDigit}
-use Rattle.job_text.specs.Job.{hexes}
-use Rattle.job_grammar.specs.Grammar.{Digit, Digits, saidFrom, Decimal, Capital, Capitals, Words, wordsText}
+use Rattle.model.specs.Text.{decimalBy, decimal, capital, hexBy}
+use Rattle.numerals.specs.Numerals.{Digit, Digits, saidFrom, Decimal, Capital, Capitals, worth, wordFrom}
 
--- ---- decimal: from the grammar to the print
+-- ---- decimal: from what is read to the print
 one-more : (k v x : ℕ) → 1 ≤ v → Digit x → decimalBy (suc k) (v * 10 + (x - 48)) ≡ decimalBy k v ++ (x ∷ [])
 unfolding decimalBy
 one-more k v x some (low, high) =
@@ -62,7 +60,7 @@ as-printed (x ∷ s) n p small =
     let below' : n < 10 ^ suc (length s) = rw (more, same) at below in
     steady 19 (length s) n (omega (arith, small)) below' ∙ whole'
 
--- ---- decimal: from the print to the grammar
+-- ---- decimal: from the print to what is read
 digits-then : (s t : List ℕ) → Digits s → Digits t → Digits (s ++ t)
 unfolding Digits
 digits-then [] t h g = g
@@ -77,91 +75,75 @@ leads-on : (s t : List ℕ) → 49 ≤ getD s 0 0 → 49 ≤ getD (s ++ t) 0 0
 leads-on [] t h = absurd (omega (arith, h))
 leads-on (x ∷ s) t h = h
 
-pub print-is-decimal : (k n : ℕ) → 1 ≤ n → n < 10 ^ k → Decimal (decimalBy k n) n
-unfolding decimalBy Digits saidFrom
-print-is-decimal zero n some below = absurd (omega (arith, below))
-print-is-decimal (suc k) n some below = go (ltb n 10) refl (λ large. print-is-decimal k (n / 10) (omega arith) (omega (arith, below)))
+-- what is printed says its number, 0 too
+pub print-says : (k n : ℕ) → n < 10 ^ k → saidFrom 0 (decimalBy k n) ≡ n
+unfolding decimalBy saidFrom
+print-says zero n below = omega (arith, below)
+print-says (suc k) n below = go (ltb n 10) (print-says k (n / 10) (omega (arith, below)))
   where
-    go : (t : Bool) → ltb n 10 ≡ t → (10 ≤ n → Decimal (decimalBy k (n / 10)) (n / 10))
-        → Decimal (cond t ((48 + n) ∷ []) (decimalBy k (n / 10) ++ ((48 + n % 10) ∷ []))) n
-    go true e before =
-        let small : n < 10 = ltb-true n 10 e in
-        record { digits = ((omega arith, omega arith), tt); leading = omega arith; says = omega arith }
-    go false e before =
-        let p = before (ltb-false n 10 e) in
-        record {
-          digits = digits-then (decimalBy k (n / 10)) ((48 + n % 10) ∷ []) (p .digits) ((omega arith, omega arith), tt);
-          leading = leads-on (decimalBy k (n / 10)) ((48 + n % 10) ∷ []) (p .leading);
-          says = said-then 0 (decimalBy k (n / 10)) ((48 + n % 10) ∷ []) ∙ rw (p .says) (omega arith);
-        }
+    go : (t : Bool) → saidFrom 0 (decimalBy k (n / 10)) ≡ n / 10 → saidFrom 0 (cond t ((48 + n) ∷ []) (decimalBy k (n / 10) ++ ((48 + n % 10) ∷ []))) ≡ n
+    go true before = omega arith
+    go false before = said-then 0 (decimalBy k (n / 10)) ((48 + n % 10) ∷ []) ∙ rw before (omega arith)
 
--- ---- words: from the grammar to the print
--- a digit's value, and its capital again
-digit-back : (x : ℕ) → Capital x → (hexDigit x < 16) × (capital (hexDigit x) ≡ x)
+pub print-is-digits : (k n : ℕ) → Digits (decimalBy k n)
+unfolding decimalBy Digits
+print-is-digits zero n = tt
+print-is-digits (suc k) n = go (ltb n 10) refl (print-is-digits k (n / 10))
+  where
+    go : (t : Bool) → ltb n 10 ≡ t → Digits (decimalBy k (n / 10)) → Digits (cond t ((48 + n) ∷ []) (decimalBy k (n / 10) ++ ((48 + n % 10) ∷ [])))
+    go true e before = ((omega arith, omega (arith, ltb-true n 10 e)), tt)
+    go false e before = digits-then (decimalBy k (n / 10)) ((48 + n % 10) ∷ []) before ((omega arith, omega arith), tt)
+
+print-leads : (k n : ℕ) → 1 ≤ n → n < 10 ^ k → 49 ≤ getD (decimalBy k n) 0 0
+unfolding decimalBy
+print-leads zero n some below = absurd (omega (arith, below))
+print-leads (suc k) n some below = go (ltb n 10) refl (λ large. print-leads k (n / 10) (omega arith) (omega (arith, below)))
+  where
+    go : (t : Bool) → ltb n 10 ≡ t → (10 ≤ n → 49 ≤ getD (decimalBy k (n / 10)) 0 0)
+        → 49 ≤ getD (cond t ((48 + n) ∷ []) (decimalBy k (n / 10) ++ ((48 + n % 10) ∷ []))) 0 0
+    go true e before = omega arith
+    go false e before = leads-on (decimalBy k (n / 10)) ((48 + n % 10) ∷ []) (before (ltb-false n 10 e))
+
+pub print-is-decimal : (k n : ℕ) → 1 ≤ n → n < 10 ^ k → Decimal (decimalBy k n) n
+print-is-decimal k n some below = record { digits = print-is-digits k n; leading = print-leads k n some below; says = print-says k n below }
+
+-- ---- hexadecimal: from what is read to the print
+-- a digit's worth, and its capital again
+digit-back : (x : ℕ) → Capital x → (worth x < 16) × (capital (worth x) ≡ x)
 digit-back x (inl (low, high)) =
-    let digit : hexDigit x ≡ x - 48 = rw (le-ltb x 48 low, lt-ltb x 58 (omega arith)) in
+    let digit : worth x ≡ x - 48 = rw (lt-ltb x 65 (omega arith)) in
     let back : 48 + (x - 48) ≡ x = omega arith in
     rw digit (omega arith, rw (lt-ltb (x - 48) 10 (omega arith)) back)
 digit-back x (inr (low, high)) =
-    let digit : hexDigit x ≡ x - 55 = rw (le-ltb x 48 (omega arith), le-ltb x 58 (omega arith), le-ltb x 65 low, lt-ltb x 71 (omega arith)) in
+    let digit : worth x ≡ x - 55 = rw (le-ltb x 65 low) in
     let back : 55 + (x - 55) ≡ x = omega arith in
     rw digit (omega arith, rw (le-ltb (x - 55) 10 (omega arith)) back)
 
-unfoldable pub wordFrom : ℕ → List ℕ → ℕ
-wordFrom v [] = v
-wordFrom v (x ∷ w) = wordFrom (v * 16 + hexDigit x) w
-
-hex-more : (k v x : ℕ) → Capital x → hexBy (suc k) (v * 16 + hexDigit x) ≡ hexBy k v ++ (x ∷ [])
+hex-more : (k v x : ℕ) → Capital x → hexBy (suc k) (v * 16 + worth x) ≡ hexBy k v ++ (x ∷ [])
 unfolding hexBy
 hex-more k v x h =
-    let d = hexDigit x in
+    let d = worth x in
     let small : d < 16 = digit-back x h .0 in
     let before : (v * 16 + d) / 16 ≡ v = omega arith in
     let last : (v * 16 + d) % 16 ≡ d = omega arith in
     rw (before, last, digit-back x h .1)
 
-more-hex : (k v : ℕ) (w : List ℕ) → Capitals w → hexBy (length w + k) (wordFrom v w) ≡ hexBy k v ++ w
+pub more-hex : (k v : ℕ) (w : List ℕ) → Capitals w → hexBy (length w + k) (wordFrom v w) ≡ hexBy k v ++ w
 unfolding Capitals wordFrom
 more-hex k v [] h = let none : 0 + k ≡ k = omega arith in rw none (sym (append-nil (hexBy k v)))
 more-hex k v (x ∷ w) h =
     let next : suc (length w) + k ≡ length w + suc k = omega arith in
     rw next
-    (more-hex (suc k) (v * 16 + hexDigit x) w (h .1) ∙ rw (hex-more k v x (h .0)) (append-assoc (hexBy k v) (x ∷ []) w))
+    (more-hex (suc k) (v * 16 + worth x) w (h .1) ∙ rw (hex-more k v x (h .0)) (append-assoc (hexBy k v) (x ∷ []) w))
 
-word-below : (k v : ℕ) (w : List ℕ) → v < 16 ^ k → Capitals w → wordFrom v w < 16 ^ (length w + k)
+pub word-below : (k v : ℕ) (w : List ℕ) → v < 16 ^ k → Capitals w → wordFrom v w < 16 ^ (length w + k)
 unfolding Capitals wordFrom
 word-below k v [] below h = let none : 0 + k ≡ k = omega arith in rw none below
 word-below k v (x ∷ w) below h =
     let next : suc (length w) + k ≡ length w + suc k = omega arith in
-    rw next (word-below (suc k) (v * 16 + hexDigit x) w (omega (arith, below, digit-back x (h .0) .0)) (h .1))
+    rw next (word-below (suc k) (v * 16 + worth x) w (omega (arith, below, digit-back x (h .0) .0)) (h .1))
 
--- the numbers of words
-unfoldable pub wordNumbers : List (List ℕ) → List ℕ
-wordNumbers [] = []
-wordNumbers (w ∷ ws) = wordFrom 0 w ∷ wordNumbers ws
-
-pub words-printed : (ws : List (List ℕ)) → Words ws → hexes (wordNumbers ws) ≡ ws
-unfolding Words wordNumbers hexes hexBy
-words-printed [] h = refl
-words-printed (w ∷ ws) h =
-    let size : length w + 0 ≡ 8 = omega (arith, h .1) in
-    let one : hexBy 8 (wordFrom 0 w) ≡ w = rw size at (more-hex 0 0 w (h .0)) in
-    rw (one, words-printed ws (h .2))
-
-pub words-fit : (ws : List (List ℕ)) (k : ℕ) → Words ws → getD (wordNumbers ws) k 0 < 2 ^ 32
-unfolding Words wordNumbers
-words-fit [] k h = omega arith
-words-fit (w ∷ ws) zero h =
-    let size : length w + 0 ≡ 8 = omega (arith, h .1) in
-    rw size at (word-below 0 0 w (omega arith) (h .0))
-words-fit (w ∷ ws) (suc k) h = words-fit ws k (h .2)
-
-pub as-many-numbers : (ws : List (List ℕ)) → length (wordNumbers ws) ≡ length ws
-unfolding wordNumbers
-as-many-numbers [] = refl
-as-many-numbers (w ∷ ws) = ap suc (as-many-numbers ws)
-
--- ---- words: from the print to the grammar
+-- ---- hexadecimal: from the print to what is read
 capitals-then : (s t : List ℕ) → Capitals s → Capitals t → Capitals (s ++ t)
 unfolding Capitals
 capitals-then [] t h g = g
@@ -174,34 +156,36 @@ capital-is d small = go (ltb d 10) refl
     go true e = inl (omega arith, omega (arith, ltb-true d 10 e))
     go false e = inr (omega (arith, ltb-false d 10 e), omega arith)
 
-hex-is-capitals : (k n : ℕ) → Capitals (hexBy k n)
+pub hex-is-capitals : (k n : ℕ) → Capitals (hexBy k n)
 unfolding hexBy Capitals
 hex-is-capitals zero n = tt
 hex-is-capitals (suc k) n = capitals-then (hexBy k (n / 16)) (capital (n % 16) ∷ []) (hex-is-capitals k (n / 16)) (capital-is (n % 16) (omega arith), tt)
 
-eight : (n : ℕ) → length (hexBy 8 n) ≡ 8
-unfolding hexBy
-eight n = refl
+word-then : (v : ℕ) (s t : List ℕ) → wordFrom v (s ++ t) ≡ wordFrom (wordFrom v s) t
+unfolding wordFrom
+word-then v [] t = refl
+word-then v (x ∷ s) t = word-then (v * 16 + worth x) s t
 
-pub hexes-are-words : (ns : List ℕ) → Words (hexes ns)
-unfolding Words hexes
-hexes-are-words [] = tt
-hexes-are-words (n ∷ ns) = (hex-is-capitals 8 n, eight n, hexes-are-words ns)
+capital-worth : (d : ℕ) → worth (capital d) ≡ d
+capital-worth d = go (ltb d 10) refl
+  where
+    go : (t : Bool) → ltb d 10 ≡ t → worth (cond t (48 + d) (55 + d)) ≡ d
+    go true e =
+        let low : 48 + d < 65 = omega (arith, ltb-true d 10 e) in
+        let back : 48 + d - 48 ≡ d = omega arith in
+        rw (lt-ltb (48 + d) 65 low) back
+    go false e =
+        let high : 65 ≤ 55 + d = omega (arith, ltb-false d 10 e) in
+        let back : 55 + d - 55 ≡ d = omega arith in
+        rw (le-ltb (55 + d) 65 high) back
 
-pub as-many-hexes : (ns : List ℕ) → length (hexes ns) ≡ length ns
-unfolding hexes
-as-many-hexes [] = refl
-as-many-hexes (n ∷ ns) = ap suc (as-many-hexes ns)
-
--- ---- the fields of a line, in the print's words and in the grammar's
-last-words : (x : List ℕ) (ws : List (List ℕ)) → line (x ∷ ws) ≡ x ++ wordsText ws
-unfolding line wordsText
-last-words x [] = refl
-last-words x (w ∷ ws) = ap (λ (l : List ℕ). x ++ (32 ∷ l)) (last-words w ws)
-
-pub line-by-grammar : (a b c : List ℕ) (ws : List (List ℕ)) → line (a ∷ b ∷ c ∷ ws) ≡ a ++ (32 ∷ (b ++ (32 ∷ (c ++ wordsText ws))))
-unfolding line
-line-by-grammar a b c ws = ap (λ (l : List ℕ). a ++ (32 ∷ (b ++ (32 ∷ l)))) (last-words c ws)
+pub hex-says : (k n : ℕ) → n < 16 ^ k → wordFrom 0 (hexBy k n) ≡ n
+unfolding hexBy wordFrom
+hex-says zero n below = omega (arith, below)
+hex-says (suc k) n below =
+    let before : wordFrom 0 (hexBy k (n / 16)) ≡ n / 16 = hex-says k (n / 16) (omega (arith, below)) in
+    let whole : n / 16 * 16 + n % 16 ≡ n = omega arith in
+    word-then 0 (hexBy k (n / 16)) (capital (n % 16) ∷ []) ∙ rw (before, capital-worth (n % 16)) whole
 
 -- ---- what a decimal says is at least 1
 said-grows : (v : ℕ) (s : List ℕ) → 1 ≤ v → 1 ≤ saidFrom v s
