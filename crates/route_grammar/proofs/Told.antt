@@ -20,10 +20,11 @@ use Rattle.route_line.specs.declared.Line.{Line}
 use Rattle.route_line.specs.Line.{line, between, wordEnd, name, nextKind, atOrStill, takesWord, isWhole, oneMore, named, inName, afterWord, inWord, lineAfter}
 use Rattle.route_line.specs.Line.{hasCart, isRoute, placeIf, placeAfterWord}
 use Rattle.route_line.specs.Text.{wordsText, lineText, Way, wayWords, waysText, stillsText, routeText}
+use Rattle.route_read.specs.declared.Reader.{Reader}
 use Rattle.route_read.specs.Read.{Run, run, noText, byteMore, readerAfter, runOver, nextLine}
 use Rattle.route_text.specs.Answer.{noRouteLine, answerText}
 use Rattle.route_grammar.specs.Grammar.{Fit, FitWays, FitStills, RouteText}
-use Rattle.route_grammar.proofs.Kept.{countFrom, Taken}
+use Rattle.route_grammar.proofs.Kept.{countFrom, Taken, Between, holds, Ready, behind-cart, behind-way, Done, no-still, behind-still, text-run}
 
 -- ---- the line alone
 unfoldable over : Line → List ℕ → Line
@@ -457,12 +458,28 @@ route-text t a =
           ∙ regroup one two (waysText (r .ways)) (stillsText (r .stills));
     }
 
--- every text is some route's, or it is told by 14 and the line after those that fit
-pub route-or-14 : (floats : List Float) (lengths : List ℕ) (text : List ℕ) →
-    RouteText text ⊎ (answerText floats lengths text ≡ noRouteLine (nextLine (runOver (run noText floats lengths) text .reader .lines)))
-route-or-14 floats lengths text = go (isRoute (runOver (run noText floats lengths) text .reader .line)) refl
+-- ---- what the reader takes for a route is the text of one, and nothing else is; whatever lists are lent
+abbrev pub readTo : List Float → List ℕ → List ℕ → Reader
+readTo floats lengths text = runOver (run noText floats lengths) text .reader
+
+pub taken-is-route : (floats : List Float) (lengths : List ℕ) (text : List ℕ) → isRoute (readTo floats lengths text .line) ≡ true → RouteText text
+taken-is-route floats lengths text e = route-text text (ap isRoute (sym (line-of-run (run noText floats lengths) text)) ∙ e)
+
+pub route-is-taken : (floats : List Float) (lengths : List ℕ) (text : List ℕ) → RouteText text → isRoute (readTo floats lengths text .line) ≡ true
+route-is-taken floats lengths text r =
+    rw (r .whole) (done _ (text-run floats lengths (r .slop) (r .cart) (r .ways) (r .stills) (r .slop-fits) (r .cart-fits) (r .ways-fit) (r .stills-fit)))
   where
-    go : (b : Bool) → isRoute (runOver (run noText floats lengths) text .reader .line) ≡ b
-        → RouteText text ⊎ (answerText floats lengths text ≡ noRouteLine (nextLine (runOver (run noText floats lengths) text .reader .lines)))
-    go true e = inl (route-text text (ap isRoute (sym (line-of-run (run noText floats lengths) text)) ∙ e))
+    done : {ks : List Float} {ns : List ℕ} {c e : ℕ} (s : Run) → Done floats lengths ks ns c e s → isRoute (s .reader .line) ≡ true
+    done _ (no-still (behind-cart (holds n m))) = refl
+    done _ (no-still (behind-way (holds n m))) = refl
+    done _ (behind-still (holds n m)) = refl
+
+-- so every text is some route's, or it is told by 14 and the line after those that fit
+pub route-or-14 : (floats : List Float) (lengths : List ℕ) (text : List ℕ) →
+    RouteText text ⊎ (answerText floats lengths text ≡ noRouteLine (nextLine (readTo floats lengths text .lines)))
+route-or-14 floats lengths text = go (isRoute (readTo floats lengths text .line)) refl
+  where
+    go : (b : Bool) → isRoute (readTo floats lengths text .line) ≡ b
+        → RouteText text ⊎ (answerText floats lengths text ≡ noRouteLine (nextLine (readTo floats lengths text .lines)))
+    go true e = inl (taken-is-route floats lengths text e)
     go false e = inr (rw e)
