@@ -17,10 +17,10 @@ use Rattle.model.specs.Blocks.{isGood}
 use Rattle.wire.specs.Bytes.{wordBytes}
 use Rattle.block.proofs.Passed.{passed-good}
 use Rattle.model.specs.Text.{decimal, line}
-use Rattle.job_text.specs.Job.{placeOf, wordsOf, hexes, jobLine, wordAt, firstWords, sumOfFirst, blockFrom, plainBlock, isJob}
+use Rattle.job_text.specs.Job.{placeOf, wordsOf, wordCount, hexes, jobLine, wordAt, firstWords, sumOfFirst, blockFrom, blockFor, plainBlock, isJob}
 use Rattle.job_text.proofs.Built.{length-first, length-block}
 use Rattle.job_text.proofs.Read.{Bytes}
-use Rattle.job_text.proofs.RoundTrip.{its-line-is-a-job}
+use Rattle.job_text.proofs.RoundTrip.{its-line-is-a-job, block-text-block}
 
 -- ---- the bytes of a built block
 first-at : (ns : List ℕ) (n i k : ℕ) → i < n → k < 4 → getD (firstWords ns n) (4 * i + k) 0 ≡ getD (wordBytes (wordAt ns i)) k 0
@@ -292,11 +292,27 @@ module _ (job a c : ℕ) (ws : List ℕ) (fits : Fits job a c ws) where
   passes = rw (form-is, accepted)
 
   -- ---- and its line is the one of its numbers
+  all-words : wordsOf (blockFrom numbers) (24 + 2 * a + 2 * c) ≡ ws
+  all-words =
+      let all : length ws ≤ 24 + 2 * a + 2 * c = omega (arith, fits .as-many) in
+      words-are (24 + 2 * a + 2 * c) (omega arith) ∙ take-all (24 + 2 * a + 2 * c) ws all
+
   its-line : jobLine (blockFrom numbers) ≡ line (decimal job ∷ decimal a ∷ decimal c ∷ hexes ws)
   unfolding jobLine
-  its-line =
-      let all : length ws ≤ 24 + 2 * a + 2 * c = omega (arith, fits .as-many) in
-      rw (job-is, a-is, c-is, words-are (24 + 2 * a + 2 * c) (omega arith), take-all (24 + 2 * a + 2 * c) ws all)
+  its-line = rw (job-is, a-is, c-is, all-words)
 
   pub numbers-are-a-job : isJob (line (decimal job ∷ decimal a ∷ decimal c ∷ hexes ws)) ≡ true
   numbers-are-a-job = rw its-line at (its-line-is-a-job (blockFrom numbers) (length-block numbers) (block-is-bytes numbers) passes)
+
+  -- the block of that line is this one, with what the line says
+  pub record Holds (b : List ℕ) : Type 0 where
+    pub job-held : jobOf b ≡ job
+    pub a-held : byte b 4 ≡ a
+    pub c-held : byte b 5 ≡ c
+    pub words-held : wordsOf b (wordCount b) ≡ ws
+
+  pub block-holds : Holds (blockFor (line (decimal job ∷ decimal a ∷ decimal c ∷ hexes ws)))
+  block-holds =
+      let back : blockFor (line (decimal job ∷ decimal a ∷ decimal c ∷ hexes ws)) ≡ blockFrom numbers =
+      ap blockFor (sym its-line) ∙ block-text-block (blockFrom numbers) (length-block numbers) (block-is-bytes numbers) passes in
+      rw back (record { job-held = job-is; a-held = a-is; c-held = c-is; words-held = rw (a-is, c-is) all-words })

@@ -6,33 +6,28 @@ use native.Mathlib.Omega.{arith}
 use lib.ListN.{length, getD}
 use Rattle.model.specs.Text.{hexBy, line}
 use Rattle.job_text.specs.Job.{hexes}
-use Rattle.numerals.specs.Numerals.{Capitals, wordFrom}
+use Rattle.numerals.specs.Numerals.{wordFrom}
 use Rattle.numerals.proofs.Numerals.{more-hex, word-below, hex-is-capitals}
-use Rattle.job_grammar.specs.Grammar.{Words, wordsText}
+use Rattle.job_grammar.specs.Grammar.{Words, wordsText, numbersOf}
 
--- the numbers of words
-unfoldable pub wordNumbers : List (List ℕ) → List ℕ
-wordNumbers [] = []
-wordNumbers (w ∷ ws) = wordFrom 0 w ∷ wordNumbers ws
-
-pub words-printed : (ws : List (List ℕ)) → Words ws → hexes (wordNumbers ws) ≡ ws
-unfolding Words wordNumbers hexes hexBy
+-- ---- from the grammar to the print, by the numbers that the words say
+pub words-printed : (ws : List (List ℕ)) → Words ws → hexes (numbersOf ws) ≡ ws
+unfolding Words hexes hexBy
 words-printed [] h = refl
 words-printed (w ∷ ws) h =
     let size : length w + 0 ≡ 8 = omega (arith, h .1) in
     let one : hexBy 8 (wordFrom 0 w) ≡ w = rw size at (more-hex 0 0 w (h .0)) in
     rw (one, words-printed ws (h .2))
 
-pub words-fit : (ws : List (List ℕ)) (k : ℕ) → Words ws → getD (wordNumbers ws) k 0 < 2 ^ 32
-unfolding Words wordNumbers
+pub words-fit : (ws : List (List ℕ)) (k : ℕ) → Words ws → getD (numbersOf ws) k 0 < 2 ^ 32
+unfolding Words
 words-fit [] k h = omega arith
 words-fit (w ∷ ws) zero h =
     let size : length w + 0 ≡ 8 = omega (arith, h .1) in
     rw size at (word-below 0 0 w (omega arith) (h .0))
 words-fit (w ∷ ws) (suc k) h = words-fit ws k (h .2)
 
-pub as-many-numbers : (ws : List (List ℕ)) → length (wordNumbers ws) ≡ length ws
-unfolding wordNumbers
+pub as-many-numbers : (ws : List (List ℕ)) → length (numbersOf ws) ≡ length ws
 as-many-numbers [] = refl
 as-many-numbers (w ∷ ws) = ap suc (as-many-numbers ws)
 
