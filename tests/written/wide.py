@@ -16,7 +16,7 @@ CRATES = 'model ground domain outline simplex distance separation sweep_toi toi_
 WRITTEN = ['root']
 # files of model that mention a record with floats, and are written again for f64; the others are shared
 SPECS = 'Ground Domain Support Second Simplex Distance Sweep Separation SweepToi Corners Work Sheet'.split()
-PROOFS = 'Domain Support Second Simplex DistanceCall Searches Repeats Sheet'.split()
+PROOFS = 'Domain Support Second Simplex DistanceCall Searches Sheet'.split()
 # literals that differ between the widths
 LITERALS = {'3.4028235e38': '1.7976931348623157e308', '1.1920929e-7': '2.220446049250313e-16'}
 # patterns of bits, in the files that work on them: there u32 is u64 besides
