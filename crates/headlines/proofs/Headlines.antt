@@ -54,11 +54,25 @@ use Rattle.exact.proofs.Demand3.{demand3}
 use Rattle.exact.proofs.Accepted.{accepted}
 use Rattle.exact.proofs.Demand3.{exact-on-squared-paper}
 use Rattle.exact.proofs.Demand3.{answered-on-squared-paper}
--- where a round goes on and another follows, the kept vertices' nearest place gets shorter, or it stays and the call settles there
+-- where a round goes on and another follows, the kept vertices' nearest place gets shorter, or it stays and the call tells that it settled there
 use Rattle.circles.specs.NoCircles.{NoCircles}
 use Rattle.circles.proofs.NoCircles.{no-circles}
 use Rattle.circles.proofs.NoCircles.{no-circles-on-squared-paper}
+use Rattle.circles.proofs.NoCircles.{no-circles-within}
 use Rattle.circles.proofs.NoCircles.{left-to-do}
+use Rattle.circles.proofs.NoCircles.{made-are-counted}
+use Rattle.circles.proofs.Told.{told-by-rounds}
+-- within 16 a call tells at most 19 rounds (within 22 in f64), whatever its cache
+use Rattle.round_limit.specs.RoundLimit.{TellsAtMost}
+use Rattle.round_limit.proofs.InTime.{tells-at-most}
+use Rattle.round_limit.proofs.InTime.{at-most-19-rounds}
+-- within 16 (22 in f64) the two calls are answered and tell the one nearest difference, exchanged or shifted, from the domain and caches that are ..
+use Rattle.exchange_always.specs.Always.{ExchangeAlways}
+use Rattle.exchange_always.specs.Always.{ShiftAlways}
+use Rattle.exchange_always.proofs.Always.{exchange-always}
+use Rattle.exchange_always.proofs.Always.{shift-always}
+use Rattle.exchange_always.proofs.Always.{exchange-always-on-squared-paper}
+use Rattle.exchange_always.proofs.Always.{shift-always-on-squared-paper}
 -- exchanging the outlines under the inverse pose negates and turns the one nearest difference, a shift of B that the pose takes back keeps it, and ..
 use Rattle.exchange.specs.Exchange.{Exchange}
 use Rattle.exchange.specs.Exchange.{Shift}
@@ -75,13 +89,25 @@ use Rattle.round_limit.proofs.InTime.{never-run-out}
 use Rattle.round_limit.proofs.InTime.{limit-never-reached}
 use Rattle.round_limit.proofs.InTime.{always-exact}
 use Rattle.round_limit.proofs.InTime.{always-exact-on-squared-paper}
+
+-- ---- The port
+-- the cast of support to u32 is idle in the domain
+use Rattle.model.proofs.Support.{support-is-whole}
+use Rattle.model.proofs.Support.{support-is-a-point}
+-- a fixed state repeats: distance calls that leave time and cache as they were add their counts and change nothing else, corners included
+use Rattle.sweep_toi.proofs.Repeats.{calls-repeat}
+use Rattle.sweep_toi.proofs.Repeats.{call-corners-stay}
+-- a distance call that leaves three vertices measures 0 or NaN, so that a sweep whose distance is a number ends overlapped before three corner pairs ..
+use Rattle.model.proofs.ThreeVertices.{three-vertices-measure-nothing}
+use Rattle.model.proofs.ThreeVertices.{three-vertices-end-a-sweep}
+
+-- ---- Ask 5: first guesses for the root
 -- each of the 1,024 first guesses is the largest whole number whose square is at most k · 2^38, computed over the whole list
 use Rattle.root_list.proofs.Rule.{rule}
 -- from any guess that meets the rule, one correction and one test give the whole number nearest to the root
 use Rattle.root.proofs.Halley.{nearest-from-guess}
--- the cast of support to u32 is idle in the domain
-use Rattle.model.proofs.Support.{support-is-whole}
-use Rattle.model.proofs.Support.{support-is-a-point}
+
+-- ---- Ask 4: two corners on one line
 -- the second index of support: its value equals the winning one as floats do, no higher index has an equal value, it is at least the first and a ..
 use Rattle.model.proofs.Second.{second-is-second}
 use Rattle.model.specs.Second.{IsSecond}
@@ -100,12 +126,8 @@ use Rattle.model.proofs.Searches.{corners-of-the-last}
 use Rattle.model.proofs.Searches.{last-is-last}
 use Rattle.model.proofs.Searches.{first-of-a}
 use Rattle.model.proofs.Searches.{first-of-b}
--- a fixed state repeats: distance calls that leave time and cache as they were add their counts and change nothing else, corners included
-use Rattle.sweep_toi.proofs.Repeats.{calls-repeat}
-use Rattle.sweep_toi.proofs.Repeats.{call-corners-stay}
--- a distance call that leaves three vertices measures 0 or NaN, so that a sweep whose distance is a number ends overlapped before three corner pairs ..
-use Rattle.model.proofs.ThreeVertices.{three-vertices-measure-nothing}
-use Rattle.model.proofs.ThreeVertices.{three-vertices-end-a-sweep}
+
+-- ---- The batch, its lines and its totals, and Ask 2: failed is not a contact
 -- a file is one list of blocks, the last one short where bytes are left over
 use Rattle.model.specs.Blocks.{blocks}
 use Rattle.model.proofs.Blocks.{blocks-in-two-parts}
@@ -129,6 +151,8 @@ use Rattle.model.proofs.Sheet.{totals-add-up}
 use Rattle.model.proofs.Counted.{sheet-counted}
 use Rattle.model.proofs.Counted.{SheetCounted}
 use Rattle.model.proofs.Counted.{letter-printed}
+
+-- ---- Ask 7: is there anything in this batch?
 -- the number of the first contact is above 0 if and only if contact in TOTAL is
 use Rattle.any_contact_search.proofs.First.{first-contact}
 use Rattle.any_contact_search.specs.First.{FirstContact}
@@ -137,6 +161,8 @@ use Rattle.any_contact_search.proofs.First.{rest-passed-over}
 use Rattle.any_contact_search.proofs.Run.{short-part-ends}
 -- the search by the code's own function over parts of 64 KiB, the last one shorter, finds the first contact of the whole, for every file below 2^63 ..
 use Rattle.any_contact_search.proofs.Run.{search-finds-first}
+
+-- ---- Ask 9: block form 2
 -- in form 2 any exchange of words i and i + 1 that differ, i from 0 to 125, is refused by 10 where the check was right and byte 6 is 2 before and after
 use Rattle.convert_forms.proofs.Exchange.{exchange-refused}
 -- an exchange that sets byte 6 to 0 can pass as form 1: an instance
@@ -153,6 +179,8 @@ use Rattle.convert_forms.proofs.Kept.{two-runs}
 use Rattle.convert_forms.proofs.Kept.{second-run-silent}
 -- a conversion by the code's own function over parts of 64 KiB, the last one shorter, writes and tells what the whole comes to, for every file below ..
 use Rattle.convert_forms.proofs.Run.{run-converts-whole}
+
+-- ---- Ask 11: getting a damaged batch back
 -- what salvage prints and writes of a file: runs and kept blocks go over it from place 0 to its end, each from where the one before it ended
 use Rattle.salvage_walk.proofs.Told.{salvaged}
 use Rattle.salvage_walk.specs.Told.{Salvage}
@@ -164,6 +192,8 @@ use Rattle.salvage_walk.proofs.Run.{run-salvages-whole}
 use Rattle.salvage_walk.proofs.Steps.{walked-by-parts}
 -- no block starts at places 360 to 504 of one that passes, whatever follows it
 use Rattle.salvage_walk.proofs.Passing.{none-among-zeros}
+
+-- ---- Ask 3: plates and bars
 -- a plate that is built has at corner k its half sizes, x negated where bit 0 of k is set and y where bit 1 is
 use Rattle.shapes.proofs.Corners.{plate-corner}
 use Rattle.shapes.proofs.Corners.{bar-corners}
@@ -176,11 +206,15 @@ use Rattle.shapes.proofs.Corners.{size-kept}
 -- the corners of a plate or a bar that is built, not placed, pass the checks of outlines
 use Rattle.shapes.proofs.Corners.{plate-accepted}
 use Rattle.shapes.proofs.Corners.{bar-accepted}
--- the gap at a fraction is the distance that a sweep of these moves works there from no corners, whatever its radii, its last time and its slop
-use Rattle.at_fraction.proofs.Sweeps.{gap-is-the-sweeps}
 -- a half size of -0 passes, and gives +0 where its bit is set
 use Rattle.shapes.proofs.Corners.{minus-zero-passes}
 use Rattle.shapes.proofs.Corners.{minus-zero-turns}
+
+-- ---- One moment of a move
+-- the gap at a fraction is the distance that a sweep of these moves works there from no corners, whatever its radii, its last time and its slop
+use Rattle.at_fraction.proofs.Sweeps.{gap-is-the-sweeps}
+
+-- ---- Ask 1: a writer for job blocks, and a reader
 -- digits that were written are read back as the number that they were written for, decimal and hexadecimal
 use Rattle.text.proofs.ReadBack.{decimal-value}
 use Rattle.text.proofs.ReadBack.{hex-value}
@@ -194,6 +228,11 @@ use Rattle.job_text.proofs.RoundTrip.{its-line-is-a-job}
 use Rattle.job_text.proofs.RoundTrip.{block-text-block}
 -- a line that is a job: the line of its block is that line
 use Rattle.job_text.proofs.RoundTrip.{line-block-line}
+-- a line is a job if and only if it is of the grammar: job from 1 to 2^32 − 1 and both counts from 1 to 16 in decimal without leading zeros, so many ..
+use Rattle.job_grammar.specs.Grammar.{JobLine}
+use Rattle.job_grammar.proofs.Grammar.{grammar-is-job}
+use Rattle.job_grammar.proofs.Grammar.{job-is-grammar}
+use Rattle.job_grammar.proofs.Shown.{rows}
 -- a line is a job or it is not: isJob answers true or false for every list of bytes
 use Rattle.job_text.specs.Job.{isJob}
 use Rattle.job_text.proofs.Shown.{job}
@@ -207,6 +246,8 @@ use Rattle.pack_lines.proofs.PackRun.{run-packs-whole}
 use Rattle.unpack_blocks.proofs.UnpackRun.{run-unpacks-whole}
 use Rattle.pack_lines.proofs.PackRun.{pack-run}
 use Rattle.unpack_blocks.proofs.UnpackRun.{unpack-run}
+
+-- ---- Ask 13: where in the move it happens
 -- two reports put together are the report of both lists of batches in order
 use Rattle.report_counts.proofs.Merged.{report-of-both}
 use Rattle.report_counts.proofs.Merged.{together-assoc}
@@ -220,14 +261,25 @@ use Rattle.report_batches.proofs.Eighths.{ends}
 use Rattle.report_batches.proofs.Eighths.{not-a-number}
 -- hits by fraction add up to HIT, refusals by number to REFUSED, and clear, overlapped, failed, hit and refused to BLOCKS, for all files below 2^64 ..
 use Rattle.report_batches.proofs.Numbers.{report-adds-up}
+use Rattle.report_batches.specs.Told.{AddsUp}
 use Rattle.report_batches.proofs.Numbers.{file-given}
 -- blocks, clear, overlapped, failed, hit and refused are what a reader counts on the lines of the files' sheets
 use Rattle.report_batches.proofs.AsSheet.{as-sheets}
+-- so are the rows of hits by fraction (the lines with H whose printed fraction belongs there) and of refusals by number, and each of the three ..
+use Rattle.report_from_lines.specs.Printed.{FromLines}
+use Rattle.report_from_lines.specs.Printed.{FirstLargest}
+use Rattle.report_from_lines.proofs.FromLines.{report-from-lines}
+use Rattle.report_from_lines.proofs.Shown.{hit-row}
+use Rattle.report_from_lines.proofs.Shown.{refusal-row}
+use Rattle.report_from_lines.proofs.Shown.{counts-shown}
 -- each of the three largest counts stands on a worked block at its place, no block has a larger one, and every worked block before it has a smaller one
 use Rattle.report_batches.proofs.Firsts.{firsts}
+use Rattle.report_batches.specs.Told.{Firsts}
 -- a batch worked in parts of 64 KiB, the last one shorter, gives the report of the whole
 use Rattle.report_batches.proofs.Run.{a-batch-in-parts}
 use Rattle.report_batches.proofs.Run.{files-in-order}
+
+-- ---- Ask 6: routes
 -- a route whose lists are right comes to one of two: clear, every leg separated from every still outline, with the distance calls of all sweeps
 use Rattle.route_legs.proofs.First.{route-outcome}
 use Rattle.route_legs.specs.Promise.{Outcome}
@@ -250,9 +302,24 @@ use Rattle.route_read.proofs.Written.{written-is-read}
 use Rattle.route_line.specs.Text.{routeText}
 use Rattle.route_read.proofs.Shown.{the-least}
 use Rattle.route_read.proofs.Shown.{blank-too-many}
+-- a route that is read is the route that was written: of every route's text, however long, the line told is the answer of that route by its own ..
+use Rattle.route_grammar.proofs.Suffice.{answer-of-text}
+use Rattle.route_grammar.proofs.Suffice.{run-answers-route}
+use Rattle.route_grammar.specs.Grammar.{routeFor}
+use Rattle.route_grammar.proofs.Suffice.{numbers-suffice}
+-- where no line has more than 129 numbers and there are at most 33 waypoints and 32 outlines, what is handed on is those numbers, piece by piece
+use Rattle.route_grammar.specs.Grammar.{Within}
+use Rattle.route_grammar.specs.Grammar.{Handed}
+use Rattle.route_grammar.proofs.Suffice.{read-as-written}
+use Rattle.route_grammar.proofs.Shown.{pieces}
+-- every text is the text of some route, or it is told by 14
+use Rattle.route_grammar.specs.Grammar.{RouteText}
+use Rattle.route_grammar.proofs.Told.{route-or-14}
 -- a route's text read part by part by the code's own functions is answered as the whole
 use Rattle.route_text.proofs.Run.{run-answers-whole}
 use Rattle.route_read.proofs.Runs.{run-reads-whole}
+
+-- ---- Ask 12: the f64 build
 -- the f64 crates' definitions are model's through maps of the records, for every format: solvers, distance call, separation, sweep with its corners, ..
 use Rattle.bridge.proofs.Simplex.{solve-same}
 use Rattle.bridge.proofs.Distance.{proxy-distance-same}
@@ -264,15 +331,39 @@ use Rattle.bridge.proofs.Corners.{swept-same}
 use Rattle.bridge.proofs.Sheet.{block-answer-same}
 use Rattle.bridge.proofs.Sheet.{lines-same}
 use Rattle.bridge.proofs.Sheet.{totals-same}
+-- so is every other definition of theirs that a public contract names (tests/written/bridge.py names one without its law): ground operations, checks ..
+use Rattle.bridge.proofs.Ground.{rotate-same}
+use Rattle.bridge.proofs.Domain.{outline-refusal-same}
+use Rattle.bridge.proofs.Domain.{checked-pose-same}
+use Rattle.bridge.proofs.Domain.{refusal-of-pose-same}
+use Rattle.bridge.proofs.Domain.{support-answer-same}
+use Rattle.bridge.proofs.Corners.{advanced-same}
+use Rattle.bridge.proofs.Sheet.{told-swept-same}
+-- what the f64 crates define of their own is what the f32 crates do: the separation by poses, the flat list of point records, the calls over lists
+use Rattle.bridge_own.proofs.ByPoses.{new-separation-by-same}
+use Rattle.bridge_own.proofs.ByPoses.{search-by-same}
+use Rattle.bridge_own.proofs.ByPoses.{between-same}
+use Rattle.bridge_own.proofs.Points.{flat-same}
+use Rattle.bridge_own.proofs.Entry.{sweep-told-same}
+use Rattle.bridge_own.proofs.Entry.{distance-told-same}
+use Rattle.bridge_own.proofs.Text.{floats-same}
+use Rattle.bridge_own.proofs.Text.{line-for-same}
 -- on squared paper the f64 code's own call is exact within 2,048 and is answered
 use Rattle.exact64.proofs.Exact.{exact-wide}
 use Rattle.exact64.proofs.Exact.{answered-wide}
 use Rattle.exact64.proofs.Exact.{no-circles-wide}
 use Rattle.exact64.proofs.Exact.{exchange-wide}
 use Rattle.exact64.proofs.Exact.{shift-wide}
+use Rattle.exact64.proofs.Rounds.{left-to-do as left-to-do-exact64}
+-- within 22 it never reaches the round limit and tells at most 19 rounds, and Ask 14 holds with no "unless"
 use Rattle.exact64.proofs.Exact.{always-exact-wide}
+use Rattle.exact64.proofs.Exact.{at-most-19-rounds-wide}
+use Rattle.exact64.proofs.Exact.{exchange-always-wide}
+use Rattle.exact64.proofs.Exact.{shift-always-wide}
 -- a run of sheet64's own function over parts of 64 KiB gives model's sheet at binary64, for every file below 2^63 bytes
 use Rattle.sheet_lines64.proofs.Run.{run-gives-sheet as run-gives-sheet-sheet-lines64}
+
+-- ---- That no second result fits
 -- that no second result fits, nor a second content of a list lent to be written: one statement for each public function, of the contract that its ..
 use Rattle.promises.specs.OneResult.{OneResult}
 use Rattle.promises.proofs.EveryFunction.{ground-add}

@@ -69,7 +69,7 @@ noNewline = take 257 fair
 abbrev twoNewlines : List ℕ
 twoNewlines = fair ++ (10 ∷ [])
 
-rows : (isJob fair ≡ true) × (isJob leadingZero ≡ false) × (isJob jobZero ≡ false) × (isJob jobTooLarge ≡ false) × (isJob noPoint ≡ false)
+pub rows : (isJob fair ≡ true) × (isJob leadingZero ≡ false) × (isJob jobZero ≡ false) × (isJob jobTooLarge ≡ false) × (isJob noPoint ≡ false)
     × (isJob seventeenPoints ≡ false) × (isJob zeroBeforeCount ≡ false) × (isJob smallLetters ≡ false) × (isJob sevenDigits ≡ false)
     × (isJob nineDigits ≡ false) × (isJob twoBlanks ≡ false) × (isJob blankFirst ≡ false) × (isJob wordMissing ≡ false) × (isJob wordTooMany ≡ false)
     × (isJob noNewline ≡ false) × (isJob twoNewlines ≡ false) × (noNewline ++ (10 ∷ []) ≡ fair)

@@ -12,7 +12,7 @@ use Rattle.model.specs.declared.Status.{Status}
 use Rattle.model.specs.declared.Status.the-variants.{Overlapped, Hit, Separated, Failed}
 use Rattle.model.specs.declared.BlockAnswer.{BlockAnswer}
 use Rattle.model.specs.declared.BlockAnswer.the-variants.{Worked, Refused}
-use Rattle.report_batches.specs.Told.{sumOfRows, AddsUp}
+use Rattle.report_batches.specs.Told.{sumOfRows, AddsUp, Given}
 use Rattle.report_counts.specs.Rows.{statusRow, hitRow, refusalRow, detailBy, rowsOf, rowsIn, timesIn}
 use Rattle.report_counts.specs.Largest.{hold}
 use Rattle.report_counts.specs.Report.{everyAnswer, tally, report}
@@ -198,10 +198,6 @@ of-refusal d low high = record {
 }
 
 -- ---- answers
--- a number that a block can be refused by: 3 to 11, or 13
-abbrev pub Given : ℕ → Type 0
-Given n = (3 ≤ n) × (n ≤ 13) × (n ≡ 12 → ⊥)
-
 abbrev pub NumberGiven : BlockAnswer → Type 0
 NumberGiven (Worked job v) = Unit {0}
 NumberGiven (Refused job number) = Given number

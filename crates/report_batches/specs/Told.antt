@@ -12,6 +12,10 @@ use Rattle.report_counts.specs.declared.most.Most.the-variants.{Nowhere, At}
 use Rattle.report_counts.specs.declared.most.Largest.{Largest}
 use Rattle.report_counts.specs.Largest.{hold}
 
+-- a number that a block can be refused by: 3 to 11, or 13
+abbrev pub Given : ℕ → Type 0
+Given n = (3 ≤ n) × (n ≤ 13) × (n ≡ 12 → ⊥)
+
 -- ---- rows that add up
 -- the sum of n counts from row k on
 unfoldable pub sumOfRows : ℕ → ℕ → List ℕ → ℕ

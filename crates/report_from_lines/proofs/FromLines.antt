@@ -33,10 +33,11 @@ use Rattle.report_counts.specs.Report.{everyAnswer, report}
 use Rattle.report_counts.proofs.Tally.{times-append, rows-append, getD-tally, hit-rows, refusal-past}
 use Rattle.report_batches.specs.Batches.{answersOf}
 use Rattle.report_batches.proofs.AsSheet.{allLines}
-use Rattle.report_batches.proofs.Firsts.{Place, inBatch, inBatches, shownAt, Told, Firsts, firsts, callsOf, searchesOf, stepsOf}
-use Rattle.report_batches.proofs.Firsts as Firsts
+use Rattle.report_batches.specs.Told.{Given, Place, inBatch, inBatches, shownAt, Told, Firsts, callsOf, searchesOf, stepsOf}
+use Rattle.report_batches.specs.Told as OfPlaces
+use Rattle.report_batches.proofs.Firsts.{firsts}
 use Rattle.report_from_lines.specs.Printed.{upToBlank, fieldAt, numberAt, blockPrinted, refusalPrinted, fractionPrinted, countOf, isHitIn, isRefusedBy}
-use Rattle.report_from_lines.specs.Printed.{Printed, onSheet, printedBehind, shows, FirstLargest, none, first, Given, FromLines}
+use Rattle.report_from_lines.specs.Printed.{Printed, onSheet, printedBehind, shows, FirstLargest, none, first, FromLines}
 use Rattle.report_from_lines.proofs.Fields.{Each, field-is}
 use Rattle.report_from_lines.proofs.Worked.{Small, Fair, EachFair, file-fair}
 
@@ -260,8 +261,8 @@ shown-at : (which : Counts → ℕ) (ps : List Place) (k : ℕ)
 shown-at which ps k = List·getD-map (shownAt which) ps k (record { batch = 0; block = 0; answer = Refused 0 0 })
 
 told-first : (which : Counts → ℕ) (ps : List Place) (m : Most) → Told which ps m → FirstLargest (map (shownAt which) ps) m
-told-first which ps m (Firsts.none is quiet) = none is (λ k. shown-at which ps k ∙ quiet k)
-told-first which ps m (Firsts.first k n i j is inside here most less) =
+told-first which ps m (OfPlaces.none is quiet) = none is (λ k. shown-at which ps k ∙ quiet k)
+told-first which ps m (OfPlaces.first k n i j is inside here most less) =
     first k n i j is (rw (length-map ps (shownAt which)) inside) (shown-at which ps k ∙ here) (λ l. rw (shown-at which ps l) (most l))
     (λ l before. rw (shown-at which ps l) (less l before))
 

@@ -41,7 +41,8 @@ use Rattle.model.specs.Work.{floatsAt, numbersOf, pointsA, pointsB, moveAt, swe
 use Rattle.model.specs.Sheet.{answerOf, answers}
 use Rattle.model.proofs.SweepToi.{Bounded, Counted, sweep-counts-bounded}
 use Rattle.report_counts.proofs.Tally.{by-test}
-use Rattle.report_batches.proofs.AddUp.{Given, NumbersGiven}
+use Rattle.report_batches.specs.Told.{Given}
+use Rattle.report_batches.proofs.AddUp.{NumbersGiven}
 use Rattle.report_batches.proofs.Numbers.{file-given}
 
 -- ---- the fraction that a sweep tells is a value of the format, where the max fraction is

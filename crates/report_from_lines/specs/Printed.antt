@@ -14,6 +14,7 @@ use Rattle.report_counts.specs.declared.most.Most.the-variants.{Nowhere, At}
 use Rattle.report_counts.specs.declared.counting.Report.{Report}
 use Rattle.report_counts.specs.Rows.{hitRow, refusalRow}
 use Rattle.report_counts.specs.Largest.{hold}
+use Rattle.report_batches.specs.Told.{Given, AtMost, Below}
 
 -- ---- fields
 -- up to a blank or the newline
@@ -80,15 +81,6 @@ printedBehind i (b ∷ bs) = onSheet (i + 1) (sheetLines binary32 b) ++ printedB
 abbrev pub shows : ℕ → Printed → Most
 shows k p = cond (eqb (printedLetter (p .line)) 0) Nowhere (At (numberAt k (p .line)) (p .sheet) (blockPrinted (p .line)))
 
--- at most n, and below n; what shows nothing is both
-abbrev pub AtMost : ℕ → Most → Type 0
-AtMost n Nowhere = Unit {0}
-AtMost n (At m i j) = m ≤ n
-
-abbrev pub Below : ℕ → Most → Type 0
-Below n Nowhere = Unit {0}
-Below n (At m i j) = m < n
-
 -- m is what is shown at place k; nothing that is shown is larger, and all before it is smaller. Or nothing is shown at all
 pub data FirstLargest (shown : List Most) (m : Most) : Type 0 where
   none : m ≡ Nowhere → ((k : ℕ) → getD shown k Nowhere ≡ Nowhere) → FirstLargest shown m
@@ -96,10 +88,6 @@ pub data FirstLargest (shown : List Most) (m : Most) : Type 0 where
       → ((l : ℕ) → l < k → Below n (getD shown l Nowhere)) → FirstLargest shown m
 
 -- ---- the report of files
--- the numbers that a block can be refused by
-abbrev pub Given : ℕ → Type 0
-Given n = (3 ≤ n) × (n ≤ 13) × (n ≡ 12 → ⊥)
-
 -- its rows of hits and of refusals are counted from the lines, and its three largest counts are the first largest that they show
 pub record FromLines (lines : List (List ℕ)) (printed : List Printed) (r : Report) : Type 0 where
   pub hits : (row : ℕ) → 5 ≤ row → row ≤ 16 → getD (r .counts) row 0 ≡ countOf (isHitIn row) lines
