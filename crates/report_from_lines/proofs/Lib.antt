@@ -1,4 +1,4 @@
 pub mod Fields
 pub mod Worked
 pub mod FromLines
-mod Shown
+pub mod Shown

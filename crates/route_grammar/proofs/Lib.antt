@@ -2,4 +2,4 @@ pub mod Kept
 pub mod Cut
 pub mod Suffice
 pub mod Told
-mod Shown
+pub mod Shown
