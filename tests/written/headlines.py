@@ -11,6 +11,7 @@ import names
 
 OUT = "crates/headlines/proofs/Headlines.antt"
 TOP = """-- Made by tests/written/headlines.py: what docs/PROMISES.md promises, name by name, in its order. A name that is not proved there does not pass the checker.
+
 """
 
 
@@ -59,7 +60,7 @@ def written():
     text, crates, seen, last = [TOP], [], {}, None
     for heading, what, found in rows():
         if heading != last:
-            text.append(f"\n-- ---- {heading}\n")
+            text.append(f"-- ---- {heading}\n")
             last = heading
         plain = re.sub(r"\[([^]]*)\]\([^)]*\)", r"\1", what.split(";")[0].split(": ", 1)[-1] if what.startswith("demand") else what.split(";")[0])
         plain = plain.replace("`", "")

@@ -89,7 +89,6 @@ use Rattle.round_limit.proofs.InTime.{never-run-out}
 use Rattle.round_limit.proofs.InTime.{limit-never-reached}
 use Rattle.round_limit.proofs.InTime.{always-exact}
 use Rattle.round_limit.proofs.InTime.{always-exact-on-squared-paper}
-
 -- ---- The port
 -- the cast of support to u32 is idle in the domain
 use Rattle.model.proofs.Support.{support-is-whole}
@@ -100,13 +99,11 @@ use Rattle.sweep_toi.proofs.Repeats.{call-corners-stay}
 -- a distance call that leaves three vertices measures 0 or NaN, so that a sweep whose distance is a number ends overlapped before three corner pairs ..
 use Rattle.model.proofs.ThreeVertices.{three-vertices-measure-nothing}
 use Rattle.model.proofs.ThreeVertices.{three-vertices-end-a-sweep}
-
 -- ---- Ask 5: first guesses for the root
 -- each of the 1,024 first guesses is the largest whole number whose square is at most k · 2^38, computed over the whole list
 use Rattle.root_list.proofs.Rule.{rule}
 -- from any guess that meets the rule, one correction and one test give the whole number nearest to the root
 use Rattle.root.proofs.Halley.{nearest-from-guess}
-
 -- ---- Ask 4: two corners on one line
 -- the second index of support: its value equals the winning one as floats do, no higher index has an equal value, it is at least the first and a ..
 use Rattle.model.proofs.Second.{second-is-second}
@@ -126,7 +123,6 @@ use Rattle.model.proofs.Searches.{corners-of-the-last}
 use Rattle.model.proofs.Searches.{last-is-last}
 use Rattle.model.proofs.Searches.{first-of-a}
 use Rattle.model.proofs.Searches.{first-of-b}
-
 -- ---- The batch, its lines and its totals, and Ask 2: failed is not a contact
 -- a file is one list of blocks, the last one short where bytes are left over
 use Rattle.model.specs.Blocks.{blocks}
@@ -151,7 +147,6 @@ use Rattle.model.proofs.Sheet.{totals-add-up}
 use Rattle.model.proofs.Counted.{sheet-counted}
 use Rattle.model.proofs.Counted.{SheetCounted}
 use Rattle.model.proofs.Counted.{letter-printed}
-
 -- ---- Ask 7: is there anything in this batch?
 -- the number of the first contact is above 0 if and only if contact in TOTAL is
 use Rattle.any_contact_search.proofs.First.{first-contact}
@@ -161,7 +156,6 @@ use Rattle.any_contact_search.proofs.First.{rest-passed-over}
 use Rattle.any_contact_search.proofs.Run.{short-part-ends}
 -- the search by the code's own function over parts of 64 KiB, the last one shorter, finds the first contact of the whole, for every file below 2^63 ..
 use Rattle.any_contact_search.proofs.Run.{search-finds-first}
-
 -- ---- Ask 9: block form 2
 -- in form 2 any exchange of words i and i + 1 that differ, i from 0 to 125, is refused by 10 where the check was right and byte 6 is 2 before and after
 use Rattle.convert_forms.proofs.Exchange.{exchange-refused}
@@ -179,7 +173,6 @@ use Rattle.convert_forms.proofs.Kept.{two-runs}
 use Rattle.convert_forms.proofs.Kept.{second-run-silent}
 -- a conversion by the code's own function over parts of 64 KiB, the last one shorter, writes and tells what the whole comes to, for every file below ..
 use Rattle.convert_forms.proofs.Run.{run-converts-whole}
-
 -- ---- Ask 11: getting a damaged batch back
 -- what salvage prints and writes of a file: runs and kept blocks go over it from place 0 to its end, each from where the one before it ended
 use Rattle.salvage_walk.proofs.Told.{salvaged}
@@ -192,7 +185,6 @@ use Rattle.salvage_walk.proofs.Run.{run-salvages-whole}
 use Rattle.salvage_walk.proofs.Steps.{walked-by-parts}
 -- no block starts at places 360 to 504 of one that passes, whatever follows it
 use Rattle.salvage_walk.proofs.Passing.{none-among-zeros}
-
 -- ---- Ask 3: plates and bars
 -- a plate that is built has at corner k its half sizes, x negated where bit 0 of k is set and y where bit 1 is
 use Rattle.shapes.proofs.Corners.{plate-corner}
@@ -209,11 +201,9 @@ use Rattle.shapes.proofs.Corners.{bar-accepted}
 -- a half size of -0 passes, and gives +0 where its bit is set
 use Rattle.shapes.proofs.Corners.{minus-zero-passes}
 use Rattle.shapes.proofs.Corners.{minus-zero-turns}
-
 -- ---- One moment of a move
 -- the gap at a fraction is the distance that a sweep of these moves works there from no corners, whatever its radii, its last time and its slop
 use Rattle.at_fraction.proofs.Sweeps.{gap-is-the-sweeps}
-
 -- ---- Ask 1: a writer for job blocks, and a reader
 -- digits that were written are read back as the number that they were written for, decimal and hexadecimal
 use Rattle.text.proofs.ReadBack.{decimal-value}
@@ -233,6 +223,9 @@ use Rattle.job_grammar.specs.Grammar.{JobLine}
 use Rattle.job_grammar.proofs.Grammar.{grammar-is-job}
 use Rattle.job_grammar.proofs.Grammar.{job-is-grammar}
 use Rattle.job_grammar.proofs.Shown.{rows}
+-- the block that pack writes for it has what its digits say: the job, the counts, each word in its place
+use Rattle.job_grammar.specs.Grammar.{Has}
+use Rattle.job_grammar.proofs.Grammar.{block-has-what-it-says}
 -- a line is a job or it is not: isJob answers true or false for every list of bytes
 use Rattle.job_text.specs.Job.{isJob}
 use Rattle.job_text.proofs.Shown.{job}
@@ -246,7 +239,6 @@ use Rattle.pack_lines.proofs.PackRun.{run-packs-whole}
 use Rattle.unpack_blocks.proofs.UnpackRun.{run-unpacks-whole}
 use Rattle.pack_lines.proofs.PackRun.{pack-run}
 use Rattle.unpack_blocks.proofs.UnpackRun.{unpack-run}
-
 -- ---- Ask 13: where in the move it happens
 -- two reports put together are the report of both lists of batches in order
 use Rattle.report_counts.proofs.Merged.{report-of-both}
@@ -278,7 +270,6 @@ use Rattle.report_batches.specs.Told.{Firsts}
 -- a batch worked in parts of 64 KiB, the last one shorter, gives the report of the whole
 use Rattle.report_batches.proofs.Run.{a-batch-in-parts}
 use Rattle.report_batches.proofs.Run.{files-in-order}
-
 -- ---- Ask 6: routes
 -- a route whose lists are right comes to one of two: clear, every leg separated from every still outline, with the distance calls of all sweeps
 use Rattle.route_legs.proofs.First.{route-outcome}
@@ -312,13 +303,14 @@ use Rattle.route_grammar.specs.Grammar.{Within}
 use Rattle.route_grammar.specs.Grammar.{Handed}
 use Rattle.route_grammar.proofs.Suffice.{read-as-written}
 use Rattle.route_grammar.proofs.Shown.{pieces}
--- every text is the text of some route, or it is told by 14
+-- the reader takes a text for a route if and only if it is the text of some route
 use Rattle.route_grammar.specs.Grammar.{RouteText}
+use Rattle.route_grammar.proofs.Told.{taken-is-route}
+use Rattle.route_grammar.proofs.Told.{route-is-taken}
 use Rattle.route_grammar.proofs.Told.{route-or-14}
 -- a route's text read part by part by the code's own functions is answered as the whole
 use Rattle.route_text.proofs.Run.{run-answers-whole}
 use Rattle.route_read.proofs.Runs.{run-reads-whole}
-
 -- ---- Ask 12: the f64 build
 -- the f64 crates' definitions are model's through maps of the records, for every format: solvers, distance call, separation, sweep with its corners, ..
 use Rattle.bridge.proofs.Simplex.{solve-same}
@@ -362,12 +354,10 @@ use Rattle.exact64.proofs.Exact.{exchange-always-wide}
 use Rattle.exact64.proofs.Exact.{shift-always-wide}
 -- a run of sheet64's own function over parts of 64 KiB gives model's sheet at binary64, for every file below 2^63 bytes
 use Rattle.sheet_lines64.proofs.Run.{run-gives-sheet as run-gives-sheet-sheet-lines64}
-
 -- ---- That no second result fits
 -- that no second result fits, nor a second content of a list lent to be written: one statement for each public function, of the contract that its ..
 use Rattle.promises.specs.OneResult.{OneResult}
 use Rattle.promises.proofs.EveryFunction.{ground-add}
-
 -- ---- The whole move
 -- the distance to keep is the larger of the slop and the sum of the radii
 use Rattle.planned.specs.Planned.{Clear}
