@@ -27,7 +27,8 @@
 extern "C" {
 #endif
 
-/* A list has not the length that the function asks for: of foldflake_sweep and foldflake_distance, of a pose, a move, and what they are told into. */
+/* A list has not the length that the function asks for: of foldflake_sweep and foldflake_distance, of a pose, a move, and what they are told into; of
+   foldflake_route out, where, waypoints and lengths. */
 enum { FOLDFLAKE_WRONG_LENGTH = 255 };
 
 /* What foldflake_sweep answers. SEPARATED does not clear a move that turns, and FAILED is no verdict: see README.md, "What a setter must know". */

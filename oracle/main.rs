@@ -8,6 +8,7 @@
 //!   oracle lines SEED COUNT              rows of blocks with their lines (batches.rs)
 //!   oracle known                         a pool, sweeps and blocks whose answers are well known (known.rs)
 //!   oracle sheet                         the sheet of the batch on standard input (sheet.rs)
+//!   oracle hostile SEED COUNT            distance calls that might work out what is not a number (hostile.rs)
 //!   oracle squared-paper MILLIONS SEED   the claims on squared paper tested by running (squared_paper.rs)
 //!   oracle turns SEED COUNT              what S misses when something turns, COUNT moves of each of ten kinds (turns.rs)
 //!   oracle corners                       corners of plates, each with the number that the Rust gives it (corners.rs)
@@ -22,6 +23,7 @@ mod domain;
 #[cfg(feature = "f32")]
 mod families;
 mod ground;
+mod hostile;
 #[cfg(feature = "f32")]
 mod known;
 mod pool;
@@ -69,6 +71,7 @@ fn main() {
         "turns" => turns::run(number(2), number(3)),
         #[cfg(feature = "f32")]
         "corners" => corners::rows(),
+        "hostile" => hostile::run(number(2), number(3)),
         "squared-paper" => squared_paper::run(number(2), number(3)),
         other => {
             eprintln!("oracle: no such job: {other:?}");

@@ -4,19 +4,19 @@
     wide.py            write crates/NAME64 for every NAME below
     wide.py --check    say which file is not what would be written, and write nothing (exit 1)
 
-Nothing rests on this script: what it writes is proved like any other text, and crate `bridge` proves that the definitions which it writes are
-those of `model`. Files that HAND names are written by hand, in their place, and are neither written nor removed here. The output is as `rt fmt`
-lays it out.
+Nothing rests on this script: what it writes is proved like any other text, and the crates `bridge` and `bridge_own` prove that the definitions
+which it writes are those that it writes them from. Files that HAND names are written by hand, in their place, and are neither written nor removed
+here. The output is as `rt fmt` lays it out.
 """
 import re, sys, os
 from pathlib import Path
 
-CRATES = 'model ground domain outline simplex distance separation sweep_toi sweep_numbers work fields sheet_lines sheet_run list_calls replay'.split()
+CRATES = 'model ground domain outline simplex distance separation sweep_toi toi_proxy sweep_numbers work fields sheet_lines sheet_run list_calls replay'.split()
 # crates of either width that are written by hand
 WRITTEN = ['root']
 # files of model that mention a record with floats, and are written again for f64; the others are shared
 SPECS = 'Ground Domain Support Second Simplex Distance Sweep Separation SweepToi Corners Work Sheet'.split()
-PROOFS = 'Domain Support Second Simplex DistanceCall Searches Repeats Sheet'.split()
+PROOFS = 'Domain Support Second Simplex DistanceCall Searches Sheet'.split()
 # literals that differ between the widths
 LITERALS = {'3.4028235e38': '1.7976931348623157e308', '1.1920929e-7': '2.220446049250313e-16'}
 # patterns of bits, in the files that work on them: there u32 is u64 besides
@@ -42,6 +42,11 @@ PATCHES = [
     ('work64/src/lib.rt', 'floats[i] = ground64::from_bits(wire::word(bytes, from + 4 * i));',
      'floats[i] = f32_to_f64_with_nan(ground::from_bits(wire::word(bytes, from + 4 * i)));'),
     ('work64/src/lib.rt', 'use model64::Swept;', 'use model64::Swept;\nuse std::num::f32_to_f64_with_nan;'),
+    # a point record has sixteen bytes
+    ('toi_proxy64/proofs/point_list/point_at/Proof.antt', 'is 8 i past', 'is 16 i past'),
+    ('toi_proxy64/proofs/point_list/point_at/Proof.antt', '(lit ! tt) (scaled-fits i (length ys) 8', '(lit ! tt) (scaled-fits i (length ys) 16'),
+    ('toi_proxy64/proofs/point_list/point_at/Proof.antt', '\n          scaled-fits i (length ys) 8', '\n          scaled-fits i (length ys) 16'),
+    ('toi_proxy64/proofs/point_list/point_at/Proof.antt', 'place-is 8 o i', 'place-is 16 o i'),
     # stored words have eight bytes
     ('replay64/src/floats.rt', ' as u64', ''),
     ('replay64/src/pool.rt', 'wire::word(pool, 16 + 4 * i)', 'wire::word(pool, 32 + 8 * i)'),

@@ -19,7 +19,7 @@ use Rattle.model.specs.Sheet.{letterOf, answerLine, answers, wholeAnswers, rest
 use Rattle.model.specs.Counted.{afterBlanks, linesOneByOne, sheetLines}
 use Rattle.model.proofs.Counted.{letterTold, letter-printed, counted-on}
 use Rattle.model.proofs.Sheet.{answers-cut}
-use Rattle.any_contact_search.specs.First.{touches, isContact, firstFrom, firstContact, printsContact}
+use Rattle.any_contact_search.specs.First.{touches, isContact, firstFrom, firstContact, printsContact, FirstContact}
 
 -- ---- one answer
 -- its line prints H or O just where it is a contact
@@ -89,18 +89,7 @@ told f n t (x ∷ xs) = go (isContact x) refl (told f (n + 1) (counted t x) xs)
     go true e rest = is-first f n t x xs e
     go false e rest = passed f n t x xs e rest
 
--- ---- every file: its number and its sheet
-pub record FirstContact (f : Format) (b : List ℕ) : Type 0 where
-  -- there is a number if and only if contact in TOTAL is above 0
-  pub counted : 0 < firstContact f b → 0 < totalsFrom none (answers f b) .contact
-  pub told : 0 < totalsFrom none (answers f b) .contact → 0 < firstContact f b
-  -- it is a block's; lines are counted from 0 here, so the line of block i + 1 is line i
-  pub inside : firstContact f b ≤ length (answers f b)
-  pub prints : (i : ℕ) → i + 1 ≡ firstContact f b → printsContact (getD (sheetLines f b) i []) ≡ true
-  -- no line before it prints H or O, and where there is no number none does
-  pub lowest : (i : ℕ) → i + 1 < firstContact f b → printsContact (getD (sheetLines f b) i []) ≡ false
-  pub none-prints : firstContact f b ≡ 0 → (i : ℕ) → printsContact (getD (sheetLines f b) i []) ≡ false
-
+-- ---- every file
 pub first-contact : (f : Format) (b : List ℕ) → FirstContact f b
 first-contact f b = go (told f 0 none (answers f b))
   where

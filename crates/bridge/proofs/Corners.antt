@@ -15,14 +15,14 @@ use Rattle.model.specs.Ground as Ground
 use Rattle.model.specs.Separation.{newSeparation, evaluate, findMinSeparation}
 use Rattle.model.specs.SweepToi.{PushEnd, ended, moved, closestAt, pushFrom, rootFrom, low, high, sweepTask, sweepRefusal}
 use Rattle.model.specs.SweepToi as T
-use Rattle.model.specs.Corners.{pushSearches, searchesFrom, lastOf, noSearch, searchesOrNone, sweepSearches, sweep}
+use Rattle.model.specs.Corners.{pushSearches, searchesFrom, lastOf, noSearch, searchesOrNone, sweepSearches, advanced, sweep}
 use Rattle.model.specs.Corners as C
-use Rattle.model64.specs.Corners.{pushSearches as pushSearches64, searchesFrom as searchesFrom64, sweep as sweepOf64}
+use Rattle.model64.specs.Corners.{pushSearches as pushSearches64, searchesFrom as searchesFrom64, advanced as advanced64, sweep as sweepOf64}
 use Rattle.model64.specs.Corners as C64
 use Rattle.bridge.specs.Wide.{sweep64, function64, task64, closest64, swept64}
 use Rattle.bridge.proofs.Domain.{pair-refusal-same}
 use Rattle.bridge.proofs.Separation.{new-separation-same, evaluate-same, find-same, corners-same}
-use Rattle.bridge.proofs.SweepToi.{end64, closest-same, root-same, push-same, task-same, sweep-same}
+use Rattle.bridge.proofs.SweepToi.{end64, closest-same, root-same, push-same, advance-same, task-same, sweep-same}
 
 -- by cases on a test
 test-same : {A : Type 0} (t : Bool) {x′ y′ x y : A} → x′ ≡ x → y′ ≡ y → cond t x′ y′ ≡ cond t x y
@@ -73,6 +73,11 @@ module _ (f : Format) (w : SweepTask) (a b : List Float) where
   searches-same (suc k) t1 c n =
       rw (closest-same f w a b t1 c)
       (searches-by-same t1 (closestAt f w a b t1 c) (T.called n) _ _ (λ t m. searches-same k t (closestAt f w a b t1 c .cache) m))
+
+pub advanced-same : (f : Format) (w : SweepTask) (a b : List Float) → advanced64 f (task64 w) a b ≡ swept64 (advanced f w a b)
+unfolding advanced64 advanced
+advanced-same f w a b =
+    rw (advance-same f w a b 19 (Ground.zero f) T.noCorners (T.counts 0 0 0), searches-same f w a b 19 (Ground.zero f) T.noCorners (T.counts 0 0 0))
 
 module _ (f : Format) (a : List Float) (ra : Float) (wa : Sweep) (b : List Float) (rb : Float) (wb : Sweep) (tmax slop : Float) where
   by-refusal : (n : ℕ) → C64.searchesOrNone f a ra (sweep64 wa) b rb (sweep64 wb) tmax slop n ≡ searchesOrNone f a ra wa b rb wb tmax slop n

@@ -26,7 +26,7 @@ use Rattle.bridge.proofs.Ground.{by-test, normalise-same}
 use Rattle.bridge.proofs.Domain.{pair-refusal-same, support-same}
 use Rattle.bridge.proofs.Simplex.{set-map, slot-same, solve-same, witness-same}
 
-held-same : (s : List SimplexVertex) (n i j : ℕ) → held64 (simplex64 s) n i j ≡ held s n i j
+pub held-same : (s : List SimplexVertex) (n i j : ℕ) → held64 (simplex64 s) n i j ≡ held s n i j
 unfolding held64 held
 held-same s zero i j = refl
 held-same s (suc n) i j = rw (held-same s n i j, slot-same s n)
@@ -35,19 +35,19 @@ written-same : (pair : ℕ) (c : SimplexCache) (s : List SimplexVertex) (n : ℕ
 written-same pair c s n = simp slot-same
 
 module _ (f : Format) (a b : List Float) (p : Pose) where
-  vertex-same : (i j : ℕ) (x : Float) → vertexOf64 f a b (pose64 p) i j x ≡ vertex64 (vertex f a b p i j x)
+  pub vertex-same : (i j : ℕ) (x : Float) → vertexOf64 f a b (pose64 p) i j x ≡ vertex64 (vertex f a b p i j x)
   unfolding vertexOf64 vertex
   vertex-same i j x = refl
 
   cached-same : (c : SimplexCache) (i : ℕ) → D64.cached f a b (pose64 p) c i ≡ vertex64 (D.cached f a b p c i)
   cached-same c i = by-test vertex64 (ltb i (c .count)) (vertex-same _ _ _) refl
 
-  start-same : (c : SimplexCache) → startSimplex64 f a b (pose64 p) c ≡ simplex64 (startSimplex f a b p c)
+  pub start-same : (c : SimplexCache) → startSimplex64 f a b (pose64 p) c ≡ simplex64 (startSimplex f a b p c)
   unfolding startSimplex64 startSimplex
   start-same c =
       by-test simplex64 (D.fromCache c (length a / 2) (length b / 2)) (rw (cached-same c 0, cached-same c 1, cached-same c 2)) (rw (vertex-same 0 0))
 
-  rounds-same : (k : ℕ) (s : List SimplexVertex) (n : ℕ) (d : Vector) (it : ℕ) →
+  pub rounds-same : (k : ℕ) (s : List SimplexVertex) (n : ℕ) (d : Vector) (it : ℕ) →
       roundsFrom64 f a b (pose64 p) k (simplex64 s) n (vector64 d) it ≡ rounds64 (roundsFrom f a b p k s n d it)
   unfolding roundsFrom64 roundsFrom
   rounds-same zero s n d it = refl

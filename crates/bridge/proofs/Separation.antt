@@ -60,7 +60,7 @@ module _ (f : Format) where
         let l = S.middle f (point b j) (point b k) in
         rw (across-same (point b j) (point b k), toward-same pb l (Ground.onPoint f pa (point a i)) (S.across f (point b j) (point b k)))
 
-    by-same : (n i k j l : ℕ) → S64.separationBy f (sweep64 wa) (sweep64 wb) a b (pose64 pa) (pose64 pb) n i k j l
+    pub by-same : (n i k j l : ℕ) → S64.separationBy f (sweep64 wa) (sweep64 wb) a b (pose64 pa) (pose64 pb) n i k j l
         ≡ function64 (S.separationBy f wa wb a b pa pb n i k j l)
     by-same n i k j l =
         by-test function64 (eqb n 1) (points-same i j) (by-test function64 (eqb i k) (face-b-same i j l) (face-a-same i k j))
@@ -72,27 +72,27 @@ module _ (f : Format) where
 
   -- ---- the separation
   module _ (a b : List Float) (g : SeparationFunction) (pa pb : Pose) where
-    of-same : (y : SeparationType) (i j : ℕ) → S64.separationOf f a b (function64 g) (pose64 pa) (pose64 pb) y i j ≡ S.separationOf f a b g pa pb y i j
+    pub of-same : (y : SeparationType) (i j : ℕ) → S64.separationOf f a b (function64 g) (pose64 pa) (pose64 pb) y i j ≡ S.separationOf f a b g pa pb y i j
     of-same Points i j = refl
     of-same FaceA i j = refl
     of-same FaceB i j = refl
 
-    deepest-a-same : (y : SeparationType) → S64.deepestA f a (function64 g) (pose64 pa) (pose64 pb) y ≡ S.deepestA f a g pa pb y
+    pub deepest-a-same : (y : SeparationType) → S64.deepestA f a (function64 g) (pose64 pa) (pose64 pb) y ≡ S.deepestA f a g pa pb y
     deepest-a-same Points = support-same f a (Ground.inverseRotate f (pa .rotation) (g .axis))
     deepest-a-same FaceA = refl
     deepest-a-same FaceB = support-same f a (Ground.inverseRotate f (pa .rotation) (Ground.negate (Ground.rotate f (pb .rotation) (g .axis))))
 
-    deepest-b-same : (y : SeparationType) → S64.deepestB f b (function64 g) (pose64 pa) (pose64 pb) y ≡ S.deepestB f b g pa pb y
+    pub deepest-b-same : (y : SeparationType) → S64.deepestB f b (function64 g) (pose64 pa) (pose64 pb) y ≡ S.deepestB f b g pa pb y
     deepest-b-same Points = support-same f b (Ground.inverseRotate f (pb .rotation) (Ground.negate (g .axis)))
     deepest-b-same FaceA = support-same f b (Ground.inverseRotate f (pb .rotation) (Ground.negate (Ground.rotate f (pa .rotation) (g .axis))))
     deepest-b-same FaceB = refl
 
-    corners-a-same : (y : SeparationType) → C64.cornersA f a (function64 g) (pose64 pa) (pose64 pb) y ≡ C.cornersA f a g pa pb y
+    pub corners-a-same : (y : SeparationType) → C64.cornersA f a (function64 g) (pose64 pa) (pose64 pb) y ≡ C.cornersA f a g pa pb y
     corners-a-same Points = support-pair-same f a (Ground.inverseRotate f (pa .rotation) (g .axis))
     corners-a-same FaceA = refl
     corners-a-same FaceB = support-pair-same f a (Ground.inverseRotate f (pa .rotation) (Ground.negate (Ground.rotate f (pb .rotation) (g .axis))))
 
-    corners-b-same : (y : SeparationType) → C64.cornersB f b (function64 g) (pose64 pa) (pose64 pb) y ≡ C.cornersB f b g pa pb y
+    pub corners-b-same : (y : SeparationType) → C64.cornersB f b (function64 g) (pose64 pa) (pose64 pb) y ≡ C.cornersB f b g pa pb y
     corners-b-same Points = support-pair-same f b (Ground.inverseRotate f (pb .rotation) (Ground.negate (g .axis)))
     corners-b-same FaceA = support-pair-same f b (Ground.inverseRotate f (pb .rotation) (Ground.negate (Ground.rotate f (pa .rotation) (g .axis))))
     corners-b-same FaceB = refl

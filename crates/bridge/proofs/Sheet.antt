@@ -9,6 +9,8 @@ use lib.Ieee.{Float, Format}
 use Rattle.model.specs.declared.Status.{Status}
 use Rattle.model.specs.declared.Status.the-variants as Status
 use Rattle.model.specs.declared.Totals.{Totals}
+use Rattle.model.specs.declared.Vector.{Vector}
+use Rattle.model.specs.declared.Swept.{Swept}
 use Rattle.model.specs.declared.Corners.{Corners}
 use Rattle.model.specs.declared.CheckedBlock.{CheckedBlock}
 use Rattle.model.specs.declared.CheckedBlock.the-variants as Checked
@@ -31,11 +33,14 @@ use Rattle.model64.specs.Work as W64
 use Rattle.model64.specs.Sheet.{answers as answers64, workedLine as workedLine64, linesFrom as linesFrom64, totalsFrom as totalsFrom64}
 use Rattle.model64.specs.Sheet as Sheet64
 use Rattle.model64.specs.declared.BlockAnswer.the-variants as Block64
-use Rattle.bridge.specs.Wide.{sweep64, swept64, sweepAnswer64, verdict64, outcome64, blockAnswer64}
+use Rattle.bridge.specs.Wide.{vector64, rotation64, sweep64, swept64, sweepAnswer64, verdict64, outcome64, blockAnswer64}
 use Rattle.bridge.proofs.Corners.{swept-same}
 
 -- ---- a block
-move-same : (ns : List Float) (i : ℕ) → moveAt64 ns i ≡ sweep64 (moveAt ns i)
+pub turn-same : (v : Vector) → W64.turn (vector64 v) ≡ rotation64 (W.turn v)
+turn-same v = refl
+
+pub move-same : (ns : List Float) (i : ℕ) → moveAt64 ns i ≡ sweep64 (moveAt ns i)
 unfolding moveAt64 moveAt
 move-same ns i = refl
 
@@ -51,6 +56,9 @@ told-same f k (Hit c n) = refl
 told-same f k (Separated c n) = refl
 told-same f k (Failed c n) = refl
 told-same f k (Refused number) = refl
+
+pub told-swept-same : (f : Format) (x : Swept) → W64.told f (swept64 x) ≡ outcome64 (W.told f x)
+told-swept-same f x = told-same f (x .corners) (x .answer)
 
 of-job-same : (job : ℕ) (x : Outcome) → W64.ofJob job (outcome64 x) ≡ blockAnswer64 (W.ofJob job x)
 of-job-same job (Outcome.Found v) = refl

@@ -4,6 +4,8 @@ use Rattle.model.specs.declared.Vector.{Vector}
 use Rattle.model.specs.declared.Rotation.{Rotation}
 use Rattle.model.specs.declared.Pose.{Pose}
 use Rattle.model.specs.declared.Sweep.{Sweep}
+use Rattle.model.specs.declared.CheckedPose.{CheckedPose}
+use Rattle.model.specs.declared.CheckedPose.the-variants as CheckedPose
 use Rattle.model.specs.declared.SimplexVertex.{SimplexVertex}
 use Rattle.model.specs.declared.Solved.{Solved}
 use Rattle.model.specs.declared.Rounds.{Rounds}
@@ -13,6 +15,7 @@ use Rattle.model.specs.declared.Measurement.{Measurement}
 use Rattle.model.specs.declared.Distance.{Distance}
 use Rattle.model.specs.declared.SeparationFunction.{SeparationFunction}
 use Rattle.model.specs.declared.MinSeparation.{MinSeparation}
+use Rattle.model.specs.declared.Search.{Search}
 use Rattle.model.specs.declared.SweepTask.{SweepTask}
 use Rattle.model.specs.declared.Closest.{Closest}
 use Rattle.model.specs.declared.RootSearch.{RootSearch}
@@ -31,6 +34,8 @@ use Rattle.model64.specs.declared.Vector.{Vector as Vector64}
 use Rattle.model64.specs.declared.Rotation.{Rotation as Rotation64}
 use Rattle.model64.specs.declared.Pose.{Pose as Pose64}
 use Rattle.model64.specs.declared.Sweep.{Sweep as Sweep64}
+use Rattle.model64.specs.declared.CheckedPose.{CheckedPose as CheckedPose64}
+use Rattle.model64.specs.declared.CheckedPose.the-variants as CheckedPose64
 use Rattle.model64.specs.declared.SimplexVertex.{SimplexVertex as SimplexVertex64}
 use Rattle.model64.specs.declared.Solved.{Solved as Solved64}
 use Rattle.model64.specs.declared.Rounds.{Rounds as Rounds64}
@@ -40,6 +45,7 @@ use Rattle.model64.specs.declared.Measurement.{Measurement as Measurement64}
 use Rattle.model64.specs.declared.Distance.{Distance as Distance64}
 use Rattle.model64.specs.declared.SeparationFunction.{SeparationFunction as SeparationFunction64}
 use Rattle.model64.specs.declared.MinSeparation.{MinSeparation as MinSeparation64}
+use Rattle.model64.specs.declared.Search.{Search as Search64}
 use Rattle.model64.specs.declared.SweepTask.{SweepTask as SweepTask64}
 use Rattle.model64.specs.declared.Closest.{Closest as Closest64}
 use Rattle.model64.specs.declared.RootSearch.{RootSearch as RootSearch64}
@@ -67,6 +73,10 @@ pose64 p = record { rotation = rotation64 (p .rotation); translation = vector64 
 abbrev pub sweep64 : Sweep → Sweep64
 sweep64 w =
     record { «local_center» = vector64 (w .«local_center»); c1 = vector64 (w .c1); c2 = vector64 (w .c2); q1 = rotation64 (w .q1); q2 = rotation64 (w .q2) }
+
+abbrev pub checkedPose64 : CheckedPose → CheckedPose64
+checkedPose64 (CheckedPose.Good p) = CheckedPose64.Good (pose64 p)
+checkedPose64 (CheckedPose.Refused n) = CheckedPose64.Refused n
 
 abbrev pub vertex64 : SimplexVertex → SimplexVertex64
 vertex64 v =
@@ -116,6 +126,9 @@ function64 g = record {
 
 abbrev pub minSeparation64 : MinSeparation → MinSeparation64
 minSeparation64 m = record { separation = m .separation; «index_a» = m .«index_a»; «index_b» = m .«index_b» }
+
+abbrev pub search64 : Search → Search64
+search64 x = record { least = minSeparation64 (x .least); corners = x .corners }
 
 abbrev pub task64 : SweepTask → SweepTask64
 task64 w = record {

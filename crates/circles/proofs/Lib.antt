@@ -1,3 +1,4 @@
 pub mod Along
+pub mod Told
 pub mod NoCircles
 pub mod Shorter

@@ -21,14 +21,13 @@ use Rattle.model.specs.declared.SimplexCache.{SimplexCache}
 use Rattle.model.specs.declared.Solved.{Solved}
 use Rattle.model.specs.declared.Ending.the-variants.{Touching, Settled}
 use Rattle.model.specs.declared.Rounds.{Rounds}
-use Rattle.model.specs.declared.DistanceAnswer.the-variants.{Measured, Refused}
 use Rattle.model.specs.Ground.{epsilon, origin}
 use Rattle.model.specs.Ground as Ground
 use Rattle.model.specs.Simplex.{slot, solved, solve}
-use Rattle.model.specs.Distance.{held, vertex, touches, ended, supportA, supportB, extended, roundsFrom, distanceBy, distanceRefusal, proxyDistance}
+use Rattle.model.specs.Distance.{held, vertex, touches, ended, supportA, supportB, extended, maxIterations, roundsFrom}
 use Rattle.plane.specs.Plane.{Point, opposite, turnedBack, dot}
 use Rattle.exact.specs.SquaredPaper.{SquaredPaper, Room, boundOf}
-use Rattle.circles.specs.NoCircles.{State, kept, GoesOn, start, next, roundsOf, Reaches, first, then, Nearer, NoCircles}
+use Rattle.circles.specs.NoCircles.{State, kept, GoesOn, start, next, roundsOf, Reaches, first, then, Nearer, NoCircles, NoCirclesWithin, MadeAreCounted}
 use Rattle.exact.proofs.Below.{below1, below2}
 use Rattle.exact.proofs.Vectors.{SizedPoint, weaken-point}
 use Rattle.exact.proofs.Kept.{Kept}
@@ -36,6 +35,7 @@ use Rattle.exact.proofs.Solved.{places, two, three, Outcome, vertexLeft, edgeLe
 use Rattle.exact.proofs.Paper.{InDomain, acrossA, acrossB, turned-back, supports}
 use Rattle.circles.proofs.Along.{Along, both-some, support-same}
 use Rattle.circles.proofs.Shorter.{Descent, shorter-or-same-way, shorter-at-origin}
+use Rattle.circles.proofs.Told.{told-by-rounds}
 use Rattle.exact.proofs.Rounds.{places-of, Slots, vertex-stands, start-slots, tiny-direction}
 use Rattle.exact.proofs.Answered.{answered-in-domain}
 use Rattle.exact.proofs.Demand3.{room-of}
@@ -51,6 +51,10 @@ module _ (f : Format) (a b : List Float) (p : Pose) where
   pub left-to-do : {c : SimplexCache} {limit k : ℕ} {x : State} → Reaches f a b p c limit k x → roundsOf f a b p limit (start f a b p c) ≡ roundsOf f a b p k x
   left-to-do first = refl
   left-to-do {k = k} (then {x = x} r g) = left-to-do r ∙ handed-on k x g
+
+pub made-are-counted : (f : Format) → MadeAreCounted f
+made-are-counted f p a b c limit k x first = omega arith
+made-are-counted f p a b c limit k x (then {x = y} r g) = let before = made-are-counted f p a b c limit (suc k) y r in omega (arith, before)
 
 -- ---- the same supports
 module _ (f : Format) {bound : ℕ} (room : Room f bound) {p : Pose} {a b : List Float} (paper : SquaredPaper bound p a b) (domain : InDomain paper) where
@@ -185,7 +189,7 @@ module _ (f : Format) {bound : ℕ} (room : Room f bound) {p : Pose} {a b : List
   slots-of {k = k} (then {x = x} r g) = onward k (x .made) (solves bound _ _ _ f room (slots-of r)) (g .apart) .0
 
   nearer : (c : SimplexCache) (limit k : ℕ) (x : State) → Reaches f a b p c limit (suc (suc k)) x → GoesOn f a b p x
-      → Nearer f paper (roundsOf f a b p limit (start f a b p c)) x
+      → let whole = roundsOf f a b p limit (start f a b p c) in Nearer f paper (whole .ending) (whole .iterations) x
   unfolding roundsFrom
   nearer c limit k x r g =
       let D = onward k (x .made) (solves bound _ _ _ f room (slots-of r)) (g .apart) .1 in
@@ -197,17 +201,15 @@ module _ (f : Format) {bound : ℕ} (room : Room f bound) {p : Pose} {a b : List
             [ inl h ↦ inl h | inr h ↦ inr (h .0, ap (λ (r : Rounds). r .ending) same ∙ h .1 .0, ap (λ (r : Rounds). r .iterations) same ∙ h .1 .1) ];
       }
 
+pub no-circles-within : (f : Format) (bound : ℕ) → Room f bound → NoCirclesWithin f bound
+no-circles-within f bound room p a ra b rb radii pair c paper o answered limit k x r g =
+    let passed = told-by-rounds f p a ra b rb radii pair c o answered .passed in
+    nearer f room paper (answered-in-domain f ra rb paper pair c passed) c limit k x r g
+
 pub no-circles : (f : Format) (bound : ℕ) → Room f bound → NoCircles f bound
-unfolding proxyDistance
-no-circles f bound room p a ra b rb radii pair c paper o answered limit k x r g = go (distanceRefusal f p a ra b rb pair c) (λ h. h) answered
-  where
-    go : (n : ℕ) → (n ≡ 0 → distanceRefusal f p a ra b rb pair c ≡ 0) → distanceBy f p a ra b rb radii pair c n .answer ≡ Measured o
-        → Nearer f paper (roundsOf f a b p limit (start f a b p c)) x
-    go zero none is = nearer f room paper (answered-in-domain f ra rb paper pair c (none refl)) c limit k x r g
-    go (suc n) none is = absurd (refused is)
-      where
-        refused : Refused (suc n) ≡ Measured o → ⊥
-        refused e = let z : _≡_ {A = ℕ} 0 1 = cc in omega arith
+no-circles f bound room p a ra b rb radii pair c paper o answered k x r g =
+    let told = told-by-rounds f p a ra b rb radii pair c o answered in
+    rw (told .ending, told .iterations) (no-circles-within f bound room p a ra b rb radii pair c paper o answered maxIterations k x r g)
 
 pub no-circles-on-squared-paper : (f : Format) → NoCircles f (boundOf f)
 no-circles-on-squared-paper f = no-circles f (boundOf f) (room-of f)

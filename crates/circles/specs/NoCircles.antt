@@ -15,12 +15,13 @@ use Rattle.model.specs.declared.SimplexVertex.{SimplexVertex}
 use Rattle.model.specs.declared.SimplexCache.{SimplexCache}
 use Rattle.model.specs.declared.Solved.{Solved}
 use Rattle.model.specs.declared.Rounds.{Rounds}
+use Rattle.model.specs.declared.Ending.{Ending}
 use Rattle.model.specs.declared.Ending.the-variants.{Settled}
 use Rattle.model.specs.declared.ProxyDistanceOutput.{ProxyDistanceOutput}
 use Rattle.model.specs.declared.DistanceAnswer.the-variants.{Measured}
 use Rattle.model.specs.Ground.{origin}
 use Rattle.model.specs.Simplex.{slot, solve}
-use Rattle.model.specs.Distance.{held, touches, startSimplex, startCount, supportA, supportB, extended, roundsFrom, proxyDistance}
+use Rattle.model.specs.Distance.{held, touches, startSimplex, startCount, supportA, supportB, extended, maxIterations, roundsFrom, proxyDistance}
 use Rattle.plane.specs.Plane.{Point, difference, total, weightedSum}
 use Rattle.plane.specs.Fraction.{Fraction, _≤ᶠ_, _<ᶠ_, _≃ᶠ_, Place, squared}
 use Rattle.exact.specs.SquaredPaper.{SquaredPaper, outlineA, posedB}
@@ -81,21 +82,35 @@ module _ (f : Format) {bound : ℕ} {p : Pose} {a b : List Float} (paper : Squar
   abbrev pub keptLength : (x : State) → NearestKept x → Fraction
   keptLength x u = squaredLength (kept f x .count) (λ i. place paper (slot (kept f x .simplex) i)) (u .weight)
 
-  -- of the solve of x and the next one
-  pub record Nearer (call : Rounds) (x : State) : Type 0 where
+  -- of the solve of x and the next one, in a call that ends so after so many rounds
+  pub record Nearer (ending : Ending) (rounds : ℕ) (x : State) : Type 0 where
     pub before : NearestKept x
     pub after : NearestKept (next f a b p x)
     pub smaller-or-settles : (keptLength (next f a b p x) after <ᶠ keptLength x before)
-        ⊎ ((keptLength (next f a b p x) after ≃ᶠ keptLength x before) × (call .ending ≡ Settled) × (call .iterations ≡ x .made + 2))
+        ⊎ ((keptLength (next f a b p x) after ≃ᶠ keptLength x before) × (ending ≡ Settled) × (rounds ≡ x .made + 2))
 
--- of every round that goes on with another round left, in every call that is answered, whatever the cache that came
+-- of every round that goes on with another round left, in every call that is answered, whatever the cache that came; the ending and the rounds are those
+-- that the call tells
 abbrev pub NoCircles : Format → ℕ → Type 0
 NoCircles f bound =
     (p : Pose) (a : List Float) (ra : Float) (b : List Float) (rb : Float) (radii : Bool) (pair : ℕ) (c : SimplexCache)
     (paper : SquaredPaper bound p a b) (o : ProxyDistanceOutput)
     → proxyDistance f p a ra b rb radii pair c .answer ≡ Measured o
+    → (k : ℕ) (x : State) → Reaches f a b p c maxIterations (suc (suc k)) x → GoesOn f a b p x
+    → Nearer f paper (o .ending) (o .iterations) x
+
+-- the same of the rounds with any limit in place of the call's
+abbrev pub NoCirclesWithin : Format → ℕ → Type 0
+NoCirclesWithin f bound =
+    (p : Pose) (a : List Float) (ra : Float) (b : List Float) (rb : Float) (radii : Bool) (pair : ℕ) (c : SimplexCache)
+    (paper : SquaredPaper bound p a b) (o : ProxyDistanceOutput)
+    → proxyDistance f p a ra b rb radii pair c .answer ≡ Measured o
     → (limit k : ℕ) (x : State) → Reaches f a b p c limit (suc (suc k)) x → GoesOn f a b p x
-    → Nearer f paper (roundsOf f a b p limit (start f a b p c)) x
+    → let whole = roundsOf f a b p limit (start f a b p c) in Nearer f paper (whole .ending) (whole .iterations) x
+
+-- a state that is reached with k rounds left has made the others
+abbrev pub MadeAreCounted : Format → Type 0
+MadeAreCounted f = (p : Pose) (a b : List Float) (c : SimplexCache) (limit k : ℕ) (x : State) → Reaches f a b p c limit k x → x .made + k ≡ limit
 
 -- whichever weights give the nearest place of some places, its squared length is one fraction
 abbrev pub OneLength : Type 0

@@ -20,7 +20,7 @@ use Rattle.model.specs.declared.Ending.{Ending}
 use Rattle.plane.specs.Plane.{Point, sum, difference, opposite, turned, turnedBack, dot, total, weightedSum}
 use Rattle.plane.specs.Fraction.{Place, _≈_, _≤ᶠ_, squared}
 use Rattle.plane.specs.Outline.{PointOf, divisor, dividend, gap}
-use Rattle.exact.specs.SquaredPaper.{Near, SquaredPaper, Room, boundOf, outlineA, posedB, Exact}
+use Rattle.exact.specs.SquaredPaper.{Near, SquaredPaper, Room, boundOf, outlineA, posedB, InTheDomain, Exact}
 use Rattle.exchange.specs.Exchange.{differenceOf, NearestDifference, originPlace, ownB, posedA, inverseShift, negatedAndTurned, IsInverse}
 use Rattle.exchange.specs.Exchange.{ExchangeTurns, Exchange}
 use Rattle.exact.proofs.Paper.{unit-root}
@@ -285,6 +285,27 @@ module _ {bound : ℕ} {p : Pose} {a b : List Float} (paper : SquaredPaper bound
       wholeShift = inverse .shift;
       near = near-there;
     }
+
+    -- and in the domain: a turn back keeps the shift's size on each axis
+    pub exchanged-in-domain : (f : Format) (ra rb : Float) → InTheDomain f paper ra rb → InTheDomain f exchanged-paper rb ra
+    unfolding exchanged-paper
+    exchanged-in-domain f ra rb d =
+        let n = d .nearShift in
+        let wx = turn-within c s (paper .quarterTurn) 1048576 (t .x) (t .y) (n .x) (n .y) in
+        let wy =
+        turn-within c (neg s) (omega (arith, paper .quarterTurn, negated-squared s)) 1048576 (t .y) (t .x) (n .y) (n .x) in
+        let same = ring (negated (var 0) :* var 1) (negated (var 0 :* var 1)) (s ∷ t .x ∷ []) tt in
+        record {
+          pointsA = d .pointsB;
+          pointsB = d .pointsA;
+          nearA = d .nearB;
+          nearB = d .nearA;
+          radii = (d .radii .1, d .radii .0);
+          nearShift = record {
+            x = record { upper = omega (arith, wx .lower); lower = omega (arith, wx .upper) };
+            y = record { upper = omega (arith, wy .lower, same); lower = omega (arith, wy .upper, same) };
+          };
+        }
 
     exact-there : {e : Ending} {k : SimplexCache} → Exact (outlineA exchanged-paper) (posedB exchanged-paper) e k → Exact (ownB paper) (posedA paper) e k
     unfolding exchanged-paper

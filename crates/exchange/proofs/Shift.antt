@@ -15,7 +15,7 @@ use Rattle.model.specs.declared.Ending.{Ending}
 use Rattle.plane.specs.Plane.{Point, sum, difference, dot, sumBelow}
 use Rattle.plane.specs.Fraction.{Place}
 use Rattle.plane.specs.Outline.{Outline, PointOf, divisor, dividend, gap}
-use Rattle.exact.specs.SquaredPaper.{Near, SquaredPaper, Room, boundOf, outlineA, posedB, Exact}
+use Rattle.exact.specs.SquaredPaper.{Near, SquaredPaper, Room, boundOf, outlineA, posedB, InTheDomain, Exact}
 use Rattle.exchange.specs.Exchange.{NearestDifference, takenOff, IsShifted, posedShifted, ShiftKeeps, Shift}
 use Rattle.exchange.proofs.Told.{told, told-too}
 use Rattle.exact.proofs.Demand3.{demand3, room-of}
@@ -120,6 +120,23 @@ module _ {bound : ℕ} {p : Pose} {a b : List Float} (paper : SquaredPaper bound
       quarterTurn = paper .quarterTurn;
       wholeShift = shifted .shift;
       near = near-still;
+    }
+
+    -- in the domain where its corners and its shift are small enough
+    pub shifted-in-domain : (f : Format) (ra rb : Float) → InTheDomain f paper ra rb → ((j : ℕ) → j < length b / 2 → Near 1048576 (sum (paper .cornerB j) by))
+        → Near 1048576 (takenOff paper by) → InTheDomain f shifted-paper ra rb
+    unfolding shifted-paper
+    shifted-in-domain f ra rb d near off = record {
+      pointsA = d .pointsA;
+      pointsB = record {
+        even = rw (shifted .sameLength) (d .pointsB .even);
+        some = rw (shifted .sameLength) (d .pointsB .some);
+        few = rw (shifted .sameLength) (d .pointsB .few);
+      };
+      nearA = d .nearA;
+      nearB = λ j k. near j (subst (λ (m : ℕ). j < m / 2) (shifted .sameLength) k);
+      radii = d .radii;
+      nearShift = off;
     }
 
     exact-there : {e : Ending} {k : SimplexCache} → Exact (outlineA shifted-paper) (posedB shifted-paper) e k

@@ -2,4 +2,3 @@ mod Line
 mod Placed
 mod Moment
 mod Route
-mod Wide

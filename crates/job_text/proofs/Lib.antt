@@ -5,5 +5,5 @@ pub mod Compared
 pub mod Read
 pub mod RoundTrip
 pub mod Fitting
-mod Shown
+pub mod Shown
 mod Slips

@@ -14,22 +14,22 @@ use Rattle.job_text.specs.Job.{wordsOf, hexes, jobLine, plainBlock, word
 abbrev shown : List ℕ → ℕ → ℕ → List ℕ
 shown job a words = line (job ∷ decimal a ∷ decimal 1 ∷ hexes (replicate words 0x7F800001))
 
-job : isJob (shown (decimal 7) 1 28) ≡ true
+pub job : isJob (shown (decimal 7) 1 28) ≡ true
 unfolding isJob blockFor blockFrom firstWords sumOfFirst wordAt same jobLine wordsOf hexes plainBlock checkedBlock sumOfWords allZero word decimalBy hexBy
     line stored
 job = refl
 
-leading-zero : isJob (48 ∷ shown (decimal 7) 1 28) ≡ false
+pub leading-zero : isJob (48 ∷ shown (decimal 7) 1 28) ≡ false
 unfolding isJob blockFor blockFrom firstWords sumOfFirst wordAt same jobLine wordsOf hexes plainBlock checkedBlock sumOfWords allZero word decimalBy hexBy
     line stored
 leading-zero = refl
 
-seventeen-points : isJob (shown (decimal 7) 17 60) ≡ false
+pub seventeen-points : isJob (shown (decimal 7) 17 60) ≡ false
 unfolding isJob blockFor blockFrom firstWords sumOfFirst wordAt same jobLine wordsOf hexes plainBlock checkedBlock sumOfWords allZero word decimalBy hexBy
     line stored
 seventeen-points = refl
 
-too-large : isJob (shown (decimal 4294967296) 1 28) ≡ false
+pub too-large : isJob (shown (decimal 4294967296) 1 28) ≡ false
 unfolding isJob blockFor blockFrom firstWords sumOfFirst wordAt same jobLine wordsOf hexes plainBlock checkedBlock sumOfWords allZero word decimalBy hexBy
     line stored
 too-large = refl

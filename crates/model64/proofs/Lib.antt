@@ -5,5 +5,4 @@ pub mod Second
 pub mod Simplex
 pub mod DistanceCall
 pub mod Searches
-pub mod Repeats
 pub mod Sheet

@@ -7,6 +7,8 @@ ghost use Prim.Native.Nat.{_≤_, _<_};
 ghost use lib.ListN.{length};
 ghost use Rattle.io.specs.Counts.{Counts};
 ghost use Rattle.libc.specs.Io.{Ended};
+ghost use Rattle.text.specs.Put.{Put};
+ghost use Rattle.outfile.specs.Names.{AfterFolder, Beside, joined, kept};
 
 fn tell(name: &[u8], what: &[u8]) {
     io::write_all(STDERR_FILENO, name);
@@ -111,7 +113,7 @@ pub fn may_be_replaced(name: &[u8]) -> bool {
 
 // The place after the last slash.
 fn after_folder(name: &[u8]) -> usize
-    ensures { λ r. ⌜ r ≤ length (now (name .entry)) ⌝ }
+    ensures { λ r. ⌜ AfterFolder (now (name .entry)) r ⌝ }
 {
     let mut i = name.len();
     while i > 0 {
@@ -126,7 +128,7 @@ fn after_folder(name: &[u8]) -> usize
 
 // A name beside the file, yet to be completed by `begin`, at the start of beside, and its length.
 pub fn name_beside(name: &[u8], beside: &mut [u8]) -> usize
-    ensures { λ r. ⌜ Counts r (now (beside .exit)) ⌝ }
+    ensures { λ r. ⌜ Counts r (now (beside .exit)) × Beside (now (name .entry)) (now (beside .entry)) (now (beside .exit)) r ⌝ }
 {
     let folder = after_folder(name);
     let at = text::put_text(beside, 0, &name[..folder]);
@@ -181,7 +183,7 @@ fn written(fd: i32, beside: &[u8]) -> bool {
 
 // NAME.old at the start of old, and its length.
 fn name_of_old(name: &[u8], old: &mut [u8]) -> usize
-    ensures { λ r. ⌜ Counts r (now (old .exit)) ⌝ }
+    ensures { λ r. ⌜ Counts r (now (old .exit)) × Put (now (old .entry)) 0 (joined (now (name .entry)) kept (length (now (old .entry)))) (now (old .exit)) r ⌝ }
 {
     let at = text::put_text(old, 0, name);
     text::put_text(old, at, b".old")

@@ -44,7 +44,7 @@ refute : (m n : ℕ) → T (leb n m) → m < n → ⊥
 refute m n h l = lt-irrefl m (lt-of-lt-of-le l (leb→le n m h))
 
 -- the corner (5, -5), which stands at (7.07, 0) then, and the wall's point there
-not-clear : Clear square wall numbers (ofBits binary32 0) → ⊥
+pub not-clear : Clear square wall numbers (ofBits binary32 0) → ⊥
 unfolding ofBits toBits size unit _⊠_ turnA turnB
 not-clear clear = refute _ _ tt (clear half (leb→le _ _ tt) (leb→le _ _ tt) turnA turnB
     (record { weight = λ i. cond (eqb i 1) 1 0; some = leb→le 1 1 tt })
@@ -71,7 +71,7 @@ still-b : TurnAt early 1073741824 (bodyB dot1 dot1 passing)
 unfolding ofBits toBits size _⊠_
 still-b = record { over = 1; under = 800 * 2 ^ 149; some = leb→le 1 (800 * 2 ^ 149) tt; long-enough = leb→le _ _ tt; short-enough = leb→le _ _ tt }
 
-not-clear-between-samples : Clear dot1 dot1 passing (ofBits binary32 0) → ⊥
+pub not-clear-between-samples : Clear dot1 dot1 passing (ofBits binary32 0) → ⊥
 unfolding ofBits toBits size unit _⊠_ still-a still-b
 not-clear-between-samples clear = refute _ _ tt (clear early (leb→le _ _ tt) (leb→le _ _ tt) still-a still-b (record {
   weight = λ i. 1;

@@ -52,6 +52,7 @@ use Rattle.simplex64.proofs as simplex64
 use Rattle.distance64.proofs as distance64
 use Rattle.separation64.proofs as separation64
 use Rattle.sweep_toi64.proofs as sweep_toi64
+use Rattle.toi_proxy64.proofs as toi_proxy64
 use Rattle.sweep_numbers64.proofs as sweep_numbers64
 use Rattle.work64.proofs as work64
 use Rattle.fields64.proofs as fields64
@@ -64,6 +65,7 @@ use Rattle.salvage_walk.specs.declared.Salvaged.{Salvaged}
 use Rattle.job_text.specs.declared.job.Built.{Built}
 use Rattle.pack_lines.specs.declared.Packed.{Packed}
 use Rattle.unpack_blocks.specs.declared.Unpacked.{Unpacked}
+use Rattle.toi_proxy64.specs.declared.ToiProxy.{ToiProxy as ToiProxy64}
 use Rattle.sheet_lines64.specs.declared.part.Written.{Written as Written64}
 
 -- `ToiProxy`, where a contract tells its parts
@@ -93,6 +95,10 @@ packed-by-parts p0 p1 p2 = λ i. record { held = p0 i; at = p1 i; told = p2 i }
 -- `Unpacked`, where a contract tells its parts
 unpacked-by-parts : {x y : Unpacked} → x .blocks ≡ y .blocks → x .at ≡ y .at → x .told ≡ y .told → x ≡ y
 unpacked-by-parts p0 p1 p2 = λ i. record { blocks = p0 i; at = p1 i; told = p2 i }
+
+-- `ToiProxy64`, where a contract tells its parts
+toi-proxy64-by-parts : {x y : ToiProxy64} → x .points ≡ y .points → x .radius ≡ y .radius → x ≡ y
+toi-proxy64-by-parts p0 p1 = λ i. record { points = p0 i; radius = p1 i }
 
 -- `Written64`, where a contract tells its parts
 written64-by-parts : {x y : Written64} → x .at ≡ y .at → x .totals ≡ y .totals → x .last ≡ y .last → x ≡ y
@@ -1447,6 +1453,56 @@ module _ {M : Type 1} (𝓤 : URA M) (H : Heap 𝓤) (A : Atoms 𝓤) (mem : Mem
   pub sweep-toi64-sweep-time-of-impact : OneResult 𝓤 H A sweep_toi64.sweep_time_of_impact.ended (sweep_toi64.sweep_time_of_impact.spec 𝓤 H A mem run)
   sweep-toi64-sweep-time-of-impact = record {
     clauses = sweep_toi64.sweep_time_of_impact.clauses 𝓤 H A mem run;
+    of-contract = refl;
+    once = λ κs a g r r' v v'. told 𝓤 (λ p q. (search same-value, refl));
+  }
+
+  -- ---- toi_proxy64
+  pub toi-proxy64-new : OneResult 𝓤 H A toi_proxy64.new.ended (toi_proxy64.new.spec 𝓤 H A mem run)
+  toi-proxy64-new = record {
+    clauses = toi_proxy64.new.clauses 𝓤 H A mem run;
+    of-contract = refl;
+    once = λ κs a g r r' v v'. told 𝓤 (λ p q. (search (same-value, toi-proxy64-by-parts), refl));
+  }
+
+  pub toi-proxy64-points : OneResult 𝓤 H A toi_proxy64.points.ended (toi_proxy64.points.spec 𝓤 H A mem run)
+  toi-proxy64-points = record {
+    clauses = toi_proxy64.points.clauses 𝓤 H A mem run;
+    of-contract = refl;
+    once = λ κs a g r r' v v'. told 𝓤 (λ p q. (search same-value, refl));
+  }
+
+  pub toi-proxy64-proxy-distance : OneResult 𝓤 H A toi_proxy64.proxy_distance.ended (toi_proxy64.proxy_distance.spec 𝓤 H A mem run)
+  toi-proxy64-proxy-distance = record {
+    clauses = toi_proxy64.proxy_distance.clauses 𝓤 H A mem run;
+    of-contract = refl;
+    once = λ κs a g r r' v v'. told 𝓤 (λ p q. (search same-value, refl));
+  }
+
+  pub toi-proxy64-radius : OneResult 𝓤 H A toi_proxy64.radius.ended (toi_proxy64.radius.spec 𝓤 H A mem run)
+  toi-proxy64-radius = record {
+    clauses = toi_proxy64.radius.clauses 𝓤 H A mem run;
+    of-contract = refl;
+    once = λ κs a g r r' v v'. told 𝓤 (λ p q. (search same-value, refl));
+  }
+
+  pub toi-proxy64-support : OneResult 𝓤 H A toi_proxy64.support.ended (toi_proxy64.support.spec 𝓤 H A mem run)
+  toi-proxy64-support = record {
+    clauses = toi_proxy64.support.clauses 𝓤 H A mem run;
+    of-contract = refl;
+    once = λ κs a g r r' v v'. told 𝓤 (λ p q. (search same-value, refl));
+  }
+
+  pub toi-proxy64-support-points : OneResult 𝓤 H A toi_proxy64.support_points.ended (toi_proxy64.support_points.spec 𝓤 H A mem run)
+  toi-proxy64-support-points = record {
+    clauses = toi_proxy64.support_points.clauses 𝓤 H A mem run;
+    of-contract = refl;
+    once = λ κs a g r r' v v'. told 𝓤 (λ p q. (search same-value, refl));
+  }
+
+  pub toi-proxy64-sweep-time-of-impact : OneResult 𝓤 H A toi_proxy64.sweep_time_of_impact.ended (toi_proxy64.sweep_time_of_impact.spec 𝓤 H A mem run)
+  toi-proxy64-sweep-time-of-impact = record {
+    clauses = toi_proxy64.sweep_time_of_impact.clauses 𝓤 H A mem run;
     of-contract = refl;
     once = λ κs a g r r' v v'. told 𝓤 (λ p q. (search same-value, refl));
   }

@@ -12,6 +12,7 @@ use Rattle.model.specs.declared.Status.{Status}
 use Rattle.model.specs.declared.Status.the-variants.{Overlapped, Hit, Separated, Failed}
 use Rattle.model.specs.declared.BlockAnswer.{BlockAnswer}
 use Rattle.model.specs.declared.BlockAnswer.the-variants.{Worked, Refused}
+use Rattle.report_batches.specs.Told.{sumOfRows, AddsUp, Given}
 use Rattle.report_counts.specs.Rows.{statusRow, hitRow, refusalRow, detailBy, rowsOf, rowsIn, timesIn}
 use Rattle.report_counts.specs.Largest.{hold}
 use Rattle.report_counts.specs.Report.{everyAnswer, tally, report}
@@ -197,10 +198,6 @@ of-refusal d low high = record {
 }
 
 -- ---- answers
--- a number that a block can be refused by: 3 to 11, or 13
-abbrev pub Given : ℕ → Type 0
-Given n = (3 ≤ n) × (n ≤ 13) × (n ≡ 12 → ⊥)
-
 abbrev pub NumberGiven : BlockAnswer → Type 0
 NumberGiven (Worked job v) = Unit {0}
 NumberGiven (Refused job number) = Given number
@@ -240,11 +237,6 @@ answers-sums [] h = nothing-sums
 answers-sums (x ∷ xs) h = sums-append (rowsOf x) (rowsIn xs) (answer-sums x (h .0)) (answers-sums xs (h .1))
 
 -- ---- the report
--- the sum of n counts from row k on
-unfoldable pub sumOfRows : ℕ → ℕ → List ℕ → ℕ
-sumOfRows k zero counts = 0
-sumOfRows k (suc n) counts = getD counts k 0 + sumOfRows (suc k) n counts
-
 rows-counted : (k n : ℕ) (rows : List ℕ) → k + n ≤ 28 → sumFrom k n rows < 2 ^ 64 → sumOfRows k n (tally rows) ≡ sumFrom k n rows
 unfolding sumFrom sumOfRows
 rows-counted k zero rows h small = refl
@@ -252,14 +244,6 @@ rows-counted k (suc n) rows h small =
     let e : 0 + k ≡ k = omega arith in
     let here : getD (tally rows) k 0 ≡ hold (timesIn k rows) = rw e at (getD-tally 0 28 rows k (omega arith)) in
     omega (arith, here, rows-counted (suc k) n rows (omega arith) (omega arith))
-
-pub record AddsUp (counts : List ℕ) : Type 0 where
-  -- BLOCKS: clear, overlapped, failed, hit; and refused
-  pub blocks : getD counts 0 0 ≡ sumOfRows 1 4 counts + getD counts 17 0
-  -- HIT: the eighths, 1, below, above, not a number
-  pub hits : getD counts 4 0 ≡ sumOfRows 5 12 counts
-  -- REFUSED: 3 to 11, and 13
-  pub refused : getD counts 17 0 ≡ sumOfRows 18 10 counts
 
 one-row : (k : ℕ) (counts : List ℕ) → sumOfRows k 1 counts ≡ getD counts k 0
 unfolding sumOfRows

@@ -17,26 +17,9 @@ use Rattle.report_counts.specs.declared.most.Most.the-variants.{Nowhere, At}
 use Rattle.report_counts.specs.declared.most.Largest.{Largest}
 use Rattle.report_counts.specs.Largest.{hold, larger, nowhere, largerEach, seen, largestFrom, largestIn}
 use Rattle.report_counts.specs.Report.{report}
+use Rattle.report_batches.specs.Told.{Place, inBatch, inBatches, shown, shownAt, AtMost, Below, nobody, Told, none, first, callsOf, searchesOf, stepsOf}
+use Rattle.report_batches.specs.Told.{Firsts}
 use Rattle.report_counts.proofs.Places.{each-assoc, none-each}
-
--- ---- blocks with their places, in order
-pub record Place : Type 0 where
-  pub batch : ℕ
-  pub block : ℕ
-  pub answer : BlockAnswer
-
-abbrev placed : ℕ → ℕ → BlockAnswer → Place
-placed i j x = record { batch = i; block = j; answer = x }
-
--- batch i's answers that follow n others
-unfoldable pub inBatch : ℕ → ℕ → List BlockAnswer → List Place
-inBatch i n [] = []
-inBatch i n (x ∷ xs) = placed i (n + 1) x ∷ inBatch i (n + 1) xs
-
--- batches that follow i others
-unfoldable pub inBatches : ℕ → List (List BlockAnswer) → List Place
-inBatches i [] = []
-inBatches i (b ∷ bs) = inBatch (i + 1) 0 b ++ inBatches (i + 1) bs
 
 unfoldable foldEach : List Place → Largest
 foldEach [] = nowhere
@@ -63,35 +46,9 @@ fold-batches i (b ∷ bs) =
     ∙ ap (largerEach (largestFrom (i + 1) 0 b)) (fold-batches (i + 1) bs)
 
 -- ---- the first of the largest
--- what a place shows of a count: none where its block was refused
-abbrev shown : (Counts → ℕ) → ℕ → ℕ → BlockAnswer → Most
-shown which i j (Worked job v) = At (which (v .counts)) (hold i) (hold j)
-shown which i j (Refused job number) = Nowhere
-
-abbrev pub shownAt : (Counts → ℕ) → Place → Most
-shownAt which p = shown which (p .batch) (p .block) (p .answer)
-
 unfoldable foldOne : (Counts → ℕ) → List Place → Most
 foldOne which [] = Nowhere
 foldOne which (p ∷ ps) = larger (shownAt which p) (foldOne which ps)
-
--- at most n, and below n; what was not worked is both
-abbrev pub AtMost : ℕ → Most → Type 0
-AtMost n Nowhere = Unit {0}
-AtMost n (At m i j) = m ≤ n
-
-abbrev pub Below : ℕ → Most → Type 0
-Below n Nowhere = Unit {0}
-Below n (At m i j) = m < n
-
-abbrev nobody : Place
-nobody = placed 0 0 (Refused 0 0)
-
--- place k shows the maximum, none shows more, and those before it show less; or there is none, and nothing is shown
-pub data Told (which : Counts → ℕ) (ps : List Place) (m : Most) : Type 0 where
-  none : m ≡ Nowhere → ((k : ℕ) → shownAt which (getD ps k nobody) ≡ Nowhere) → Told which ps m
-  first : (k n i j : ℕ) → m ≡ At n i j → k < length ps → shownAt which (getD ps k nobody) ≡ At n i j
-      → ((l : ℕ) → AtMost n (shownAt which (getD ps l nobody))) → ((l : ℕ) → l < k → Below n (shownAt which (getD ps l nobody))) → Told which ps m
 
 at-most : (n m : ℕ) (s : Most) → n ≤ m → AtMost n s → AtMost m s
 at-most n m Nowhere h p = tt
@@ -166,15 +123,6 @@ told which [] = none refl (none-shown which)
 told which (p ∷ ps) = one-more which p ps (shownAt which p) (foldOne which ps) refl (told which ps)
 
 -- ---- the three lines
-abbrev pub callsOf : Counts → ℕ
-callsOf n = n .«distance_calls»
-
-abbrev pub searchesOf : Counts → ℕ
-searchesOf n = n .searches
-
-abbrev pub stepsOf : Counts → ℕ
-stepsOf n = n .«root_steps»
-
 one-calls : (i j : ℕ) (x : BlockAnswer) → seen (hold i) (hold j) x .calls ≡ shown callsOf i j x
 one-calls i j (Worked job v) = refl
 one-calls i j (Refused job number) = refl
@@ -201,11 +149,6 @@ fold-steps : (ps : List Place) → foldEach ps .steps ≡ foldOne stepsOf ps
 unfolding foldEach foldOne
 fold-steps [] = refl
 fold-steps (p ∷ ps) = rw (one-steps (p .batch) (p .block) (p .answer), fold-steps ps)
-
-pub record Firsts (bs : List (List BlockAnswer)) (a : Largest) : Type 0 where
-  pub calls : Told callsOf (inBatches 0 bs) (a .calls)
-  pub searches : Told searchesOf (inBatches 0 bs) (a .searches)
-  pub steps : Told stepsOf (inBatches 0 bs) (a .steps)
 
 pub firsts : (bs : List (List BlockAnswer)) → Firsts bs (report bs .largest)
 unfolding report

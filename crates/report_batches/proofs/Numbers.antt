@@ -41,7 +41,8 @@ use Rattle.model.proofs.Sheet.{answers-cut}
 use Rattle.report_counts.specs.Report.{everyAnswer, report}
 use Rattle.report_counts.proofs.Tally.{by-test}
 use Rattle.report_batches.specs.Batches.{answersOf}
-use Rattle.report_batches.proofs.AddUp.{Given, NumberGiven, NumbersGiven, AddsUp, counts-add-up}
+use Rattle.report_batches.specs.Told.{AddsUp, Given}
+use Rattle.report_batches.proofs.AddUp.{NumberGiven, NumbersGiven, counts-add-up}
 
 -- ---- a sweep that was begun is not refused
 unfoldable Begun : SweepAnswer → Type 0

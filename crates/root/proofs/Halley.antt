@@ -10,9 +10,8 @@ use native.Mathlib.Decide.{decLe}
 use native.Mathlib.Omega.{arith}
 use mathlib.Core.Bool.{Bool, true, false, not, cond}
 use lib.Dec.{T, leb, leb→le, nleb→lt, lit≤}
-use Rattle.model.specs.Root.{nearRoot}
 use Rattle.root_list.proofs.Rule.{Guess}
-use Rattle.model.proofs.Root.Floor.{sq-suc, sq-two, sq-lt-back, floor-le, near-down, near-up}
+use Rattle.model.proofs.Root.Floor.{nearRoot, sq-suc, sq-two, sq-lt-back, floor-le, near-down, near-up}
 
 -- (t + u)^2 t, multiplied out
 cube : (t u : ℕ) → (t + u) * (t + u) * t ≡ t * (t * t) + u * (2 * (t * t) + t * u)

@@ -4,6 +4,7 @@ ghost use mathlib.Core.Path.{_≡_};
 ghost use Prim.Native.Nat.{_+_, _*_, _/_, _^_, _≤_, _<_};
 ghost use lib.Ieee.{binary32, ofBits};
 ghost use Rattle.model.specs.Root as Root;
+ghost use Rattle.model.proofs.Root.Floor.{nearRoot};
 ghost use Rattle.model.specs.Nearest.{Rooted};
 
 // The whole part of a / d.
@@ -18,7 +19,7 @@ fn quotient(a: u64, d: u64) -> u64
 // cut to a whole number or one less.
 fn near(n: u64) -> u64
     requires { ⌜ (2 ^ 46 ≤ n) × (n < 2 ^ 48) ⌝ }
-    ensures { λ r. ⌜ r ≡ Root.nearRoot n ⌝ }
+    ensures { λ r. ⌜ r ≡ nearRoot n ⌝ }
 {
     let g = root_guess::guess(n / 274877906944) as u64;
     let square = g * g;

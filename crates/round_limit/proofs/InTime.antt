@@ -8,12 +8,13 @@
 --   Triangles   no triangle of differences is larger than the bound allows
 --   Regions     which region of a solve leads to which state
 --   Ends        the rounds of the call themselves
+--   Limits      the same rounds with a larger limit
 -- At 2,048 the limit is reached: `squared_sheets` has such a call, computed.
 -- Assumes nothing.
 
-use mathlib.Core.Path.{_≡_, refl, sym, ap, _∙_, subst}
+use mathlib.Core.Path.{_≡_, refl, sym, _∙_, subst}
 use mathlib.Core.List.{List}
-use Prim.Native.Nat.{ℕ, zero, suc, _/_, _%_, _<_}
+use Prim.Native.Nat.{ℕ, _/_, _%_, _≤_, _<_}
 use native.Mathlib.Omega.{arith}
 use lib.Dec.{lit≤, lit<}
 use lib.ListN.{length}
@@ -21,16 +22,17 @@ use lib.Ieee.{Float, Format, binary32, binary64}
 use Rattle.model.specs.declared.Pose.{Pose}
 use Rattle.model.specs.declared.SimplexCache.{SimplexCache}
 use Rattle.model.specs.declared.Ending.the-variants.{RoundLimit}
-use Rattle.model.specs.declared.ProxyDistanceOutput.{ProxyDistanceOutput}
-use Rattle.model.specs.declared.DistanceAnswer.the-variants.{Measured, Refused}
-use Rattle.model.specs.Distance.{maxIterations, measure, rounds, witnessPoints, distanceBy, distanceRefusal, proxyDistance}
+use Rattle.model.specs.Ground.{origin}
+use Rattle.model.specs.Distance.{maxIterations, startSimplex, startCount}
 use Rattle.exact.specs.SquaredPaper.{SquaredPaper, Room}
-use Rattle.round_limit.specs.RoundLimit.{EnoughRounds, boundInTime, roundsWithin, NeverRunOut, LimitNeverReached, AlwaysExact}
+use Rattle.round_limit.specs.RoundLimit.{EnoughRounds, boundInTime, mostRounds, roundsWithin, NeverRunOut, LimitNeverReached, TellsAtMost, AlwaysExact}
 use Rattle.exact.proofs.Paper.{InDomain}
 use Rattle.exact.proofs.Answered.{answered-in-domain}
 use Rattle.exact.proofs.Accepted.{accepted}
-use Rattle.exact.proofs.Demand3.{ending-told, demand3, room-of}
+use Rattle.exact.proofs.Demand3.{demand3, room-of}
+use Rattle.circles.proofs.Told.{told-by-rounds}
 use Rattle.round_limit.proofs.Ends.{InTime, call-ends}
+use Rattle.round_limit.proofs.Limits.{steady, few-rounds}
 
 in-time : (f : Format) {bound : ℕ} → Room f bound → (k : ℕ) → EnoughRounds bound k → {p : Pose} {a b : List Float} (paper : SquaredPaper bound p a b)
     → InDomain paper → (c : SimplexCache) → roundsWithin f k p a b c .ending ≡ RoundLimit → ⊥
@@ -53,21 +55,18 @@ never-run-out f bound room k enough p a ra b rb c paper inputs = in-time f room 
     }
 
 pub limit-never-reached : (f : Format) (bound : ℕ) → Room f bound → EnoughRounds bound maxIterations → LimitNeverReached f bound
-unfolding proxyDistance measure
-limit-never-reached f bound room enough p a ra b rb radii pair c paper o answered = go (distanceRefusal f p a ra b rb pair c) (λ h. h) answered
-  where
-    go : (n : ℕ) → (n ≡ 0 → distanceRefusal f p a ra b rb pair c ≡ 0) → distanceBy f p a ra b rb radii pair c n .answer ≡ Measured o
-        → o .ending ≡ RoundLimit → ⊥
-    go zero none is limit =
-        let r = rounds f a b p c in
-        let told : measure f p a ra b rb radii pair c .output ≡ o = cc in
-        let same = ending-told f (r .ending) radii ra rb (witnessPoints f (r .simplex) (r .count)) r in
-        let ends : r .ending ≡ o .ending = sym same ∙ ap (λ (x : ProxyDistanceOutput). x .ending) told in
-        in-time f room maxIterations enough paper (answered-in-domain f ra rb paper pair c (none refl)) c (ends ∙ limit)
-    go (suc n) none is limit = refused is
-      where
-        refused : Refused (suc n) ≡ Measured o → ⊥
-        refused e = let z : _≡_ {A = ℕ} 0 1 = cc in omega arith
+limit-never-reached f bound room enough p a ra b rb radii pair c paper o answered limit =
+    let told = told-by-rounds f p a ra b rb radii pair c o answered in
+    in-time f room maxIterations enough paper (answered-in-domain f ra rb paper pair c (told .passed)) c (sym (told .ending) ∙ limit)
+
+-- rounds that do not run out within a limit are the same within a larger one, and tell no more
+pub tells-at-most : (f : Format) (bound : ℕ) → Room f bound → (k : ℕ) → k ≤ maxIterations → EnoughRounds bound k → TellsAtMost f bound k
+tells-at-most f bound room k less enough p a ra b rb radii pair c paper o answered =
+    let told = told-by-rounds f p a ra b rb radii pair c o answered in
+    let s = startSimplex f a b p c in
+    let n = startCount c (length a / 2) (length b / 2) in
+    let ends = in-time f room k enough paper (answered-in-domain f ra rb paper pair c (told .passed)) c in
+    rw (told .iterations, steady f a b p k maxIterations less s n (origin f) 0 ends) (omega (arith, few-rounds f a b p k s n (origin f) 0))
 
 pub always-exact : (f : Format) (bound : ℕ) → Room f bound → EnoughRounds bound maxIterations → AlwaysExact f bound
 always-exact f bound room enough p a ra b rb radii pair c paper inputs arrays own =
@@ -76,16 +75,22 @@ always-exact f bound room enough p a ra b rb radii pair c paper inputs arrays ow
     record { output = o; answered = answered; inTime = inTime; exact = demand3 f bound room p a ra b rb radii pair c paper o arrays answered inTime }
 
 -- ---- the bounds of the formats: 8 * 16 ^ 2 and 8 * 22 ^ 2 are below 4 ^ 6, so 19 rounds are enough, and the call has one more
-pub enough-in-the-call : (f : Format) → EnoughRounds (boundInTime f) maxIterations
-enough-in-the-call binary32 = record { quarterings = 6; small = lit< tt; rounds = lit≤ tt }
-enough-in-the-call binary64 = record { quarterings = 6; small = lit< tt; rounds = lit≤ tt }
+six-quarterings : (f : Format) (k : ℕ) → mostRounds ≤ k → EnoughRounds (boundInTime f) k
+six-quarterings binary32 k h = record { quarterings = 6; small = lit< tt; rounds = h }
+six-quarterings binary64 k h = record { quarterings = 6; small = lit< tt; rounds = h }
 
-room-in-time : (f : Format) → Room f (boundInTime f)
+pub enough-in-the-call : (f : Format) → EnoughRounds (boundInTime f) maxIterations
+enough-in-the-call f = six-quarterings f maxIterations (lit≤ tt)
+
+pub room-in-time : (f : Format) → Room f (boundInTime f)
 room-in-time binary32 = (lit≤ tt, lit≤ tt)
 room-in-time binary64 = (lit≤ tt, lit≤ tt)
 
 pub always-exact-on-squared-paper : (f : Format) → AlwaysExact f (boundInTime f)
 always-exact-on-squared-paper f = always-exact f (boundInTime f) (room-in-time f) (enough-in-the-call f)
+
+pub at-most-19-rounds : (f : Format) → TellsAtMost f (boundInTime f) mostRounds
+at-most-19-rounds f = tells-at-most f (boundInTime f) (room-in-time f) mostRounds (lit≤ tt) (six-quarterings f mostRounds (lit≤ tt))
 
 -- at 2,048, where 20 rounds may run out (`Reached`), 33 never do: 8 * 2048 ^ 2 is below 4 ^ 13
 pub never-run-out-of-33 : NeverRunOut binary64 2048 33

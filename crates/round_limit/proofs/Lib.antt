@@ -1,6 +1,7 @@
 pub mod Between
 pub mod Edge
 pub mod Ends
+pub mod Limits
 pub mod InTime
 pub mod Potential
 pub mod Regions

@@ -50,6 +50,16 @@ LimitNeverReached f bound =
     (p : Pose) (a : List Float) (ra : Float) (b : List Float) (rb : Float) (radii : Bool) (pair : ℕ) (c : SimplexCache) → SquaredPaper bound p a b
     → (o : ProxyDistanceOutput) → proxyDistance f p a ra b rb radii pair c .answer ≡ Measured o → o .ending ≡ RoundLimit → ⊥
 
+-- no call tells more than k rounds, whatever its radii and the cache that came, whether the outlines share a point or not
+abbrev pub TellsAtMost : Format → ℕ → ℕ → Type 0
+TellsAtMost f bound k =
+    (p : Pose) (a : List Float) (ra : Float) (b : List Float) (rb : Float) (radii : Bool) (pair : ℕ) (c : SimplexCache) → SquaredPaper bound p a b
+    → (o : ProxyDistanceOutput) → proxyDistance f p a ra b rb radii pair c .answer ≡ Measured o → o .iterations ≤ k
+
+-- 19, the rounds for six quarterings
+abbrev pub mostRounds : ℕ
+mostRounds = roundsFor 6
+
 -- ---- demand 3 without "unless": every call whose cache is not refused is answered, and every answer is exact
 module _ (f : Format) (p : Pose) (a : List Float) (ra : Float) (b : List Float) (rb : Float) (radii : Bool) (pair : ℕ) (c : SimplexCache)
     {bound : ℕ} (paper : SquaredPaper bound p a b) where

@@ -10,15 +10,17 @@ use lib.Ieee.{binary32, ofBits, ofInt, add, sub, mul, div, neg, lt, le, eq, roun
 use Rattle.integers.specs.Signed.{ofNat, _⊠_, _≼_}
 use Rattle.model.specs.declared.Solved.{Solved}
 use Rattle.model.specs.declared.Rounds.{Rounds}
+use Rattle.model.specs.declared.Ending.{Ending}
 use Rattle.model.specs.declared.Ending.the-variants.{Settled}
 use Rattle.model.specs.declared.ProxyDistanceOutput.{ProxyDistanceOutput}
 use Rattle.model.specs.declared.DistanceAnswer.the-variants.{Measured}
 use Rattle.model.specs.Ground.{abs}
 use Rattle.model.specs.Ground as Ground
+use Rattle.model.specs.Root.{root}
 use Rattle.model.specs.Domain.{badParts}
 use Rattle.model.specs.Support.{supportFrom}
 use Rattle.model.specs.Simplex.{slot, region2, region3, kept, solveSimplex2, solveSimplex3, solve}
-use Rattle.model.specs.Distance.{allBelow, held, vertex, startSimplex, roundsFrom, proxyDistance}
+use Rattle.model.specs.Distance.{allBelow, replaced, held, vertex, startSimplex, roundsFrom, witnessPoints, measure, proxyDistance}
 use Rattle.plane.specs.Plane.{Point, difference, scaled, dot, total, weightedSum}
 use Rattle.squared_sheets.specs.Sheet.{Sheet, cornerOf, drawn, drawnPose, every, posedCorner, OnPaper}
 use Rattle.plane.specs.Fraction.{Fraction, _≃ᶠ_}
@@ -125,25 +127,27 @@ staying-lengths = (
   by-weights staying 2 (fraction 10 1) (λ i. 1) (lit< tt) (below1 _ (lit≤ tt)) refl,
 )
 
--- ---- what the theorem says of the last round that goes on in each
+-- ---- what the theorem says of the last round that goes on in each: the ending and the rounds are those that the calls tell
 module _ (s : Sheet) where
   abbrev CallReaches : ℕ → ℕ → Type 0
   CallReaches k n = Reaches binary32 (drawn binary32 (s .a)) (drawn binary32 (s .b)) (drawnPose binary32 s) none 20 k (at s n)
 
-  abbrev NearerAt : OnPaper s 16 → ℕ → Type 0
-  NearerAt paper n = Nearer binary32 (on-squared-paper binary32 s 16 paper) (whole s) (at s n)
+  abbrev NearerAt : OnPaper s 16 → Ending → ℕ → ℕ → Type 0
+  NearerAt paper ending rounds n = Nearer binary32 (on-squared-paper binary32 s 16 paper) ending rounds (at s n)
 
   says : (paper : OnPaper s 16) (o : ProxyDistanceOutput) → call s none .answer ≡ Measured o → (k n : ℕ) → CallReaches (suc (suc k)) n → On s n
-      → NearerAt paper n
+      → NearerAt paper (o .ending) (o .iterations) n
   says paper o answered k n r g =
       no-circles-on-squared-paper binary32 (drawnPose binary32 s) (drawn binary32 (s .a)) (Ground.zero binary32) (drawn binary32 (s .b))
       (Ground.zero binary32) false ours none
-      (on-squared-paper binary32 s 16 paper) o answered 20 k (at s n) r g
+      (on-squared-paper binary32 s 16 paper) o answered k (at s n) r g
 
-pub falling-nearer : NearerAt falling falling-on-paper 2
-unfolding proxyDistance badParts abs ofBits ofInt round add sub mul neg lt le
+pub falling-nearer : NearerAt falling falling-on-paper Settled 4 2
+unfolding proxyDistance measure roundsFrom startSimplex vertex held solve solveSimplex2 solveSimplex3 region2 region3 kept supportFrom witnessPoints allBelow
+    replaced badParts abs ofBits ofInt round add sub mul div neg lt le eq root
 falling-nearer = says falling falling-on-paper _ refl 16 2 (then (then first (falling-on .0)) (falling-on .1)) (falling-on .2)
 
-pub staying-nearer : NearerAt staying staying-on-paper 1
-unfolding proxyDistance badParts abs ofBits ofInt round add sub mul neg lt le
+pub staying-nearer : NearerAt staying staying-on-paper Settled 3 1
+unfolding proxyDistance measure roundsFrom startSimplex vertex held solve solveSimplex2 solveSimplex3 region2 region3 kept supportFrom witnessPoints allBelow
+    replaced badParts abs ofBits ofInt round add sub mul div neg lt le eq root
 staying-nearer = says staying staying-on-paper _ refl 17 1 (then first (staying-on .0)) (staying-on .1)

@@ -18,16 +18,18 @@ use Rattle.model.specs.Simplex.{region2, region3, kept, solveSimplex2, solveSim
 use Rattle.model.specs.Distance.{cache, allBelow, replaced, held, vertex, startSimplex, roundsFrom, witnessPoints, measure, proxyDistance}
 use Rattle.plane.specs.Plane.{Point, opposite, turned}
 use Rattle.plane.specs.Fraction.{Place, _≈_}
-use Rattle.exact.specs.SquaredPaper.{SquaredPaper, IsCache}
+use Rattle.exact.specs.SquaredPaper.{SquaredPaper, IsCache, Fits, InTheDomain}
 use Rattle.squared_sheets.specs.Sheet.{Sheet, int, drawn, drawnPose, every, OnPaper}
 use Rattle.exchange.specs.Exchange.{NearestDifference, IsInverse, Exchanged, IsShifted, Alike}
 use Rattle.exact.proofs.Below.{below2}
 use Rattle.exact.proofs.Kept.{two}
 use Rattle.exchange.proofs.Places.{nearest-by-corners}
-use Rattle.squared_sheets.proofs.Sheets.{on-squared-paper, sheetA, sheetB, inverse-drawn, shifted-drawn}
+use Rattle.squared_sheets.proofs.Sheets.{on-squared-paper, sheetA, sheetB, is-near, inverse-drawn, shifted-drawn, drawn-in-domain}
 use Rattle.squared_sheets.proofs.Instances.{none, ours, call, endings, joined, joined-on-paper, paperJoined, settled-is-not-limit, touching-is-not-limit}
 use Rattle.exchange.proofs.Exchange.{exchange-on-squared-paper}
 use Rattle.exchange.proofs.Shift.{shift-on-squared-paper}
+use Rattle.exchange_always.specs.Always.{Accepted, ExchangedAnswers, StaysInTheDomain, ShiftedAnswers}
+use Rattle.exchange_always.proofs.Always.{exchange-always-on-squared-paper, shift-always-on-squared-paper}
 
 -- ---- the sheets
 -- two segments, the second turned by a quarter
@@ -185,3 +187,33 @@ joined-exchanged =
     exchange-on-squared-paper binary32 (drawnPose binary32 joined) (drawnPose binary32 joinedBack) (drawn binary32 (joined .a)) (Ground.zero binary32)
     (drawn binary32 (joined .b)) (Ground.zero binary32) false false ours ours none none paperJoined _ _ joined-inverse none-is-cache none-is-cache refl refl
     touching-is-not-limit touching-is-not-limit
+
+-- ---- and with nothing computed: from the domain and empty caches alone, the calls are answered and tell the one nearest difference
+slanted-in-domain : InTheDomain binary32 paperSlanted (Ground.zero binary32) (Ground.zero binary32)
+slanted-in-domain =
+    let a : Fits (drawn binary32 (slanted .a)) = record { even = refl; some = lit< tt; few = lit≤ tt } in
+    let b : Fits (drawn binary32 (slanted .b)) = record { even = refl; some = lit< tt; few = lit≤ tt } in
+    drawn-in-domain binary32 slanted 16 slanted-on-paper a b
+
+none-accepted : Accepted ours none
+none-accepted = record { arrays = none-is-cache; own = refl }
+
+slanted-stays : StaysInTheDomain paperSlanted by
+unfolding on-squared-paper _⊠_
+slanted-stays = record { nearB = below2 _ (is-near 1048576 _ tt) (is-near 1048576 _ tt); nearShift = is-near 1048576 _ tt }
+
+pub slanted-exchanged-always :
+    let o = Ground.zero binary32 in
+    ExchangedAnswers binary32 (drawnPose binary32 slanted) (drawnPose binary32 slantedBack) (drawn binary32 (slanted .a)) o (drawn binary32 (slanted .b)) o
+    false false ours ours none none paperSlanted
+slanted-exchanged-always =
+    exchange-always-on-squared-paper binary32 _ _ _ _ _ _ false false ours ours none none paperSlanted slanted-in-domain slanted-inverse none-accepted
+    none-accepted
+
+pub slanted-alike-always :
+    let o = Ground.zero binary32 in
+    ShiftedAnswers binary32 (drawnPose binary32 slanted) (drawnPose binary32 slantedMoved) (drawn binary32 (slanted .a)) o (drawn binary32 (slanted .b))
+    (drawn binary32 (slantedMoved .b)) o false false ours ours none none paperSlanted by
+slanted-alike-always =
+    shift-always-on-squared-paper binary32 _ _ _ _ _ _ _ false false ours ours none none paperSlanted by slanted-in-domain slanted-shifted slanted-stays
+    none-accepted none-accepted

@@ -29,7 +29,7 @@ use Rattle.exact.proofs.Vectors.{whole-of-equal}
 use Rattle.exact.proofs.Paper.{wide, unit-root}
 use Rattle.squared_sheets.specs.Sheet.{Sheet, int, cornerOf, drawn, drawnPose, every, within, isZero, nearPoint, inDomain, shift, posedCorner, OnPaper}
 
-every-one : (n : ℕ) (t : ℕ → Bool) → T (every n t) → (i : ℕ) → i < n → T (t i)
+pub every-one : (n : ℕ) (t : ℕ → Bool) → T (every n t) → (i : ℕ) → i < n → T (t i)
 unfolding every
 every-one zero t h i l = absurd (not-suc-le-zero l)
 every-one (suc n) t h i l =
@@ -42,14 +42,14 @@ is-within n z h = record {
   lower = leb→le (z .minus) (z .plus + n) (and-r (leb (z .plus) (z .minus + n)) (leb (z .minus) (z .plus + n)) h);
 }
 
-is-near : (n : ℕ) (z : Point) → T (nearPoint n z) → Near n z
+pub is-near : (n : ℕ) (z : Point) → T (nearPoint n z) → Near n z
 is-near n z h = record {
   x = is-within n (z .x) (and-l (within n (z .x)) (within n (z .y)) h);
   y = is-within n (z .y)
       (and-r (within n (z .x)) (within n (z .y)) h);
 }
 
-zero-is : (z : Int) → T (isZero (z ⊟ ofNat 1)) → z ≃ ofNat 1
+pub zero-is : (z : Int) → T (isZero (z ⊟ ofNat 1)) → z ≃ ofNat 1
 zero-is z h = omega (arith, eqb→eq ((z ⊟ ofNat 1) .plus) ((z ⊟ ofNat 1) .minus) h)
 
 no-radius : (f : Format) → badRadius f (Ground.zero f) ≡ false
@@ -59,21 +59,21 @@ no-radius binary64 = refl
 
 module _ (f : Format) where
   -- a number drawn is that number
-  number-is : (z : ℤ) → Within 1048576 (int z) → IsWhole (ofInt f z) (int z)
+  pub number-is : (z : ℤ) → Within 1048576 (int z) → IsWhole (ofInt f z) (int z)
   unfolding ofInt
   number-is (pos n) w = record { sign = false; size = n; value = round-whole f false n (omega (arith, wide f, w .upper)); same = refl }
   number-is (negsuc n) w = record { sign = true; size = suc n; value = round-whole f true (suc n) (omega (arith, wide f, w .lower)); same = refl }
 
-  widen : {z : Int} → Within 1 z → Within 1048576 z
+  pub widen : {z : Int} → Within 1 z → Within 1048576 z
   widen w = record { upper = omega (arith, w .upper); lower = omega (arith, w .lower) }
 
-  drawn-at : (l : List ℤ) (i : ℕ) → i < length l → getD (drawn f l) i nan ≡ ofInt f (getD l i (pos 0))
+  pub drawn-at : (l : List ℤ) (i : ℕ) → i < length l → getD (drawn f l) i nan ≡ ofInt f (getD l i (pos 0))
   drawn-at [] i h = absurd (not-suc-le-zero h)
   drawn-at (z ∷ l) zero h = refl
   drawn-at (z ∷ l) (suc i) h = drawn-at l i (le-of-suc-le-suc h)
 
   module _ (l : List ℤ) (small : T (inDomain l)) where
-    part-within : (i : ℕ) → i < length l → Within 1048576 (int (getD l i (pos 0)))
+    pub part-within : (i : ℕ) → i < length l → Within 1048576 (int (getD l i (pos 0)))
     part-within i h = is-within 1048576 (int (getD l i (pos 0))) (every-one (length l) (λ i. within 1048576 (int (getD l i (pos 0)))) small i h)
 
     part-is : (i : ℕ) → i < length l → IsWhole (getD (drawn f l) i nan) (int (getD l i (pos 0)))
@@ -84,10 +84,10 @@ module _ (f : Format) where
     corners-near : (i : ℕ) → i < length (drawn f l) / 2 → Near 1048576 (cornerOf l i)
     corners-near i h = let e = length-map l (ofInt f) in record { x = part-within (2 * i) (omega arith); y = part-within (2 * i + 1) (omega arith) }
 
-    corners-are : (i : ℕ) → i < length (drawn f l) / 2 → IsPoint (point (drawn f l) i) (cornerOf l i)
+    pub corners-are : (i : ℕ) → i < length (drawn f l) / 2 → IsPoint (point (drawn f l) i) (cornerOf l i)
     corners-are i h = let e = length-map l (ofInt f) in record { x = part-is (2 * i) (omega arith); y = part-is (2 * i + 1) (omega arith) }
 
-  pub on-squared-paper : (s : Sheet) (bound : ℕ) → OnPaper s bound → SquaredPaper bound (drawnPose f s) (drawn f (s .a)) (drawn f (s .b))
+  unfoldable pub on-squared-paper : (s : Sheet) (bound : ℕ) → OnPaper s bound → SquaredPaper bound (drawnPose f s) (drawn f (s .a)) (drawn f (s .b))
   on-squared-paper s bound h =
       let eA = length-map (s .a) (ofInt f) in
       let eB = length-map (s .b) (ofInt f) in

@@ -1,11 +1,11 @@
 -- A sheet of squared paper as it is drawn: whole numbers alone. What a call gets from it, and a test that can be computed for whether all is near enough.
-use mathlib.Core.Bool.{Bool, true, _&&_}
-use mathlib.Core.List.{List, map}
+use mathlib.Core.Bool.{Bool, true, false, _&&_}
+use mathlib.Core.List.{List, [], _∷_, map}
 use Prim.Native.Nat.{ℕ, zero, suc, _+_, _*_, _/_}
 use lib.Dec.{T, leb, eqb}
 use lib.IntN.{ℤ, pos, negsuc}
 use lib.ListN.{length, getD}
-use lib.Ieee.{Float, Format, ofInt}
+use lib.Ieee.{Float, Format, ofInt, round}
 use Rattle.integers.specs.Signed.{Int, ofNat, neg, _⊞_, _⊟_, _⊠_}
 use Rattle.model.specs.declared.Pose.{Pose}
 use Rattle.model.specs.Ground.{vector, rotation, pose}
@@ -30,6 +30,18 @@ cornerOf l i = record { x = int (getD l (2 * i) (pos 0)); y = int (getD l (2 * i
 module _ (f : Format) where
   abbrev pub drawn : List ℤ → List Float
   drawn l = map (ofInt f) l
+
+  -- the same with -0 for the zeros at which a mark stands
+  abbrev pub marked : Bool → ℤ → Float
+  marked true (pos zero) = round f true 0 1
+  marked true (pos (suc n)) = ofInt f (pos (suc n))
+  marked true (negsuc n) = ofInt f (negsuc n)
+  marked false z = ofInt f z
+
+  abbrev pub drawnMarked : List Bool → List ℤ → List Float
+  drawnMarked [] l = drawn l
+  drawnMarked (m ∷ ms) [] = []
+  drawnMarked (m ∷ ms) (z ∷ l) = marked m z ∷ drawnMarked ms l
 
   abbrev pub drawnPose : Sheet → Pose
   drawnPose s = pose (rotation (ofInt f (s .cosine)) (ofInt f (s .sine))) (vector (ofInt f (s .shiftX)) (ofInt f (s .shiftY)))

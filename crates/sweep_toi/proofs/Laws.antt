@@ -21,9 +21,9 @@ use Rattle.model.specs.Separation.{function, newSeparation}
 use Rattle.model.specs.SweepToi.{called, overlapped, hit, separated, failed, failedAt, PushEnd, onward}
 use Rattle.model.specs.Corners.{noSearch, lastOf, afterwards, pushSearches, searchesBy, searchesFrom, swept, advanced}
 use Rattle.model.specs.SweepToi.{noCorners, noCounts, closestAt, high, pushFrom, advanceBy, advanceFrom}
-use Rattle.model.specs.Repeats.{since, further}
+use Rattle.sweep_toi.specs.Repeats.{since, further}
 use Rattle.model.proofs.Searches.{last-append}
-use Rattle.model.proofs.Repeats.{FixedCall, calls-repeat, call-corners-stay}
+use Rattle.sweep_toi.proofs.Repeats.{FixedCall, calls-repeat, call-corners-stay}
 use Rattle.separation.specs.ByPoses.{newSeparationBy}
 use Rattle.separation.proofs.Laws.{Keeps, moves-are-kept, new-at}
 use Rattle.sweep_toi.specs.declared.moment.Moment.{Moment}

@@ -17,7 +17,7 @@ use Rattle.model.specs.declared.SweepTask.{SweepTask}
 use Rattle.model.specs.declared.Counts.{Counts}
 use Rattle.model.specs.Ground.{abs}
 use Rattle.model.specs.SweepToi.{counts, searched, stepped, tried, low, high}
-use Rattle.model.specs.Repeats.{further}
+use Rattle.sweep_toi.specs.Repeats.{further}
 use Rattle.separation.specs.ByPoses.{searchBy, endA, endB, between}
 use Rattle.sweep_toi.specs.declared.moment.Moment.{Moment}
 use Rattle.sweep_toi.specs.declared.bracket.Bracket.{Bracket}

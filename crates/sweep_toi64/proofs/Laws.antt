@@ -25,9 +25,9 @@ use Rattle.model.specs.Corners.{lastOf}
 use Rattle.model64.specs.Corners.{noSearch, afterwards, pushSearches, searchesBy, searchesFrom, swept, advanced}
 use Rattle.model.specs.SweepToi.{noCorners, noCounts}
 use Rattle.model64.specs.SweepToi.{closestAt, high, pushFrom, advanceBy, advanceFrom}
-use Rattle.model.specs.Repeats.{since, further}
+use Rattle.sweep_toi64.specs.Repeats.{since, further}
 use Rattle.model64.proofs.Searches.{last-append}
-use Rattle.model64.proofs.Repeats.{FixedCall, calls-repeat, call-corners-stay}
+use Rattle.sweep_toi64.proofs.Repeats.{FixedCall, calls-repeat, call-corners-stay}
 use Rattle.separation64.specs.ByPoses.{newSeparationBy}
 use Rattle.separation64.proofs.Laws.{Keeps, moves-are-kept, new-at}
 use Rattle.sweep_toi64.specs.declared.moment.Moment.{Moment}

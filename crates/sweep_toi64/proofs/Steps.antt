@@ -19,7 +19,7 @@ use Rattle.model.specs.declared.Counts.{Counts}
 use Rattle.model.specs.Ground.{abs}
 use Rattle.model.specs.SweepToi.{counts, searched, stepped}
 use Rattle.model64.specs.SweepToi.{tried, low, high}
-use Rattle.model.specs.Repeats.{further}
+use Rattle.sweep_toi64.specs.Repeats.{further}
 use Rattle.separation64.specs.ByPoses.{searchBy, endA, endB, between}
 use Rattle.sweep_toi64.specs.declared.moment.Moment.{Moment}
 use Rattle.sweep_toi64.specs.declared.bracket.Bracket.{Bracket}

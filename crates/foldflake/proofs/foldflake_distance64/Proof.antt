@@ -1,6 +1,6 @@
 -- `foldflake::foldflake_distance64` meets its contract: what the f64 call tells is what `model` says. Assumes nothing.
 use lib.Ieee.{binary64}
-use Rattle.foldflake.proofs.Wide.{distance-told}
+use Rattle.bridge_own.proofs.Entry.{distance-told-same}
 use borrow.Author.Needs.{needs}
 use Rattle.foldflake.proofs.foldflake_distance64.Statement.{statement}
 use Rattle.foldflake.proofs.foldflake_distance64.Tie as tie
@@ -15,7 +15,7 @@ same-length-2 : tie.Need-same-length-2
 same-length-2 c = search needs
 
 returns : tie.Need-returns
-returns c = distance-told binary64 _ _ _ _ _ _ _ _ _ _ (c .before .before .before .before .distance-call .ensures)
+returns c = (distance-told-same binary64 _ _ _ _ _ _ _ _ _ _ .0) (c .before .before .before .before .distance-call .ensures)
 
 pub foldflake-distance64-spec : {M : Type 1} → statement M
 foldflake-distance64-spec =

@@ -3,7 +3,7 @@ use mathlib.Core.Path.{_≡_, ap, _∙_, subst⁻¹}
 use Prim.Native.Nat.{ℕ, _+_, _-_, _*_, _/_, _≤_, _<_}
 use native.Mathlib.Omega.{arith}
 use lib.Ieee.{binary32, ofBits}
-use Rattle.model.specs.Root.{nearRoot}
+use Rattle.model.proofs.Root.Floor.{nearRoot}
 use Rattle.root.proofs.Exponent.{wide, wide-range, widened, near-range, split}
 use borrow.Author.Needs.{needs}
 use Rattle.root.proofs.scaled.Statement.{statement}

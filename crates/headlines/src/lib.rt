@@ -1,0 +1,1 @@
+// What is promised, cited name by name: no code.

@@ -1,0 +1,4 @@
+pub mod Fields
+pub mod Worked
+pub mod FromLines
+pub mod Shown

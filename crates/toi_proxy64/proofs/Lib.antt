@@ -1,0 +1,3 @@
+-- Written by tests/written/wide.py from toi_proxy, in f64.
+pub mod Held
+pub mod PointLaws

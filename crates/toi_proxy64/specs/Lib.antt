@@ -1,0 +1,2 @@
+-- Written by tests/written/wide.py from toi_proxy, in f64.
+pub mod Points
