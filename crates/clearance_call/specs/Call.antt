@@ -4,6 +4,8 @@ use mathlib.Core.Path.{_≡_}
 use mathlib.Core.Bool.{_&&_, cond}
 use mathlib.Core.List.{List}
 use lib.Ieee.{Float, binary32, le}
+use Rattle.model.specs.declared.Vector.{Vector}
+use Rattle.model.specs.declared.Sweep.{Sweep}
 use Rattle.model.specs.Ground as Ground
 use Rattle.model.specs.Support.{point}
 use Rattle.model.specs.Domain.{pairRefusal, sweepsRefusal, fractionRefusal, slopRefusal, orElse}
@@ -19,12 +21,16 @@ abbrev pub fromRefusal : (from end : Float) → ℕ
 fromRefusal from end = cond (le (Ground.zero binary32) from && le from end) 0 7
 
 -- the sweep's refusals in the sweep's order, with the start after the end; 0 where nothing is refused
+abbrev pub refusalBy : (pointsA pointsB : List Float) (radii limits : Vector) (moveA moveB : Sweep) (from : Float) → ℕ
+refusalBy pointsA pointsB radii limits moveA moveB from =
+    orElse (pairRefusal binary32 pointsA pointsB (radii .x) (radii .y))
+    (orElse (sweepsRefusal binary32 moveA moveB)
+    (orElse (fractionRefusal binary32 (limits .x)) (orElse (fromRefusal from (limits .x)) (slopRefusal binary32 (limits .y)))))
+
+-- of a job's numbers, as the sweep reads them
 unfoldable pub refusalOf : (pointsA pointsB numbers : List Float) (from : Float) → ℕ
 refusalOf pointsA pointsB numbers from =
-    orElse (pairRefusal binary32 pointsA pointsB (point numbers 0 .x) (point numbers 0 .y))
-    (orElse (sweepsRefusal binary32 (moveAt numbers 2) (moveAt numbers 7))
-    (orElse (fractionRefusal binary32 (point numbers 1 .x))
-    (orElse (fromRefusal from (point numbers 1 .x)) (slopRefusal binary32 (point numbers 1 .y)))))
+    refusalBy pointsA pointsB (point numbers 0) (point numbers 1) (moveAt numbers 2) (moveAt numbers 7) from
 
 -- a verdict's answer, handed on
 abbrev pub clearedBy : Answer → Cleared

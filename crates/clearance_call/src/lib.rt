@@ -19,7 +19,7 @@ ghost use lib.Ieee.{binary32};
 ghost use Rattle.model.specs.Domain as Domain;
 ghost use Rattle.model.specs.Work as Work;
 ghost use Rattle.clearance_job.specs.Promise.{Given};
-ghost use Rattle.clearance_call.specs.Call.{fromRefusal, refusalOf, clearedBy, Told};
+ghost use Rattle.clearance_call.specs.Call.{fromRefusal, refusalBy, refusalOf, clearedBy, Told};
 
 // Places are in 2^24-ths of the way.
 pub enum Cleared {
@@ -74,14 +74,18 @@ fn move_at(numbers: &[f32], i: u32) -> Sweep
     }
 }
 
-// The number of a job's refusal, 0 where it is in the domain. A number that is missing is NaN.
-pub fn refusal_of(points_a: &[f32], points_b: &[f32], numbers: &[f32], from: f32) -> u32
-    ensures { λ r. ⌜ r ≡ refusalOf (now («points_a» .entry)) (now («points_b» .entry)) (now (numbers .entry)) from ⌝ }
+// The checks in their order: the first number, 0 where all pass.
+fn refusal_by(
+    points_a: &[f32],
+    points_b: &[f32],
+    radii: Vector,
+    limits: Vector,
+    move_a: Sweep,
+    move_b: Sweep,
+    from: f32,
+) -> u32
+    ensures { λ r. ⌜ r ≡ refusalBy (now («points_a» .entry)) (now («points_b» .entry)) radii limits «move_a» «move_b» from ⌝ }
 {
-    let radii = point(numbers, 0);
-    let limits = point(numbers, 1);
-    let move_a = move_at(numbers, 2);
-    let move_b = move_at(numbers, 7);
     let pair = check_pair(points_a, points_b, radii.x, radii.y);
     let Checked::Passed = pair else {
         return refusal(pair);
@@ -99,6 +103,17 @@ pub fn refusal_of(points_a: &[f32], points_b: &[f32], numbers: &[f32], from: f32
         return refusal(start);
     };
     refusal(check_slop(limits.y))
+}
+
+// The number of a job's refusal, 0 where it is in the domain. A number that is missing is NaN.
+pub fn refusal_of(points_a: &[f32], points_b: &[f32], numbers: &[f32], from: f32) -> u32
+    ensures { λ r. ⌜ r ≡ refusalOf (now («points_a» .entry)) (now («points_b» .entry)) (now (numbers .entry)) from ⌝ }
+{
+    let radii = point(numbers, 0);
+    let limits = point(numbers, 1);
+    let move_a = move_at(numbers, 2);
+    let move_b = move_at(numbers, 7);
+    refusal_by(points_a, points_b, radii, limits, move_a, move_b, from)
 }
 
 fn at_most_64(n: usize) -> usize

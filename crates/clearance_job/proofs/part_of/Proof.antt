@@ -1,7 +1,7 @@
 -- Each test leaves what is asked. Assumes nothing.
 use Prim.Native.Nat.{_≤_}
 use lib.Ieee.{binary32, toBits}
-use Rattle.clearance_job.proofs.Laws.{not-less, down-by}
+use Rattle.clearance_job.proofs.Laws.{not-less, down-by, start-by}
 use borrow.Author.Needs.{needs}
 use Rattle.clearance_job.proofs.part_of.Statement.{statement}
 use Rattle.clearance_job.proofs.part_of.Tie as tie
@@ -26,6 +26,9 @@ returns-2 c = λ h. absurd (not-less (c .nothing2 .ensures h))
 
 fraction-down-requires : tie.Need-fraction-down-requires
 fraction-down-requires c κs = search needs
+
+start-requires : tie.Need-start-requires
+start-requires c κs = search needs
 
 fraction-down-requires-2 : tie.Need-fraction-down-requires-2
 fraction-down-requires-2 c κs = search needs
@@ -62,20 +65,20 @@ returns-6 c = λ h. absurd (not-less (c .nothing6 .ensures h))
 
 returns-7 : tie.Need-returns-7
 returns-7 c = λ h.
-    let first : toBits binary32 (c .before .before .before .before .before .before .before .before .before .before .before .args .from) ≤ 1065353216 = rw
-    (c .before .before .before .before .before .before .before .before .before .before .to-bits .ensures) at
-    (c .before .before .before .before .before .before .before .before .before .if1 .left) in
-    let last : toBits binary32 (c .before .before .before .before .before .before .before .before .before .before .before .args .end) ≤ 1065353216 = rw
-    (c .before .before .before .before .before .before .before .before .to-bits2 .ensures) at
-    (c .before .before .before .before .before .before .before .if2 .left) in
+    let tests = c .before .before .before in
+    let down2 = tests .before .before in
+    let down = down2 .before .before in
+    let second = down .before in
+    let first = second .before .before in
+    let f = first .before .before .args in
+    let from-small : toBits binary32 (f .from) ≤ 1065353216 = rw (first .before .to-bits .ensures) at (first .if1 .left) in
+    let end-small : toBits binary32 (f .end) ≤ 1065353216 = rw (second .before .to-bits2 .ensures) at (second .if2 .left) in
     record {
-      span = record { some = c .before .before .if4 .left; whole = c .before .before .before .if3 .left; over = c .before .if5 .left; under = c .if6 .left };
-      starts = down-by (c .before .before .before .before .before .before .before .before .before .before .before .args .from)
-          (c .before .before .before .before .before .before .fraction-down .result)
-          (c .before .before .before .before .before .before .fraction-down .ensures) first;
-      within = down-by (c .before .before .before .before .before .before .before .before .before .before .before .args .end)
-          (c .before .before .before .before .before .fraction-down2 .result) (c .before .before .before .before .before .fraction-down2 .ensures) last;
-      ends = c .before .before .before .before .end-after .ensures last;
+      span = record { some = c .before .before .if4 .left; whole = tests .if3 .left; over = c .before .if5 .left; under = c .if6 .left };
+      starts = start-by (f .from) (down .fraction-down .result) (down2 .before .start .result) (down .fraction-down .ensures) (down2 .before .start .ensures)
+          from-small;
+      within = down-by (f .end) (down2 .fraction-down2 .result) (down2 .fraction-down2 .ensures) end-small;
+      ends = tests .before .end-after .ensures end-small;
     }
 
 pub part-of-spec : {M : Type 1} → statement M
@@ -89,6 +92,7 @@ part-of-spec =
     nothing-requires-2
     returns-2
     fraction-down-requires
+    start-requires
     fraction-down-requires-2
     end-after-requires
     nothing-requires-3
