@@ -144,7 +144,7 @@ fn look(points_a: &[f32], points_b: &[f32], numbers: &[f32], from: f32) -> Verdi
     )
 }
 
-fn cleared(answer: Answer) -> Cleared
+fn handed_on(answer: Answer) -> Cleared
     ensures { λ r. ⌜ r ≡ clearedBy answer ⌝ }
 {
     match answer {
@@ -178,5 +178,5 @@ pub fn clearance(points_a: &[f32], points_b: &[f32], numbers: &[f32], from: f32)
     }
     let verdict = look(points_a, points_b, numbers, from);
     let answer = verdict.answer;
-    cleared(answer)
+    handed_on(answer)
 }
