@@ -1,3 +1,4 @@
 mod Refusals
 mod Order
 mod Laws
+pub mod Whole

@@ -41,13 +41,13 @@ module _ (X Y U a b K : ℕ) (K0 : 0 < K) (ex : X * U ≡ a * K) (ey : Y * U ≡
   none e = le-of-mul-le-mul-right {m = a} {n = 0} {k = K} (omega (arith, ap (λ (x : ℕ). x * U) e, ex)) K0
 
   below-worth : (s t : Bool) → below s X t Y ≡ true → signed s a ≼ signed t b
-  below-worth false false e = omega (arith, over (le-of (ltb→lt X Y (as-T _ e))))
+  below-worth false false e = omega (arith, over (le-of (ltb→lt X Y (as-T (ltb X Y) e))))
     where
       le-of : X < Y → X ≤ Y
       le-of h = omega arith
   below-worth false true e = absurd (false≢true e)
   below-worth true false e = omega arith
-  below-worth true true e = omega (arith, back (le-of (ltb→lt Y X (as-T _ e))))
+  below-worth true true e = omega (arith, back (le-of (ltb→lt Y X (as-T (ltb Y X) e))))
     where
       le-of : Y < X → Y ≤ X
       le-of h = omega arith
@@ -56,13 +56,15 @@ module _ (X Y U a b K : ℕ) (K0 : 0 < K) (ex : X * U ≡ a * K) (ey : Y * U ≡
   same e = (over (omega arith), back (omega arith))
 
   level-worth : (s t : Bool) → level s X t Y ≡ true → signed s a ≼ signed t b
-  level-worth s t e = go s t (same (eqb→eq X Y (as-T _ (both _ _ e .0)))) (both _ _ e .1)
+  level-worth s t e =
+      let h = both (eqb X Y) (Bool·beq s t || eqb X 0) e in
+      go s t (same (eqb→eq X Y (as-T (eqb X Y) (h .0)))) (h .1)
     where
       go : (s t : Bool) → (a ≤ b) × (b ≤ a) → (Bool·beq s t || eqb X 0) ≡ true → signed s a ≼ signed t b
       go false false h e = omega (arith, h .0)
       go true true h e = omega (arith, h .1)
       go true false h e = omega arith
-      go false true h e = omega (arith, h .0, h .1, none (eqb→eq X 0 (as-T _ e)))
+      go false true h e = omega (arith, h .0, h .1, none (eqb→eq X 0 (as-T (eqb X 0) e)))
 
 crossed : (A U a De Dd : ℕ) → A * U ≡ a * De → A * Dd * U ≡ a * (De * Dd)
 crossed A U a De Dd e = mul-right-comm A Dd U ∙ ap (λ (x : ℕ). x * Dd) e ∙ mul-assoc a De Dd
@@ -107,11 +109,11 @@ le-worth x y fx fy sx sy e =
 -- what lies between two such numbers is one
 pub some-between : (x y z : Float) → Some x → Some z → le x y ≡ true → le y z ≡ true → Some y
 unfolding le lt eq
-some-between x (fin p m i) z sx sz e f = record { sign = p; over = m * up i; under = down i; value = (refl, refl) }
-some-between nan nan z sx sz e f = absurd (sx .value)
+some-between nan y z sx sz e f = absurd (sx .value)
 some-between (inf q) y z sx sz e f = absurd (sx .value)
 some-between (fin q n j) nan z sx sz e f = absurd (false≢true e)
 some-between (fin q n j) (inf true) z sx sz e f = absurd (false≢true e)
 some-between (fin q n j) (inf false) nan sx sz e f = absurd (sz .value)
 some-between (fin q n j) (inf false) (inf r) sx sz e f = absurd (sz .value)
 some-between (fin q n j) (inf false) (fin r k l) sx sz e f = absurd (false≢true f)
+some-between (fin q n j) (fin p m i) z sx sz e f = record { sign = p; over = m * up i; under = down i; value = (refl, refl) }

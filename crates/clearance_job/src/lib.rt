@@ -63,11 +63,7 @@ fn end_after(first: u64, end: f32) -> u64
 fn start(first: u64) -> u64
     ensures { λ r. ⌜ r ≤ first ⌝ }
 {
-    if first == 16777216 {
-        16777215
-    } else {
-        first
-    }
+    if first == 16777216 { 16777215 } else { first }
 }
 
 // The fractions from 0 to 1 have patterns up to that of 1.
