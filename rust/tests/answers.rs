@@ -401,7 +401,10 @@ fn beside(x: f32, from: f32, end: f32, slop: f32) -> Result<Clearance, Refusal> 
 fn every_answer_of_a_look_at_the_whole_move() {
     // its corners reach 7.0711 half way
     assert!(matches!(beside(7.08, 0.0, 1.0, 0.005), Ok(Clearance::Clear { pieces: 1.. })));
-    let Ok(Clearance::Touch { clear_up_to, within_by, pieces }) = beside(6.0, 0.0, 1.0, 0.005) else { panic!("no touch") };
+    let (clear_up_to, within_by, pieces) = match beside(6.0, 0.0, 1.0, 0.005) {
+        Ok(Clearance::Touch { clear_up_to, within_by, pieces }) => (clear_up_to, within_by, pieces),
+        other => panic!("{other:?}"),
+    };
     assert!(0.187 < clear_up_to && clear_up_to < within_by && within_by < 0.188 && pieces <= 4096, "{clear_up_to} {within_by} {pieces}");
     // places are multiples of 2^-24
     for place in [clear_up_to, within_by] {
@@ -417,10 +420,11 @@ fn every_answer_of_a_look_at_the_whole_move() {
     assert!(matches!(beside(6.0, -0.0, -0.0, 0.005), Ok(Clearance::Clear { .. })));
     // more room is asked for by a larger slop
     assert!(matches!(beside(7.08, 0.0, 1.0, 0.02), Ok(Clearance::Touch { .. })));
-    // an exact half turn has no rotation half way, and the disc about its middle is not free
+    // an exact half turn has no rotation half way: it is clear where the disc about its middle is free, at 7.5 or less of the square
     let half = Move { last_rotation: [-1.0, 0.0], ..still(0.0, 0.0) };
-    let look = clearance(&SQUARE.map(|part| 5.0 * part), 0.0, &half, &WALL, 0.0, &still(7.05, 0.0), 0.0, 1.0, 0.005);
-    assert!(!matches!(look, Ok(Clearance::Clear { .. })), "{look:?}");
+    let look = |x| clearance(&SQUARE.map(|part| 5.0 * part), 0.0, &half, &WALL, 0.0, &still(x, 0.0), 0.0, 1.0, 0.005);
+    assert!(matches!(look(7.05), Ok(Clearance::Open { clear_up_to, .. }) if 0.49 < clear_up_to && clear_up_to < 0.5), "{:?}", look(7.05));
+    assert!(matches!(look(7.6), Ok(Clearance::Clear { .. })), "{:?}", look(7.6));
 }
 
 #[test]
@@ -469,14 +473,14 @@ fn a_look_with_a_list_of_another_length_is_told_first_of_all() {
         numbers[place] = x;
     }
     let (p, n) = (POINT.as_ptr(), numbers.as_ptr());
-    for (len, room, words, from, answer) in
-        [(24, 2, 1, 0.0, 32), (24, 2, 1, 0.8, 7), (23, 2, 1, 0.0, 255), (25, 2, 1, 0.0, 255), (24, 1, 1, 0.0, 255), (24, 3, 1, 0.0, 255), (24, 2, 0, 0.0, 255), (24, 2, 2, 0.0, 255)]
-    {
+    let told = [(24, 2, 1, 0.0, 32), (24, 2, 1, 0.8, 7)];
+    let wrong = [(23, 2, 1), (25, 2, 1), (24, 1, 1), (24, 3, 1), (24, 2, 0), (24, 2, 2)].map(|(len, room, words)| (len, room, words, 0.0, 255));
+    for (len, room, words, from, answer) in told.into_iter().chain(wrong) {
         let (mut out, mut pieces) = ([7.5f32; 3], [7u32; 2]);
         // Safety: each list is at least as long as the length handed over, and the two that are written are ours alone.
         let told = unsafe { foldflake_clearance(p, 2, p, 2, n, len, from, out.as_mut_ptr(), room, pieces.as_mut_ptr(), words) };
-        let left = if answer == 32 { ([0.75, 0.75, 7.5], 7) } else { ([7.5; 3], 7) };
-        assert_eq!((told, out, pieces[1]), (answer, left.0, left.1), "{len} {room} {words} {from}");
+        let left = if answer == 32 { [0.75, 0.75, 7.5] } else { [7.5; 3] };
+        assert_eq!((told, out, pieces[1]), (answer, left, 7), "{len} {room} {words} {from}");
         assert!(answer == 32 || pieces[0] == 7);
     }
 }
