@@ -10,6 +10,7 @@
 //!   oracle sheet                         the sheet of the batch on standard input (sheet.rs)
 //!   oracle squared-paper MILLIONS SEED   the claims on squared paper tested by running (squared_paper.rs)
 //!   oracle turns SEED COUNT              what S misses when something turns, COUNT moves of each of ten kinds (turns.rs)
+//!   oracle turning SEED COUNT            the same moves as blocks, COUNT of each kind in turn (turns.rs)
 //!   oracle corners                       corners of plates, each with the number that the Rust gives it (corners.rs)
 #[cfg(feature = "f32")]
 mod batches;
@@ -67,6 +68,8 @@ fn main() {
         "sheet" => sheet::sheet(),
         #[cfg(feature = "f32")]
         "turns" => turns::run(number(2), number(3)),
+        #[cfg(feature = "f32")]
+        "turning" => turns::batch(number(2), number(3)),
         #[cfg(feature = "f32")]
         "corners" => corners::rows(),
         "squared-paper" => squared_paper::run(number(2), number(3)),
