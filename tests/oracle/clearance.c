@@ -113,14 +113,17 @@ static double gap(const Job *j, double t) {
     double near = INFINITY, depth = -INFINITY;
     sides(p, j->a.n, q, j->b.n, &near, &depth);
     sides(q, j->b.n, p, j->a.n, &near, &depth);
-    if (j->a.n > 2 || j->b.n > 2) {
+    if (depth > -INFINITY) { /* else both are points or sides, be it by rounding */
         if (depth <= 0 && (j->a.n > 2 && j->b.n > 2)) return depth;
         if (depth <= 0 && crossing(p, j->a.n, q, j->b.n)) return depth;
         if (j->a.n < 3 || j->b.n < 3) { /* a point or a side inside the other */
             const Point *o = j->a.n > 2 ? p : q, *v = j->a.n > 2 ? q : p;
-            int n = j->a.n > 2 ? j->a.n : j->b.n, in = 1;
-            for (int i = 0; i < n; i++) in &= cross(o[i], o[(i + 1) % n], v[0]) >= 0;
-            if (in) return depth < 0 ? depth : 0;
+            int n = j->a.n > 2 ? j->a.n : j->b.n, in = 1, strictly = 0;
+            for (int i = 0; i < n; i++) {
+                double c = cross(o[i], o[(i + 1) % n], v[0]);
+                in &= c >= 0, strictly |= c > 0;
+            }
+            if (in && strictly) return depth < 0 ? depth : 0;
         }
     } else if (crossing(p, j->a.n, q, j->b.n)) return 0;
     return sqrt(near);
@@ -182,7 +185,7 @@ int main(int argc, char **argv) {
         unsigned refusal;
         char letters[8] = "";
         int took = 0;
-        if (!fgets(text, sizeof text, lines) || sscanf(text, "%ld %ld %u %7s%n", &number_told, &job_told, &refusal, letters, &took) < 3 || number_told != n || job_told != (long)word(b, 0)) {
+        if (!fgets(text, sizeof text, lines) || sscanf(text, "%ld %ld %u %7s%n", &number_told, &job_told, &refusal, letters, &took) < 3 || number_told != n || (refusal == 0 && job_told != (long)word(b, 0))) {
             printf("block %ld: its line is %s", n, text);
             return 1;
         }
