@@ -376,3 +376,7 @@ use Rattle.whole_move.proofs.Clear.{checked-is-clear}
 use Rattle.whole_way.proofs.Join.{settled-between}
 use Rattle.whole_way.proofs.Join.{one-more}
 use Rattle.standing.proofs.Clear.{seen-is-clear}
+-- a look from 0 is refused as the sweep is, by the same number
+use Rattle.clearance_call.proofs.Whole.{as-the-sweep}
+-- the call for C: a number, two fractions and the pieces, told of an answer that holds (ClearanceTold)
+use Rattle.clearance_lists.proofs.Exact.{fraction-exact}
