@@ -2,7 +2,7 @@
 """clearance_rows.py CLEARANCE: the rows of `replay_clearance`'s table 13 on standard output: blocks, each with its line and the TOTAL behind it.
 
 CLEARANCE are the words that run the program `clearance`, which answers the blocks; that its answers are sound is compared by tests/oracle/clearance.sh. The blocks
-are those of the program's own stored run and of examples/every-answer.batch, short ends left out, and random moves (random_moves.py). docs/REPLAYS.md says what a row is like."""
+are those of the program's own stored run and of examples/every-answer.batch, short ends left out. docs/REPLAYS.md says what a row is like."""
 import pathlib
 import struct
 import subprocess
@@ -18,9 +18,6 @@ def blocks():
     for batch in (HERE.parents[1] / "crates/clearance/stdin", HERE.parents[1] / "examples/every-answer.batch"):
         data = batch.read_bytes()
         found += [data[i : i + 512] for i in range(0, len(data) - 511, 512)]
-    for words in (["2500", "60"], ["0", "60", "10", "0.05", "5"]):
-        data = subprocess.run([sys.executable, str(HERE / "random_moves.py"), *words], stdout=subprocess.PIPE, check=True).stdout
-        found += [data[i : i + 512] for i in range(0, len(data), 512)]
     return found
 
 

@@ -22,7 +22,7 @@ look() { # look NAME COUNT: the batch in the work folder, told by parts of COUNT
   awk '$3 > 0 && $1 != "TOTAL"' "$work/lines" > "$work/refused"
   awk '$3 > 0 && $1 != "TOTAL"' "$work/sheet" | cmp -s - "$work/refused" || { echo "refused blocks are not those of the sheet"; status=1; }
   # the sheet's letters beside the verdicts
-  paste -d' ' <(awk '{print $3 > 0 ? "refused" : $4}' "$work/sheet") <(awk '{print $3 > 0 ? "refused" : $4}' "$work/lines") | sed '$d' | sort | uniq -c | sed 's/^ */    /'
+  paste -d' ' <(awk '{print ($3 > 0 ? "refused" : $4)}' "$work/sheet") <(awk '{print ($3 > 0 ? "refused" : $4)}' "$work/lines") | sed '$d' | sort | uniq -c | sed 's/^ */    /'
 }
 target/oracle/oracle turning 1 "$count" > "$work/batch"; look "ten kinds of moves" "$count"
 # spoiled answers are noticed: a contact told CLEAR, u moved on to 1, t moved back to 0

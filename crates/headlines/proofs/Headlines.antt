@@ -376,6 +376,9 @@ use Rattle.whole_move.proofs.Clear.{checked-is-clear}
 use Rattle.whole_way.proofs.Join.{settled-between}
 use Rattle.whole_way.proofs.Join.{one-more}
 use Rattle.standing.proofs.Clear.{seen-is-clear}
+-- a job that is not refused is in range: it finds its grid and its part of the way
+use Rattle.clearance_call.proofs.InDomain.{ordinary}
+use Rattle.clearance_call.proofs.InDomain.{ranged}
 -- a look from 0 is refused as the sweep is, by the same number
 use Rattle.clearance_call.proofs.Whole.{as-the-sweep}
 -- the call for C: a number, two fractions and the pieces, told of an answer that holds (ClearanceTold)
