@@ -11,6 +11,7 @@
 //!   oracle hostile SEED COUNT            distance calls that might work out what is not a number (hostile.rs)
 //!   oracle squared-paper MILLIONS SEED   the claims on squared paper tested by running (squared_paper.rs)
 //!   oracle turns SEED COUNT              what S misses when something turns, COUNT moves of each of ten kinds (turns.rs)
+//!   oracle turning SEED COUNT            the same moves as blocks, COUNT of each kind in turn (turns.rs)
 //!   oracle corners                       corners of plates, each with the number that the Rust gives it (corners.rs)
 #[cfg(feature = "f32")]
 mod batches;
@@ -69,6 +70,8 @@ fn main() {
         "sheet" => sheet::sheet(),
         #[cfg(feature = "f32")]
         "turns" => turns::run(number(2), number(3)),
+        #[cfg(feature = "f32")]
+        "turning" => turns::batch(number(2), number(3)),
         #[cfg(feature = "f32")]
         "corners" => corners::rows(),
         "hostile" => hostile::run(number(2), number(3)),

@@ -1,9 +1,11 @@
 //! What S misses when something turns, tried: random moves of convex outlines, and where the answer is S the nearest place of the whole move, worked
 //! out in f64 beside it, against the bound of docs/TURNS.md.
+use crate::batches::{block, Job};
 use crate::math::{Rotation, Vector};
 use crate::random::Random;
 use crate::sweep;
 use crate::sweep_toi::sweep::Sweep;
+use std::io::Write;
 
 type Point = (f64, f64);
 
@@ -130,6 +132,26 @@ fn allowed(a: &[f32], wa: &Sweep, b: &[f32], wb: &Sweep) -> f64 {
     ra * (1.0 / ta.cos() - 1.0) + rb * (1.0 / tb.cos() - 1.0) + aside(ta, tb, rb).max(aside(tb, ta, ra))
 }
 
+/// A random move of a kind, of bodies a quarter of which have radii.
+fn any(r: &mut Random, k: &Kind) -> Job {
+    let (a, b) = (outline(r), outline(r));
+    let moves = [movement(r, k, true), movement(r, k, k.both)];
+    let round = r.below(4) == 0;
+    let radius = |r: &mut Random| if round { 0.5 * r.unit().abs() } else { 0.0 };
+    Job { a, b, head: [radius(r), radius(r), 1.0, SLOP], moves }
+}
+
+/// `count` moves of each kind, as blocks.
+pub fn batch(seed: u64, count: u64) {
+    let mut r = Random(seed);
+    let mut out = std::io::BufWriter::new(std::io::stdout().lock());
+    for (i, k) in KINDS.iter().enumerate() {
+        for n in 1..=count {
+            out.write_all(&block((i as u64 * count + n) as u32, &any(&mut r, k))).unwrap();
+        }
+    }
+}
+
 /// `count` moves of each kind.
 pub fn run(seed: u64, count: u64) {
     println!("| largest turn, travel | B too | centre off by | S | nearer than target + tolerance | overlapping | most missed | nearer than allowed |");
@@ -138,11 +160,7 @@ pub fn run(seed: u64, count: u64) {
     for k in &KINDS {
         let (mut clear, mut nearer, mut overlapping, mut beyond, mut most) = (0, 0, 0, 0, 0f64);
         for _ in 0..count {
-            let (a, b) = (outline(&mut r), outline(&mut r));
-            let (wa, wb) = (movement(&mut r, k, true), movement(&mut r, k, k.both));
-            let round = r.below(4) == 0;
-            let radius = |r: &mut Random| if round { 0.5 * r.unit().abs() } else { 0.0 };
-            let (ra, rb) = (radius(&mut r), radius(&mut r));
+            let Job { a, b, head: [ra, rb, _, _], moves: [wa, wb] } = any(&mut r, k);
             let x = sweep::answer(&a, ra, &wa, &b, rb, &wb, 1.0, SLOP);
             if x.refused != 0 || x.status != 2 {
                 continue;

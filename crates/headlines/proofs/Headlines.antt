@@ -376,3 +376,29 @@ use Rattle.whole_move.proofs.Clear.{checked-is-clear}
 use Rattle.whole_way.proofs.Join.{settled-between}
 use Rattle.whole_way.proofs.Join.{one-more}
 use Rattle.standing.proofs.Clear.{seen-is-clear}
+-- a job that is not refused is in range: it finds its grid and its part of the way
+use Rattle.clearance_call.proofs.InDomain.{ordinary}
+use Rattle.clearance_call.proofs.InDomain.{ranged}
+-- a look from 0 is refused as the sweep is, by the same number
+use Rattle.clearance_call.proofs.Whole.{as-the-sweep}
+-- the call for C: a number, two fractions and the pieces, told of an answer that holds (ClearanceTold)
+use Rattle.clearance_lists.proofs.Exact.{fraction-exact}
+-- of a file below 2^63 bytes, read in parts of 64 KiB, the last one shorter: whatever a run by that contract prints are the lines and TOTAL of one ..
+use Rattle.clearance_lines.proofs.Program.{ran-prints}
+use Rattle.clearance_lines.specs.Program.{Ran}
+use Rattle.clearance_lines.specs.Program.{Step}
+use Rattle.clearance_lines.specs.Part.{Printed}
+-- the same text by the one theorem about runs, for any answers, by their place in the file
+use Rattle.clearance_lines.proofs.Run.{run-gives-lines}
+-- each total is what a reader counts from the lines, by the first letter of the fourth field: C, T, O, or none where the block is refused
+use Rattle.clearance_lines.proofs.Counted.{text-counted}
+use Rattle.clearance_lines.specs.Counted.{TextCounted}
+use Rattle.clearance_lines.proofs.Folds.{totals-add-up as totals-add-up-clearance-lines}
+-- a block is refused just where the sheet refuses it, by the same job and number, and so by the same line
+use Rattle.clearance_sheet.proofs.Alike.{refused-alike}
+use Rattle.clearance_sheet.proofs.Alike.{file-alike}
+use Rattle.clearance_sheet.specs.Alike.{Alike}
+use Rattle.clearance_sheet.proofs.Alike.{same-line as same-line-clearance-sheet}
+use Rattle.clearance_sheet.proofs.Alike.{same-totals}
+-- a place of k 2^24-ths is printed as the f32 that is exactly k / 2^24
+use Rattle.places.proofs.Exact.{place-exact}
