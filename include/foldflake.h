@@ -156,13 +156,13 @@ uint32_t foldflake_route(const float *cart, size_t cart_len, const float *waypoi
    certainly by t.
    OPEN: so up to the fraction u, where u is after `from`; what comes later was not settled.
    out, 2: u and t of TOUCH, u and the max fraction of OPEN, the max fraction twice of CLEAR. u and t are multiples of 2^-24; a `from` that is none counts
-   as the multiple below it. pieces, 1: how many pieces of the way were tried, at most 4096.
+   as the multiple below it, and a look at fraction 1 alone starts at the one before it. pieces, 1: how many pieces of the way were tried, at most 4096.
 
      const float square[8] = {-5, -5, 5, -5, 5, 5, -5, 5}, wall[8] = {0, -20, 4, -20, 4, 20, 0, 20};
      const float numbers[24] = {0, 0, 1, 0.005f, 0, 0, 0, 0, 0, 0, 1, 0, 0, 1, 0, 0, 6, 0, 6, 0, 1, 0, 1, 0};    a quarter turn beside a wall at 6
      float out[2];
      uint32_t pieces[1];
-     if (foldflake_clearance(square, 8, wall, 8, numbers, 24, 0, out, 2, pieces, 1) == FOLDFLAKE_CLEARANCE_TOUCH) ..     out: 0.1872.., 0.1872..
+     if (foldflake_clearance(square, 8, wall, 8, numbers, 24, 0, out, 2, pieces, 1) == FOLDFLAKE_CLEARANCE_TOUCH) ..     0.1872.. twice
 
    The answer is a refusal, 1 to 8 as of foldflake_sweep, 7 also for a `from` that is not from 0 to the max fraction; or FOLDFLAKE_CLEARANCE_.., or
    FOLDFLAKE_WRONG_LENGTH. On a refusal or a wrong length out and pieces are as they were. */
