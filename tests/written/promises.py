@@ -21,7 +21,9 @@ SYSTEM = "what it answers is the system's, and no contract can fix it"
 ONE_WAY = "it says yes only where something holds, and which of two sound answers comes is the search's"
 WHOLE_MOVE = "grid pairs corners board apart turns arcs pieces rides touches clear_search clearance_verdict grid_job clearance_job"
 PROMISES = "clearance_call::clearance clearance_lists::clearance_told foldflake::foldflake_clearance"
-LEFT_OUT = {"streams": SYSTEM, "outfile": SYSTEM, **{name: ONE_WAY for name in (WHOLE_MOVE + " " + PROMISES).split()}}  # crates and functions
+ROUTES = "route_clearance_legs::route_clearance route_clearance_text::write_answer route_clearance_lists::route_clearance_told"
+ROUTES += " foldflake::foldflake_route_clearance"
+LEFT_OUT = {"streams": SYSTEM, "outfile": SYSTEM, **{name: ONE_WAY for name in f"{WHOLE_MOVE} {PROMISES} {ROUTES}".split()}}  # crates and functions
 TOLD = {1: "told", 2: "told-in-two"}  # by the number of clauses
 
 HEAD = """\

@@ -19,12 +19,20 @@ use Rattle.route_clearance_legs.specs.declared.End.{End}
 use Rattle.route_clearance_legs.specs.declared.RouteCleared.{RouteCleared}
 use Rattle.route_clearance_legs.specs.Looks.{ToldAt, ToldIn, isClear, piecesOf, endedBy, endAt, wrongLists, Passed, none, more, Walked, passed, ended}
 use Rattle.route_clearance_legs.specs.Looks.{Told, wrongly, walked}
-use Rattle.route_clearance_legs.specs.Promise.{L, K, ClearOn, refusalOn, StopsAt, Stopped, AllClear, Says}
+use Rattle.route_clearance_legs.specs.Promise.{L, K, ClearOn, refusalOn, StopsAt, Stopped, AllClear, Says, piecesTold}
+use Rattle.route_clearance_legs.proofs.Checks.{few-pairs}
 use Rattle.route_clearance_legs.proofs.Walks.{few-pieces}
 
 -- one leg more is so many pairs more
 leg-more : (i k : ℕ) → suc i * k ≡ i * k + k
 leg-more i k = omega arith
+
+-- where a pair ends a route it tells the pieces that it is told
+ended-pieces : (x : Cleared) (e : End) → piecesTold (endedBy x e) ≡ e .pieces
+ended-pieces (cleared.Refused n) e = refl
+ended-pieces (cleared.Clear n) e = refl
+ended-pieces (cleared.Touch u t n) e = refl
+ended-pieces (cleared.Open u n) e = refl
 
 module _ (cart waypoints stills : List Float) (lengths : List ℕ) (slop : Float) where
   abbrev k# : ℕ
@@ -124,3 +132,14 @@ module _ (cart waypoints stills : List Float) (lengths : List ℕ) (slop : Float
   pub route-says : (r : RouteCleared) → Told cart waypoints stills lengths slop r → Says cart waypoints stills lengths slop r
   route-says _ (wrongly e some) = (e, some)
   route-says r (walked right w) = walk-says right r w
+
+  -- ---- at most 4,096 pieces for each of 32 legs past 32 outlines are told
+  walk-few : (pairs : ℕ) (r : RouteCleared) → Walked cart waypoints stills lengths slop pairs r → piecesTold r ≤ 4096 * pairs
+  walk-few pairs _ (passed {pieces} p) = few pairs pieces p
+  walk-few pairs _ (ended {k} {pieces} x inside p h so) =
+      rw (ended-pieces x (endAt k# k (pieces + piecesOf x)))
+      (omega (arith, few k pieces p, few-pieces cart waypoints stills lengths slop (k / k#) (k % k#) x h))
+
+  pub pieces-few : (r : RouteCleared) → Told cart waypoints stills lengths slop r → piecesTold r ≤ 4194304
+  pieces-few _ (wrongly e some) = omega arith
+  pieces-few r (walked right w) = omega (arith, walk-few (legs# * k#) r w, few-pairs waypoints stills lengths right)

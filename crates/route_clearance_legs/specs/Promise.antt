@@ -14,6 +14,14 @@ use Rattle.route_clearance_legs.specs.declared.RouteCleared.{RouteCleare
 use Rattle.route_clearance_legs.specs.declared.RouteCleared.the-variants.{Clear, Touch, Open, Refused, Wrong}
 use Rattle.route_clearance_legs.specs.Looks.{legNumbers, wrongLists}
 
+-- the pieces that an answer tells
+abbrev pub piecesTold : RouteCleared → ℕ
+piecesTold (Clear pieces) = pieces
+piecesTold (Touch e u t) = e .pieces
+piecesTold (Open e u) = e .pieces
+piecesTold (Refused e n) = e .pieces
+piecesTold (Wrong n) = 0
+
 module _ (cart waypoints stills : List Float) (lengths : List ℕ) (slop : Float) where
   abbrev pub L : ℕ
   L = legs binary32 cart waypoints stills lengths slop
