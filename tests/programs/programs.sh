@@ -1,12 +1,13 @@
 #!/usr/bin/env bash
 # programs.sh: runs `any_contact` and `clearance`, and `sheet` beside them, `convert` and `salvage` on the cases below, `pack` and `unpack` on those of job_lines.py in
-# tests/cases, `report` on those of report_cases.py, `route` on those of route_cases.py, and compares all that they write, standard error and files included.
+# tests/cases, `report` on those of report_cases.py, `route` and `route_clearance` on those of route_cases.py, and compares all that they
+# write, standard error and files included.
 # Exit status 1 where one differs. tests/programs/with.sh says which programs are run, and how.
 set -u
 cd "$(dirname "$0")/../.."
 . tests/programs/with.sh
 command -v python3 > /dev/null || { echo "skipped: cases of the programs: no python3 here"; exit 0; }
-proved any_contact clearance sheet convert salvage pack unpack report route
+proved any_contact clearance sheet convert salvage pack unpack report route route_clearance
 work="$(mktemp -d)"; trap 'rm -r "$work"' EXIT
 bad=0
 
@@ -273,14 +274,18 @@ for program in pack unpack; do
   faults $program "$work/$program/$([ $program = pack ] && echo a_good_line || echo a_good_block).in"
 done
 
-# routes: one line each; the example's is that of the gate
+# routes, by the sweep and looked at as a whole: one line each; the example's is that of the gate
 mkdir "$work/route"; python3 tests/cases/route_cases.py "$work/route"
 cp examples/hall.route "$work/route/the_hall.in"; cp crates/route/stdout "$work/route/the_hall.out"
+cp crates/route_clearance/stdout "$work/route/the_hall.whole"
 for input in "$work/route"/*.in; do
   timeout 60 $run "$bin/route" < "$input" > "$work/out" 2> "$work/err"; ended=$?
   wrote "route, $(basename "${input%.in}" | tr _ ' ')" 0 "$(cat "${input%.in}.out")"$'\n' ""
+  timeout 60 $run "$bin/route_clearance" < "$input" > "$work/out" 2> "$work/err"; ended=$?
+  wrote "the whole route, $(basename "${input%.in}" | tr _ ' ')" 0 "$(cat "${input%.in}.whole")"$'\n' ""
 done
 faults route examples/hall.route
+faults route_clearance examples/hall.route
 
 # there and back: the blocks that are not refused come back in all their bytes; 10, 11, 14, 21, those with a form in byte 6 (25 to 30), and
 # the short 31 are refused

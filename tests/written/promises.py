@@ -25,7 +25,10 @@ PROMISES = (
     "clearance_call::clearance clearance_lists::clearance_told foldflake::foldflake_clearance"
     " clearance_block::clear_block clearance_lines::write_part"
 )
-LEFT_OUT = {"streams": SYSTEM, "outfile": SYSTEM, "replay_rows": TEST, **{name: ONE_WAY for name in (WHOLE_MOVE + " " + PROMISES).split()}}  # crates and functions
+ROUTES = "route_clearance_legs::route_clearance route_clearance_text::write_answer route_clearance_lists::route_clearance_told"
+ROUTES += " foldflake::foldflake_route_clearance"
+LEFT_OUT = {"streams": SYSTEM, "outfile": SYSTEM, "replay_rows": TEST}  # crates and functions
+LEFT_OUT.update({name: ONE_WAY for name in f"{WHOLE_MOVE} {PROMISES} {ROUTES}".split()})
 TOLD = {1: "told", 2: "told-in-two"}  # by the number of clauses
 
 HEAD = """\

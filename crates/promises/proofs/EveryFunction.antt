@@ -46,6 +46,7 @@ use Rattle.list_calls.proofs as list_calls
 use Rattle.foldflake.proofs as foldflake
 use Rattle.clearance_call.proofs as clearance_call
 use Rattle.places.proofs as places
+use Rattle.clearance_lists.proofs as clearance_lists
 use Rattle.root64.proofs as root64
 use Rattle.ground64.proofs as ground64
 use Rattle.domain64.proofs as domain64
@@ -1120,6 +1121,14 @@ module _ {M : Type 1} (𝓤 : URA M) (H : Heap 𝓤) (A : Atoms 𝓤) (mem : Mem
   pub places-place-bits : OneResult 𝓤 H A places.place_bits.ended (places.place_bits.spec 𝓤 H A mem run)
   places-place-bits = record {
     clauses = places.place_bits.clauses 𝓤 H A mem run;
+    of-contract = refl;
+    once = λ κs a g r r' v v'. told 𝓤 (λ p q. (search same-value, refl));
+  }
+
+  -- ---- clearance_lists
+  pub clearance-lists-fraction-at : OneResult 𝓤 H A clearance_lists.fraction_at.ended (clearance_lists.fraction_at.spec 𝓤 H A mem run)
+  clearance-lists-fraction-at = record {
+    clauses = clearance_lists.fraction_at.clauses 𝓤 H A mem run;
     of-contract = refl;
     once = λ κs a g r r' v v'. told 𝓤 (λ p q. (search same-value, refl));
   }
