@@ -1,0 +1,5 @@
+mod Floats
+pub mod Pieces
+mod Parts
+pub mod Run
+mod Slips
