@@ -2,4 +2,5 @@ mod Floats
 pub mod Pieces
 mod Parts
 pub mod Run
+pub mod OnTheSheet
 mod Slips

@@ -2,7 +2,7 @@
 use mathlib.Core.Path.{_≡_, refl, sym, ap, _∙_}
 use mathlib.Core.Bool.{Bool, true, false, _&&_, cond}
 use mathlib.Core.List.{List, [], _∷_, _++_, append-nil, append-assoc}
-use Prim.Native.Nat.{ℕ, suc, _+_, _*_, _/_, _%_, _≤_, _<_}
+use Prim.Native.Nat.{ℕ, suc, _+_, _*_, _/_, _%_, _≤_}
 use native.Mathlib.Omega.{arith}
 use native.Mathlib.Numerals.{add-one}
 use borrow.Author.Tests.{eq-eqb, ltb-true, leb-true}
@@ -10,7 +10,6 @@ use lib.Dec.{eqb, ltb, leb}
 use lib.Ieee.{binary32}
 use lib.ListN.{length, take, drop, length-drop}
 use lib.Seq.{length-take-le}
-use Rattle.model.specs.declared.Block.{Block}
 use Rattle.model.specs.declared.CheckedBlock.{CheckedBlock}
 use Rattle.model.specs.declared.CheckedBlock.the-variants as Checked
 use Rattle.model.specs.declared.BlockAnswer.{BlockAnswer}
@@ -111,8 +110,8 @@ module _ (t₀ t : Tally) (b : List ℕ) (i n : ℕ) (whole : n ≡ 512) (inside
       → Put d₀ 0 (linesFrom binary32 (t₀ .blocks) (wholeBlocks (i + 1) b)) d' at'
   unfolding linesFrom
   line-step p q =
-      rw (more, lines-append (t₀ .blocks) (wholeBlocks i b) (x ∷ []), ← number, answered, append-nil (lineBy binary32 (t .blocks + 1) x (blockAnswer binary32 x)))
-      (put-then (omega arith) p q)
+      let one = lineBy binary32 (t .blocks + 1) x (blockAnswer binary32 x) in
+      rw (more, lines-append (t₀ .blocks) (wholeBlocks i b) (x ∷ []), ← number, answered, append-nil one) (put-then (omega arith) p q)
 
   pub tally-step : {t' : Tally} → t' ≡ counted t (blockAnswer binary32 x) → t' ≡ tallyFrom binary32 t₀ (wholeBlocks (i + 1) b)
   unfolding tallyFrom

@@ -12,12 +12,11 @@ use Rattle.model.specs.declared.BlockAnswer.the-variants.{Worked, Refused}
 use Rattle.model.specs.Sheet.{refusedLine}
 use Rattle.model.specs.Text.{decimal, hexFloat, line}
 use Rattle.model.specs.Work.{floatsAt, moveAt}
-use Rattle.text.specs.Put.{Put, number, hex}
-use Rattle.text.proofs.Pasted.{put-then}
+use Rattle.text.specs.Put.{number}
 use Rattle.text.proofs.Lengths.{length-number, length-hex}
 use Rattle.gaps_lines.specs.declared.part.Tally.{Tally}
 use Rattle.gaps_lines.specs.Gaps.{longestLine, gapAt, gapFields, blockGaps, workedLine, lineBy, totalLine}
-use Rattle.gaps_lines.specs.Pieces.{two, gapText, gapTexts, gapsText, gapRoom, gapsRoom, blockText}
+use Rattle.gaps_lines.specs.Pieces.{two, gapText, gapTexts, gapsText, gapsRoom, blockText}
 
 pub two-is : (a b end : ℕ) → two a b end ≡ number a 32 ++ number b end
 unfolding two

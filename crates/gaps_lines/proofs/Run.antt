@@ -1,6 +1,6 @@
 -- A run of `write_part` over a file cut into whole parts and a shorter last one gives the gaps of the file. Assumes nothing.
-use mathlib.Core.Path.{_≡_, refl, sym, ap, _∙_}
-use mathlib.Core.Bool.{Bool, true, false}
+use mathlib.Core.Path.{_≡_, refl, sym}
+use mathlib.Core.Bool.{true, false}
 use mathlib.Core.List.{List, _++_, append-nil, append-assoc}
 use Prim.Native.Nat.{ℕ, _+_, _/_, _%_, _≤_, _<_}
 use native.Mathlib.Omega.{arith}
@@ -13,7 +13,7 @@ use Rattle.model.proofs.Blocks.{blocks-in-two-parts, whole-counted}
 use Rattle.runs.specs.Run.{Cut}
 use Rattle.runs.proofs.Whole.{run-makes-whole, text-steps}
 use Rattle.gaps_lines.specs.declared.part.Tally.{Tally}
-use Rattle.gaps_lines.specs.Gaps.{longestLine, linesFrom, tallyFrom, totalLine, textFrom, none, gapsOf}
+use Rattle.gaps_lines.specs.Gaps.{longestLine, linesFrom, tallyFrom, textFrom, none, gapsOf}
 use Rattle.gaps_lines.specs.Part.{partSize, fits, textFor, tallyFor, lastFor, run}
 use Rattle.gaps_lines.proofs.Parts.{lines-append, tally-append, blocks-counted, refused-among}
 

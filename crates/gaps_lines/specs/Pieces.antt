@@ -1,6 +1,6 @@
 -- The lines, cut into the pieces in which they are written.
 use Prim.Native.Nat.{ℕ, zero, suc, _+_, _*_}
-use mathlib.Core.List.{List, [], _∷_, _++_}
+use mathlib.Core.List.{List, [], _++_}
 use lib.Ieee.{Float, binary32, toBits, ofBits}
 use Rattle.model.specs.declared.Sweep.{Sweep}
 use Rattle.model.specs.Wire.{byte, word}

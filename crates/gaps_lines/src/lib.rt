@@ -5,6 +5,6 @@ mod part;
 mod put;
 
 pub use part::PART_SIZE;
+pub use part::Printed;
 pub use part::Tally;
-pub use part::Written;
 pub use part::write_part;

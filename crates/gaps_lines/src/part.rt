@@ -33,7 +33,7 @@ pub struct Tally {
 }
 
 // The place after what was written, the tally after it, and whether the part was the last.
-pub struct Written {
+pub struct Printed {
     pub at: usize,
     pub tally: Tally,
     pub last: bool,
@@ -132,13 +132,13 @@ fn fits(size: usize, room: usize, t: Tally) -> bool
 
 // Works a part of the input: its lines from the start of out on, and where it is shorter than a whole part, and so the last, the totals too.
 // Where there is no room nothing is written, and the run is over.
-pub fn write_part(part: &[u8], out: &mut [u8], t: Tally) -> Written
+pub fn write_part(part: &[u8], out: &mut [u8], t: Tally) -> Printed
     ensures { λ r. ⌜ Put (now (out .entry)) 0 (textFor t (now (part .entry)) (length (now (out .entry)))) (now (out .exit)) (r .at) ⌝ }
     ensures { λ r. ⌜ (r .tally ≡ tallyFor t (now (part .entry)) (length (now (out .entry))))
         × (r .last ≡ lastFor t (now (part .entry)) (length (now (out .entry)))) ⌝ }
 {
     if !fits(part.len(), out.len(), t) {
-        return Written {
+        return Printed {
             at: 0,
             tally: t,
             last: true,
@@ -149,13 +149,13 @@ pub fn write_part(part: &[u8], out: &mut [u8], t: Tally) -> Written
     let tally = lines.tally;
     if part.len() < PART_SIZE {
         let end = put_total(out, lines.at, tally);
-        return Written {
+        return Printed {
             at: end,
             tally,
             last: true,
         };
     }
-    Written {
+    Printed {
         at: lines.at,
         tally,
         last: false,

@@ -6,7 +6,7 @@ use native.Mathlib.Nat.{le-antisymm}
 use lib.ListN.{length}
 use Rattle.text.specs.Put.{Put}
 use Rattle.text.proofs.Pasted.{put-nothing, put-then}
-use Rattle.gaps_lines.specs.Pieces.{gapText, gapTexts}
+use Rattle.gaps_lines.specs.Pieces.{gapTexts}
 use Rattle.gaps_lines.proofs.Pieces.{length-gap, gaps-more, gaps-are}
 use borrow.Author.Needs.{needs}
 use Rattle.gaps_lines.proofs.fractions.put_gaps.Statement.{statement}

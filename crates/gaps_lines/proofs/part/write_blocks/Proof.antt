@@ -1,6 +1,6 @@
 -- `gaps_lines::part::write_blocks` meets its contract: the lines of the blocks so far stand at the start, the tally is theirs, and the blocks left fall.
 -- Assumes nothing.
-use Prim.Native.Nat.{_≤_, _+_, _*_, _/_, _-_}
+use Prim.Native.Nat.{_≤_, _+_, _*_, _-_}
 use mathlib.Core.Path.{_≡_, refl, _∙_}
 use native.Mathlib.Omega.{arith}
 use native.Mathlib.Nat.{le-antisymm}

@@ -1,5 +1,6 @@
--- `gaps_lines::part::write_part` meets its contract: nothing where there is no room; else the blocks, the rest and, after the last part, the totals. Assumes nothing.
-use mathlib.Core.Path.{_≡_, refl, sym, _∙_}
+-- `gaps_lines::part::write_part` meets its contract: nothing where there is no room; else the blocks, the rest and, after the last part, the totals.
+-- Assumes nothing.
+use mathlib.Core.Path.{refl, sym, _∙_}
 use mathlib.Core.List.{append-nil}
 use Prim.Native.Nat.{_%_}
 use native.Mathlib.Omega.{arith}
