@@ -120,8 +120,8 @@ module _ (clears : ℕ → Bool) where
       let here : Found n (blocks p) (firstAt clears n (count p)) = rw (lt-ltb _ _ small) at (each .0) in
       let behind : firstAt clears n (count p) ≡ 0 → Found (n + count p) (blocks rest) (firstAt clears (n + count p) (count rest)) =
       λ none.
-          rw (lt-ltb _ _ small) at
-          (all-found (blocksAfter n p) (q ∷ r) (cut .1) (steps .on n p rest can (cut .0)) (each .1 (rw (lt-ltb _ _ small) none))) in
+      rw (lt-ltb _ _ small) at
+      (all-found (blocksAfter n p) (q ∷ r) (cut .1) (steps .on n p rest can (cut .0)) (each .1 (rw (lt-ltb _ _ small) none))) in
       rw (blocks-in-two-parts p rest multiple, length-append (blocks p) (blocks rest), first-append n (count p) (count rest))
       (in-two n (blocks p) (blocks rest) _ _ here behind)
 
