@@ -23,7 +23,8 @@ WHOLE_MOVE = "grid pairs corners board apart turns arcs pieces rides touches cle
 TEST = "it compares and counts stored rows, and nothing of the product calls it"
 PROMISES = (
     "clearance_call::clearance clearance_lists::clearance_told foldflake::foldflake_clearance"
-    " clearance_block::clear_block clearance_lines::write_part"
+    " clearance_block::clear_block clearance_lines::write_part all_clear_search::search_part"
+    " rooms_block::block_rooms rooms_lines::write_part"
 )
 ROUTES = "route_clearance_legs::route_clearance route_clearance_text::write_answer route_clearance_lists::route_clearance_told"
 ROUTES += " foldflake::foldflake_route_clearance"
