@@ -12,8 +12,8 @@
 
    A list that is written may not overlap another. That apart, every call has an answer, whatever the lists hold.
 
-   Answers. A number below 16 is a refusal, as README.md lists them, and of a route 16 and 17 too; each function has its own names for the others. The builders answer from 32
-   on, as functions to come do, so that refusals may go up to 31.
+   Answers. A number below 16 is a refusal, as README.md lists them, and of a route 16 and 17 too; each function has its own names for the others. The
+   builders answer from 32 on, as functions to come do, so that refusals may go up to 31.
 
    Floating point. The proofs are for the default environment: rounding to nearest, subnormal numbers kept (no flush-to-zero, no
    denormals-are-zero). A caller that changed it, as fesetround or a compiler's fast-math start-up code does, restores it around a call. */

@@ -1,10 +1,11 @@
 -- From the verdict to what the call tells. Assumes nothing.
 use mathlib.Core.Path.{_≡_, refl, sym, ap, _∙_, subst}
-use mathlib.Core.Bool.{Bool, true, false, _&&_, cond}
+use mathlib.Core.Bool.{Bool, true, false, _&&_, cond, false≢true}
 use mathlib.Core.List.{List}
 use Prim.Native.Nat.{ℕ, _+_, _*_, _≤_, _<_}
 use native.Mathlib.Omega.{arith}
 use lib.Dec.{T}
+use lib.ListN.{length}
 use lib.Ieee.{Float, binary32, le, fits, ofBits, toBits}
 use lib.Ieee.Bits.{ofBits-fits}
 use Rattle.integers.specs.Signed.{Int, 0Int, ofNat, _⊠_, _≼_}
@@ -26,15 +27,15 @@ use Rattle.clearance_call.specs.Call.{fromRefusal, refusalOf, clearedBy,
 use Rattle.clearance_call.proofs.Order.{Some, both, le-worth, some-between}
 
 -- ---- what a test that passed says
-test-holds : (t : Bool) (n : ℕ) → 0 < n → cond t 0 n ≡ 0 → t ≡ true
+pub test-holds : (t : Bool) (n : ℕ) → 0 < n → cond t 0 n ≡ 0 → t ≡ true
 test-holds true n h e = refl
 test-holds false n h e = absurd (omega (arith, e))
 
-zero-some : Some (Ground.zero binary32)
+pub zero-some : Some (Ground.zero binary32)
 unfolding ofBits
 zero-some = record { sign = false; over = 0; under = 1; value = (refl, refl) }
 
-one-some : Some (Ground.one binary32)
+pub one-some : Some (Ground.one binary32)
 unfolding ofBits
 one-some = record { sign = false; over = 1; under = 1; value = (refl, refl) }
 
@@ -42,7 +43,7 @@ zero-worth : worthOf (Ground.zero binary32) ≡ 0Int
 unfolding ofBits toBits size
 zero-worth = refl
 
-not-negative : (x : Float) → T (fits binary32 x) → Some x → le (Ground.zero binary32) x ≡ true → 0Int ≼ worthOf x
+pub not-negative : (x : Float) → T (fits binary32 x) → Some x → le (Ground.zero binary32) x ≡ true → 0Int ≼ worthOf x
 not-negative x f s e = subst (λ (z : Int). z ≼ worthOf x) zero-worth (le-worth (Ground.zero binary32) x (ofBits-fits binary32 0) f zero-some s e)
 
 none-before : (x : Float) → 0Int ≼ worthOf x → share 16777216 0 ≤ᶠ fractionOf x
@@ -90,14 +91,20 @@ module _ (pointsA pointsB numbers : List Float) (from : Float) (passed : refusal
     answered : (a : Answer) → Promised pointsA pointsB numbers from a → Counted a → Told pointsA pointsB numbers from (clearedBy a)
     answered (answer.Clear n) h k = record { passed = passed; holds = h; whole = omega arith; few = k }
     answered (answer.Touch u t n) h k = record { passed = passed; holds = h; whole = k .0; few = k .1 }
-    answered (answer.Open u n) h k = record { passed = passed; holds = h; whole = k .0; few = k .1 }
+    answered (answer.Open u n) h k = record { passed = passed; holds = record { says = h; tried = λ e. k .1 }; whole = k .0; few = k .2 }
 
-    pub told : (v : Verdict) → Given pointsA pointsB numbers from v → Told pointsA pointsB numbers from (clearedBy (v .answer))
-    told v h = go (v .settled) (h .says) (h .silent)
+    pub told : (v : Verdict) → Given pointsA pointsB numbers from v → (length numbers ≡ 24 → v .settled ≡ true)
+        → Told pointsA pointsB numbers from (clearedBy (v .answer))
+    told v h sure = go (v .settled) (h .says) (h .silent) sure
       where
         go : (s : Bool) → (s ≡ true → Promised pointsA pointsB numbers from (v .answer) × Counted (v .answer)) → (s ≡ false → v .answer ≡ answer.Open 0 0)
-            → Told pointsA pointsB numbers from (clearedBy (v .answer))
-        go true says silent = answered (v .answer) (says refl .0) (says refl .1)
-        go false says silent =
+            → (length numbers ≡ 24 → s ≡ true) → Told pointsA pointsB numbers from (clearedBy (v .answer))
+        go true says silent sure = answered (v .answer) (says refl .0) (says refl .1)
+        go false says silent sure =
             subst (λ (a : Answer). Told pointsA pointsB numbers from (clearedBy a)) (sym (silent refl))
-            (answered (answer.Open 0 0) nothing-said (omega arith, omega arith))
+            (record {
+              passed = passed;
+              holds = record { says = nothing-said; tried = λ e. absurd (false≢true (sure e)) };
+              whole = omega arith;
+              few = omega arith;
+            })

@@ -3,6 +3,7 @@ use Prim.Native.Nat.{ℕ, _≤_, _<_}
 use mathlib.Core.Path.{_≡_}
 use mathlib.Core.Bool.{_&&_, cond}
 use mathlib.Core.List.{List}
+use lib.ListN.{length}
 use lib.Ieee.{Float, binary32, le}
 use Rattle.model.specs.declared.Vector.{Vector}
 use Rattle.model.specs.declared.Sweep.{Sweep}
@@ -46,9 +47,14 @@ module _ (pointsA pointsB numbers : List Float) (from : Float) where
     pub whole : place ≤ 16777216
     pub few : pieces ≤ 4096
 
+  -- OPEN, and not for want of trying: where the numbers are 24 and no more, a piece was tried
+  pub record Unsettled (u pieces : ℕ) : Type 0 where
+    pub says : Open pointsA pointsB numbers from u
+    pub tried : length numbers ≡ 24 → 0 < pieces
+
 -- a refused job is told by its number, and no other is refused
 abbrev pub Told : (pointsA pointsB numbers : List Float) (from : Float) → Cleared → Type 0
 Told pointsA pointsB numbers from (cleared.Refused k) = (refusalOf pointsA pointsB numbers from ≡ k) × (0 < k)
 Told pointsA pointsB numbers from (cleared.Clear n) = Answered pointsA pointsB numbers from (Clear pointsA pointsB numbers from) 0 n
 Told pointsA pointsB numbers from (cleared.Touch u t n) = Answered pointsA pointsB numbers from (Touch pointsA pointsB numbers from u t) t n
-Told pointsA pointsB numbers from (cleared.Open u n) = Answered pointsA pointsB numbers from (Open pointsA pointsB numbers from u) u n
+Told pointsA pointsB numbers from (cleared.Open u n) = Answered pointsA pointsB numbers from (Unsettled pointsA pointsB numbers from u n) u n

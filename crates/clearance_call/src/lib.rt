@@ -16,6 +16,7 @@ ghost use mathlib.Core.Bool.{true, false};
 ghost use mathlib.Core.Path.{_≡_};
 ghost use Prim.Native.Nat.{_+_, _≤_};
 ghost use lib.Ieee.{binary32};
+ghost use lib.ListN.{length};
 ghost use Rattle.model.specs.Domain as Domain;
 ghost use Rattle.model.specs.Work as Work;
 ghost use Rattle.clearance_job.specs.Promise.{Given};
@@ -117,14 +118,16 @@ pub fn refusal_of(points_a: &[f32], points_b: &[f32], numbers: &[f32], from: f32
 }
 
 fn at_most_64(n: usize) -> usize
-    ensures { λ r. ⌜ r ≤ 64 ⌝ }
+    ensures { λ r. ⌜ (r ≤ 64) × (n ≤ 64 → r ≡ n) ⌝ }
 {
     if n < 64 { n } else { 64 }
 }
 
 // The verdict, in room of its own.
 fn look(points_a: &[f32], points_b: &[f32], numbers: &[f32], from: f32) -> Verdict
-    ensures { λ r. ⌜ Given (now («points_a» .entry)) (now («points_b» .entry)) (now (numbers .entry)) from r ⌝ }
+    ensures { λ r. ⌜ Given (now («points_a» .entry)) (now («points_b» .entry)) (now (numbers .entry)) from r
+        × (refusalOf (now («points_a» .entry)) (now («points_b» .entry)) (now (numbers .entry)) from ≡ 0
+        → length (now (numbers .entry)) ≡ 24 → r .settled ≡ true) ⌝ }
 {
     let na = at_most_64(points_a.len() / 2);
     let nb = at_most_64(points_b.len() / 2);

@@ -4,7 +4,8 @@ use mathlib.Core.Bool.{true, false}
 use mathlib.Core.List.{List}
 use Prim.Native.Nat.{ℕ, _+_, _≤_, _<_}
 use lib.Ieee.{Float, binary32, toBits}
-use Rattle.integers.specs.Signed.{ofNat, _⊠_, _≼_}
+use mathlib.Core.Logic.{_⊎_}
+use Rattle.integers.specs.Signed.{0Int, ofNat, _⊞_, _⊠_, _≼_, _≺_}
 use Rattle.grid.specs.Grid.{unit}
 use Rattle.planned.specs.Planned.{worthOf, Clear, Touch, Open}
 use Rattle.model.specs.Support.{point}
@@ -18,6 +19,24 @@ use Rattle.clearance_job.specs.declared.Verdict.{Verdict}
 -- r 2^24-ths are not less than a fraction up to 1
 abbrev pub NotBefore : Float → ℕ → Type 0
 NotBefore x r = toBits binary32 x ≤ 1065353216 → worthOf x ⊠ ofNat 16777216 ≼ ofNat r ⊠ ofNat unit
+
+-- a place after the first one and not before the end: the end rounded up, or the next after the first
+pub record Ended (first : ℕ) (end : Float) (r : ℕ) : Type 0 where
+  pub ends : NotBefore end r
+  pub after : first < r
+  pub near : toBits binary32 end ≤ 1065353216 → (ofNat r ⊠ ofNat unit ≺ worthOf end ⊠ ofNat 16777216 ⊞ ofNat unit) ⊎ (r ≤ first + 1)
+
+-- a start from 0 to the end, and an end up to 1
+pub record Ranged (from end : Float) : Type 0 where
+  pub least : 0Int ≼ worthOf from
+  pub order : worthOf from ≼ worthOf end
+  pub most : worthOf end ≼ ofNat unit
+
+-- by their patterns
+pub record Started (from end : Float) : Type 0 where
+  pub starts : toBits binary32 from ≤ 1065353216
+  pub ends : toBits binary32 end ≤ 1065353216
+  pub order : worthOf from ≼ worthOf end
 
 pub record Asked (from end : Float) (r : Part) : Type 0 where
   pub span : Span (r .from) (r .low) (r .high)
@@ -36,11 +55,11 @@ Promised pointsA pointsB numbers from (answer.Clear n) = Clear pointsA pointsB n
 Promised pointsA pointsB numbers from (answer.Touch u t n) = Touch pointsA pointsB numbers from u t
 Promised pointsA pointsB numbers from (answer.Open u n) = Open pointsA pointsB numbers from u
 
--- the last place that an answer names is on the way, and no more than 4,096 pieces were tried
+-- the last place that an answer names is on the way, and no more than 4,096 pieces were tried; before OPEN at least one
 abbrev pub Counted : Answer → Type 0
 Counted (answer.Clear n) = n ≤ 4096
 Counted (answer.Touch u t n) = (t ≤ 16777216) × (n ≤ 4096)
-Counted (answer.Open u n) = (u ≤ 16777216) × (n ≤ 4096)
+Counted (answer.Open u n) = (u ≤ 16777216) × (0 < n) × (n ≤ 4096)
 
 -- an answer of which something is said, or none: then it is OPEN at 0, and no piece was tried
 pub record Heard (Said : Answer → Type 0) (v : Verdict) : Type 0 where

@@ -11,7 +11,12 @@ ghost use mathlib.Core.Path.{_≡_};
 ghost use Prim.Native.Nat.{_+_, _≤_, _<_};
 ghost use Rattle.board.specs.Board.{Fits};
 ghost use Rattle.planned.specs.Planned.{worthOf};
-ghost use Rattle.clearance_job.specs.Promise.{NotBefore, Asked, Spoken, Heard, Given};
+ghost use Rattle.integers.specs.Signed.{0Int, ofNat, _≼_};
+ghost use Rattle.grid.specs.Grid.{unit};
+ghost use Rattle.model.specs.Support.{point};
+ghost use Rattle.grid_job.specs.Placing.{Fitting};
+ghost use lib.Ieee.{binary32, toBits};
+ghost use Rattle.clearance_job.specs.Promise.{Ended, Ranged, Started, Asked, Spoken, Heard, Given};
 
 // Whether there is anything to look at, from where and to where, in 2^24-ths: the end rounded down and up.
 pub struct Part {
@@ -28,7 +33,7 @@ pub struct Verdict {
 }
 
 fn nothing() -> Part
-    ensures { λ r. ⌜ (r .some ≡ true → 1 ≤ 0) ⌝ }
+    ensures { λ r. ⌜ r .some ≡ false ⌝ }
 {
     Part {
         some: false,
@@ -40,7 +45,7 @@ fn nothing() -> Part
 
 // The same number, without the sign of a zero.
 fn plain(x: f32) -> f32
-    ensures { λ r. ⌜ worthOf r ≡ worthOf x ⌝ }
+    ensures { λ r. ⌜ (worthOf r ≡ worthOf x) × (0Int ≼ worthOf x → worthOf x ≼ ofNat unit → toBits binary32 r ≤ 1065353216) ⌝ }
 {
     if ground::to_bits(x) == 2147483648 {
         return 0.0;
@@ -50,25 +55,26 @@ fn plain(x: f32) -> f32
 
 // A place after the first one, and not before the end.
 fn end_after(first: u64, end: f32) -> u64
-    ensures { λ r. ⌜ NotBefore end r ⌝ }
+    requires { ⌜ first < 16777216 ⌝ }
+    ensures { λ r. ⌜ Ended first end r ⌝ }
 {
     let up = fraction_up(end);
     if first < up {
         return up;
     }
-    up + 1
+    first + 1
 }
 
 // A look at the last moment alone starts a place before it.
 fn start(first: u64) -> u64
-    ensures { λ r. ⌜ r ≤ first ⌝ }
+    ensures { λ r. ⌜ (r ≤ first) × (r < 16777216) ⌝ }
 {
-    if first == 16777216 { 16777215 } else { first }
+    if first < 16777216 { first } else { 16777215 }
 }
 
 // The fractions from 0 to 1 have patterns up to that of 1.
 fn part_of(from: f32, end: f32) -> Part
-    ensures { λ r. ⌜ (r .some ≡ true → Asked from end r) ⌝ }
+    ensures { λ r. ⌜ (r .some ≡ true → Asked from end r) × (Started from end → r .some ≡ true) ⌝ }
 {
     if ground::to_bits(from) > 1065353216 {
         return nothing();
@@ -122,7 +128,8 @@ fn settle_board(
     bys: &[u64],
 ) -> Verdict
     requires { ⌜ Fits job (now axs) (now ays) (now bxs) (now bys) ⌝ }
-    ensures { λ r. ⌜ Heard (Spoken (now (numbers .entry)) from job (now (axs .entry)) (now (ays .entry)) (now (bxs .entry)) (now (bys .entry))) r ⌝ }
+    ensures { λ r. ⌜ Heard (Spoken (now (numbers .entry)) from job (now (axs .entry)) (now (ays .entry)) (now (bxs .entry)) (now (bys .entry))) r
+        × (Ranged from (point (now (numbers .entry)) 1 .x) → r .settled ≡ true) ⌝ }
 {
     let limits = point(numbers, 1);
     let first = plain(from);
@@ -138,7 +145,8 @@ fn settle_board(
     }
 }
 
-// The verdict from a fraction on. The lists are room for the corners on the grid, as long as the outlines; nothing is asked of any of it.
+// The verdict from a fraction on. The lists are room for the corners on the grid, as long as the outlines; nothing is asked of any of it. A job in the
+// domain is always settled, one way or another.
 pub fn settle_lists(
     points_a: &[f32],
     points_b: &[f32],
@@ -149,7 +157,9 @@ pub fn settle_lists(
     bxs: &mut [u64],
     bys: &mut [u64],
 ) -> Verdict
-    ensures { λ r. ⌜ Given (now («points_a» .entry)) (now («points_b» .entry)) (now (numbers .entry)) from r ⌝ }
+    ensures { λ r. ⌜ Given (now («points_a» .entry)) (now («points_b» .entry)) (now (numbers .entry)) from r
+        × (Fitting (now («points_a» .entry)) (now («points_b» .entry)) (now (numbers .entry)) (now (axs .entry)) (now (ays .entry))
+        (now (bxs .entry)) (now (bys .entry)) → Ranged from (point (now (numbers .entry)) 1 .x) → r .settled ≡ true) ⌝ }
 {
     let placed = grid_job(points_a, points_b, numbers, axs, ays, bxs, bys);
     if !placed.found {

@@ -41,7 +41,8 @@ no-nan b h =
 read-back : (b : ℕ) → b ≤ 1065353216 → toBits binary32 (ofBits binary32 b) ≡ b
 read-back b h = toBits-ofBits binary32 b (omega arith) (no-nan b h)
 
-same : (s b k : ℕ) → s ≡ b → b ≤ 1065353216 → size b * 16777216 ≡ k * unit → (x : Float) → toBits binary32 x ≡ s → worthOf x ⊠ ofNat 16777216 ≃ ofNat k ⊠ ofNat unit
+same : (s b k : ℕ) → s ≡ b → b ≤ 1065353216 → size b * 16777216 ≡ k * unit → (x : Float) → toBits binary32 x ≡ s
+    → worthOf x ⊠ ofNat 16777216 ≃ ofNat k ⊠ ofNat unit
 unfolding _⊠_
 same s b k e h p x f = rw (f ∙ e, lt-leb 2147483648 b (omega arith)) (omega (arith, p))
 

@@ -37,7 +37,8 @@ module _ (job : GridJob) (axs ays bxs bys : List ℕ) where
   }
 
   -- where nothing more is tried
-  pub told-settled : (from low high u n : ℕ) (look : Look) → from ≤ u → u ≤ low → n ≤ 4096 → ClearUpTo job axs ays bxs bys from u → Found job u low axs ays
+  pub told-settled : (from low high u n : ℕ) (look : Look) → from ≤ u → u ≤ low → 0 < n → n ≤ 4096 → ClearUpTo job axs ays bxs bys from u
+      → Found job u low axs ays
       bxs bys look → Settled job from low high axs ays bxs bys (toldBy look u n)
-  told-settled from low high u n (At t) after before few clear found = record { after = after; clear = clear; touch = found; few = few }
-  told-settled from low high u n Nowhere after before few clear found = record { after = after; before = before; clear = clear; few = few }
+  told-settled from low high u n (At t) after before some few clear found = record { after = after; clear = clear; touch = found; few = few }
+  told-settled from low high u n Nowhere after before some few clear found = record { after = after; before = before; clear = clear; some = some; few = few }

@@ -54,6 +54,7 @@ pub record SettledOpen (job : GridJob) (from low : ℕ) (axs ays bxs bys : List 
   pub after : from ≤ u
   pub before : u ≤ low
   pub clear : ClearUpTo job axs ays bxs bys from u
+  pub some : 0 < n
   pub few : n ≤ 4096
 
 abbrev pub Settled : (job : GridJob) (from low high : ℕ) (axs ays bxs bys : List ℕ) → Answer → Type 0

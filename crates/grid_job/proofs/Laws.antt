@@ -1,19 +1,20 @@
 -- From patterns to places. Assumes nothing.
-use mathlib.Core.Path.{_≡_, sym, ap, subst}
+use mathlib.Core.Path.{_≡_, refl, sym, ap, subst}
 use mathlib.Core.Logic.{_⊎_, inl, inr}
-use mathlib.Core.Bool.{Bool, true}
+use mathlib.Core.Bool.{Bool, true, false, not, true≢false}
 use mathlib.Core.List.{List}
 use Prim.Native.Nat.{ℕ, _+_, _-_, _*_, _/_, _%_, _^_, _≤_, _<_}
-use native.Mathlib.Nat.{mul-le-mul-left, mul-le-mul-right}
+use native.Mathlib.Nat.{mul-le-mul-left, mul-le-mul-right, le-of-lt, le-of-eq, lt-of-lt-of-le}
 use native.Mathlib.Omega.{arith}
 use lib.Dec.{leb, le→leb}
 use lib.Ieee.{Float, binary32, toBits, nan}
 use lib.Ieee.Bits.{is-true}
-use lib.Pow.{pow-pos}
+use lib.Pow.{pow-pos, pow-mono}
+use borrow.Author.Tests.{lt-leb}
 use lib.ListN.{length, getD, set}
 use lib.Seq.{getD-set-same, getD-set-other}
 use borrow.Author.Count.{below-more}
-use Rattle.integers.specs.Signed.{Int, 0Int, ofNat, neg, _⊞_, _⊟_, _⊠_, _≼_, _≃_}
+use Rattle.integers.specs.Signed.{Int, 0Int, ofNat, neg, _⊞_, _⊟_, _⊠_, _≼_, _≺_, _≃_}
 use Rattle.integers.specs.Whole.{Within, signed}
 use Rattle.integers.proofs.Signed.{⊠-comm, le-or-lt}
 use Rattle.plane.specs.Plane.{dot, difference}
@@ -28,13 +29,13 @@ use Rattle.board.specs.declared.GridJob.{GridJob}
 use Rattle.board.specs.Board.{CloseTo, BodyFits, StandsForBody}
 use Rattle.model.specs.declared.Vector.{Vector}
 use Rattle.model.specs.Support.{point}
-use Rattle.grid.specs.Units.{negative, size, value}
+use Rattle.grid.specs.Units.{negative, field, size, value}
 use Rattle.grid.specs.Grid.{unit, scaled, steps, Reaches, Close, Above, Below, Small, Gridded, Three, KeptUp, KeptDown}
 use Rattle.grid.proofs.Shifts.{unit-pos}
-use Rattle.grid.proofs.Sizes.{reached, wider}
+use Rattle.grid.proofs.Sizes.{reached, wider, size-below}
 use Rattle.grid.proofs.Laws.{off, difference-off, scaled-less}
 use Rattle.planned.specs.Planned.{worthOf, sizeOf, placeOf, bodyOf, largerOf}
-use Rattle.grid_job.specs.Placing.{Asked, Suits, Limits, Joined, OnBoard, AllCornered, PlacedBody, Near, NearPair, Between, keepOf, UpTo, AllNear}
+use Rattle.grid_job.specs.Placing.{Asked, Suits, Limits, Joined, OnBoard, AllCornered, PlacedBody, Steady, Near, NearPair, Between, keepOf, UpTo, AllNear}
 use Rattle.grid_job.specs.Placing.{Less, Offset, Span, Turned, Cornered, FractionUp, FractionDown}
 
 -- ---- one pattern more
@@ -55,7 +56,8 @@ pub record Put (x : Float) (g : ℕ) (X : Int) : Type 0 where
 pub put : (x : Float) (b g : ℕ) (X : Int) → b ≡ toBits binary32 x → Near x g → Gridded Close b g X → Put x g X
 put x b g X e h p =
     let q : Gridded Close (toBits binary32 x) g X = subst (λ (i : ℕ). Gridded Close i g X) e p in
-    record { near = q .is (wider 268435456 4294967296 (toBits binary32 x) g (omega arith) h); small = q .fits 268435456 (omega arith) h }
+    let w = wider 268435456 4294967296 (toBits binary32 x) g (omega arith) h in
+    record { near = q .is w; small = q .fits 268435456 w (omega (arith, h .small)) }
 
 pub less-law : (x c : Float) (g : ℕ) (X Y : Int) (r : Pair) → Put x g X → Put c g Y → Is (X ⊟ Y) (X .plus + Y .minus + (X .minus + Y .plus)) r → Less x c g r
 less-law x c g X Y r h k is =
@@ -139,6 +141,22 @@ one-reaches b h =
     let r : Reaches 268435456 b 27 = reached b 1065353216 h (omega arith) in
     (record { finite = r .finite; small = omega (arith, r .small) }, record { finite = r .finite; small = omega (arith, r .small) })
 
+unit-size : (b : ℕ) → field b ≡ 127 → b % 8388608 ≡ 0 → size b ≡ unit
+unfolding size unit
+unit-size b f d = rw (f, d) refl
+
+-- a number that is at most 1 is worth no more
+pub size-most : (b : ℕ) → b % 2147483648 ≤ 1065353216 → size b ≤ unit
+unfolding unit
+size-most b h = go (le-or-lt (field b) 126)
+  where
+    go : (field b ≤ 126) ⊎ (126 < field b) → size b ≤ unit
+    go (inl l) = le-of-lt (lt-of-lt-of-le (size-below b) (pow-mono {j = 149} (omega arith)))
+    go (inr l) = le-of-eq (unit-size b (omega arith) (omega arith))
+
+pub turned-small : (b : ℕ) (X : Int) → b % 2147483648 ≤ 1065353216 → Gridded Close b 30 X → X .plus + X .minus ≤ 1073741824
+turned-small b X h p = p .fits 1073741824 (one-reaches b h .0) (omega (arith, size-most b h))
+
 pub turned-law : (x : Float) (b : ℕ) (X : Int) → b ≡ toBits binary32 x → b % 2147483648 ≤ 1065353216 → Gridded Close b 30 X
     → Within unit (ofNat 1073741824 ⊠ worthOf x ⊟ ofNat unit ⊠ X)
 turned-law x b X e h p =
@@ -164,31 +182,53 @@ times-unit : (X Y : Int) → X ≼ Y → X ⊠ ofNat unit ≼ Y ⊠ ofNat unit
 unfolding _⊠_
 times-unit X Y h = omega (arith, mul-le-mul-right unit h)
 
+not-below : (x : Float) (b : ℕ) → b ≡ toBits binary32 x → b ≤ 1065353216 → 0Int ≼ worthOf x
+not-below x b e h = rw (lt-leb 2147483648 (toBits binary32 x) (omega arith)) (omega arith)
+
+none-above : (z : Int) → 0Int ≼ z → ofNat 0 ⊠ ofNat unit ≺ z ⊠ ofNat 16777216 ⊞ ofNat unit
+unfolding _⊠_
+none-above z h = omega (arith, unit-pos)
+
 pub whole-fraction : (x : Float) (b : ℕ) → b ≡ toBits binary32 x → 1065353216 < b → FractionUp x 16777216
 whole-fraction x b e h = record {
   small = omega arith;
   least = λ l. scaled-none (worthOf x) (below-none (toBits binary32 x) (omega arith));
+  near = λ l. absurd (omega arith);
 }
 
-pub no-fraction : (x : Float) → FractionDown x 0
-no-fraction x = record { small = omega arith; most = λ l h. zero-below (worthOf x) h }
+pub no-fraction : (x : Float) (b : ℕ) → b ≡ toBits binary32 x → 1065353216 < b → FractionDown x 0
+no-fraction x b e big = record { small = omega arith; most = λ l h. zero-below (worthOf x) h; near = λ l. absurd (omega arith) }
 
-pub up-law : (x : Float) (b r : ℕ) (X : Int) → b ≡ toBits binary32 x → b ≤ 1065353216 → Gridded Above b 24 X → X .plus ≤ X .minus + r → r ≤ X .plus →
-    FractionUp x r
-up-law x b r X e h p l s =
+pub up-law : (x : Float) (b r : ℕ) (X : Int) → b ≡ toBits binary32 x → b ≤ 1065353216 → Gridded Above b 24 X → X .plus ≤ X .minus + r → r ≤ X .plus
+    → (X .minus ≤ X .plus → X .minus + r ≤ X .plus) → (X .plus ≤ X .minus → r ≡ 0) → FractionUp x r
+up-law x b r X e h p l s low none =
     let q : Above (scaled (toBits binary32 x) 24) X = subst (λ (i : ℕ). Above (scaled i 24) X) e (p .is (one-reaches b (omega arith) .1)) in
-    record { small = omega (arith, p .small); least = λ n. omega (arith, q .least, times-unit X (ofNat r) (omega arith)) }
+    record {
+      small = omega (arith, p .small);
+      least = λ n. omega (arith, q .least, times-unit X (ofNat r) (omega arith));
+      near = λ n. go (le-or-lt (X .plus) (X .minus)) q;
+    }
+  where
+    go : (X .plus ≤ X .minus) ⊎ (X .minus < X .plus) → Above (scaled (toBits binary32 x) 24) X → ofNat r ⊠ ofNat unit ≺ worthOf x ⊠ ofNat 16777216 ⊞ ofNat
+        unit
+    go (inl m) q = subst (λ (i : ℕ). ofNat i ⊠ ofNat unit ≺ worthOf x ⊠ ofNat 16777216 ⊞ ofNat unit) (sym (none m)) (none-above (worthOf x) (not-below x b e
+        h))
+    go (inr m) q = omega (arith, q .near .under, times-unit (ofNat r) X (omega (arith, low (omega arith))))
 
-pub down-law : (x : Float) (b r : ℕ) (X : Int) → b ≡ toBits binary32 x → b ≤ 1065353216 → Gridded Below b 24 X → r ≤ X .plus
+pub down-law : (x : Float) (b r : ℕ) (X : Int) → b ≡ toBits binary32 x → b ≤ 1065353216 → Gridded Below b 24 X → X .plus ≤ X .minus + r → r ≤ X .plus
     → (X .minus ≤ X .plus → X .minus + r ≤ X .plus) → (X .plus ≤ X .minus → r ≡ 0) → FractionDown x r
-down-law x b r X e h p s low none =
+down-law x b r X e h p l s low none =
     let q : Below (scaled (toBits binary32 x) 24) X = subst (λ (i : ℕ). Below (scaled i 24) X) e (p .is (one-reaches b (omega arith) .1)) in
-    record { small = omega (arith, p .small); most = λ n w. go (le-or-lt (X .plus) (X .minus)) q w }
+    record {
+      small = omega (arith, p .small);
+      most = λ n w. go (le-or-lt (X .plus) (X .minus)) q w;
+      near = λ n. omega (arith, q .near .over, times-unit X (ofNat r) (omega arith));
+    }
   where
     go : (X .plus ≤ X .minus) ⊎ (X .minus < X .plus) → Below (scaled (toBits binary32 x) 24) X → 0Int ≼ worthOf x → ofNat r ⊠ ofNat unit ≼ worthOf x ⊠
         ofNat 16777216
-    go (inl l) q w = subst (λ (i : ℕ). ofNat i ⊠ ofNat unit ≼ worthOf x ⊠ ofNat 16777216) (sym (none l)) (zero-below (worthOf x) w)
-    go (inr l) q w = omega (arith, q .most, times-unit (ofNat r) X (omega (arith, low (omega arith))))
+    go (inl m) q w = subst (λ (i : ℕ). ofNat i ⊠ ofNat unit ≼ worthOf x ⊠ ofNat 16777216) (sym (none m)) (zero-below (worthOf x) w)
+    go (inr m) q w = omega (arith, q .most, times-unit (ofNat r) X (omega (arith, low (omega arith))))
 
 -- ---- pairs
 pub between-law : (numbers : List Float) (i j g : ℕ) (p q : Vector) (x y : Pair) → p ≡ point numbers i → q ≡ point numbers j → Less (q .x) (p .x) g x →
@@ -241,6 +281,13 @@ module _ (numbers : List Float) (g r s a b : ℕ) (es : s ≡ toBits binary32 (p
         0 .y) b eb (radii .y);
   }
 
+  near : (x : Float) (k : ℕ) → k ≡ toBits binary32 x → Near x g → size k * 2 ^ g ≤ 268435456 * unit
+  near x k e h = subst (λ (i : ℕ). size i * 2 ^ g ≤ 268435456 * unit) (sym e) (omega (arith, h .small))
+
+  pub keep-up-small : (Three s a b g → KeptUp s a b g r) → r ≤ 805306368
+  keep-up-small h = h three .most 268435456 (near (point numbers 1 .y) s es slop) (near (point numbers 0 .x) a ea (radii .x)) (near (point numbers 0 .y) b
+      eb (radii .y))
+
   pub keep-up-law : (Three s a b g → KeptUp s a b g r) → 2 ^ g * keepOf numbers ≤ r * unit
   keep-up-law h =
       subst (λ (i : ℕ). 2 ^ g * largerOf (size i) (sizeOf (point numbers 0 .x) + sizeOf (point numbers 0 .y)) ≤ r * unit) es
@@ -278,9 +325,26 @@ pub body-stands : (points numbers : List Float) (i g : ℕ) (xs ys : List ℕ) (
 body-stands points numbers i g xs ys r h first last = record {
   count = sym (h .corners .count);
   corner = h .corners .corners .close;
-  heading1 = record { x = h .first .x (first .x); y = h .first .y (first .y) };
-  heading2 = record { x = h .last .x (last .x); y = h .last .y (last .y) };
+  heading1 = record { x = h .first .x .near (first .x); y = h .first .y .near (first .y) };
+  heading2 = record { x = h .last .x .near (last .x); y = h .last .y .near (last .y) };
 }
+
+pub steady : (points numbers : List Float) (i g : ℕ) (xs ys : List ℕ) (r : GridBody) → PlacedBody points numbers i g xs ys r
+    → UpTo numbers (2 * (i + 3)) (2 * (i + 5)) 1065353216 → Steady r
+steady points numbers i g xs ys r h u = (
+  record {
+    x = h .first .x .small (u (2 * (i + 3)) (omega arith) (omega arith));
+    y = h .first .y .small (u (2 * (i + 3) + 1) (omega arith) (omega arith));
+  },
+  record {
+    x = h .last .x .small (u (2 * (i + 4)) (omega arith) (omega arith));
+    y = h .last .y .small (u (2 * (i + 4) + 1) (omega arith) (omega arith));
+  },
+)
+
+pub is-not : (b : Bool) → not b ≡ true → b ≡ false
+is-not false e = refl
+is-not true e = absurd (true≢false (sym e))
 
 -- ---- the job
 module _ (pointsA pointsB numbers : List Float) (g : ℕ) (h : Suits pointsA pointsB numbers g) where

@@ -4,7 +4,7 @@ use mathlib.Core.List.{List, []}
 use Prim.Native.Nat.{ℕ, _+_, _*_, _/_, _%_, _^_, _≤_, _<_}
 use lib.Ieee.{Float, binary32, toBits, nan}
 use lib.ListN.{length, getD}
-use Rattle.integers.specs.Signed.{Int, 0Int, ofNat, _⊟_, _⊠_, _≼_}
+use Rattle.integers.specs.Signed.{Int, 0Int, ofNat, _⊞_, _⊟_, _⊠_, _≼_, _≺_}
 use Rattle.integers.specs.Whole.{Within}
 use Rattle.plane.specs.Plane.{Point, difference, dot}
 use Rattle.model.specs.declared.Vector as model
@@ -41,6 +41,25 @@ pub record Suits (pointsA pointsB numbers : List Float) (g : ℕ) : Type 0 where
   pub moveA : AllNear numbers 4 10 g
   pub moveB : AllNear numbers 14 20 g
 
+-- a job in the domain, by its patterns: no place is above 2^20 in size, no part of a rotation above 1
+pub record Ordinary (pointsA pointsB numbers : List Float) : Type 0 where
+  pub a : UpTo pointsA 0 (length pointsA) 1233125376
+  pub b : UpTo pointsB 0 (length pointsB) 1233125376
+  pub radii : UpTo numbers 0 2 1233125376
+  pub moveA : UpTo numbers 3 10 1233125376
+  pub moveB : UpTo numbers 14 20 1233125376
+  pub turnsA : UpTo numbers 10 14 1065353216
+  pub turnsB : UpTo numbers 20 24 1065353216
+
+-- and lists of the lengths that it asks for
+pub record Fitting (pointsA pointsB numbers : List Float) (axs ays bxs bys : List ℕ) : Type 0 where
+  pub count : length numbers ≡ 24
+  pub countA : length axs ≡ length pointsA / 2
+  pub alikeA : length ays ≡ length axs
+  pub countB : length bxs ≡ length pointsB / 2
+  pub alikeB : length bys ≡ length bxs
+  pub ordinary : Ordinary pointsA pointsB numbers
+
 -- ---- single numbers
 -- r stands for x less c
 pub record Less (x c : Float) (g : ℕ) (r : Pair) : Type 0 where
@@ -57,8 +76,9 @@ pub record Span (x y r : ℕ) : Type 0 where
   pub small : r ≤ 805306368
 
 -- a part of a rotation, in 2^30-ths, where it is at most that large
-abbrev pub Turned : Float → Pair → Type 0
-Turned x r = pairs.sizeOf r ≤ 1073741824 → Within unit (ofNat 1073741824 ⊠ worthOf x ⊟ ofNat unit ⊠ intOf r)
+pub record Turned (x : Float) (r : Pair) : Type 0 where
+  pub near : pairs.sizeOf r ≤ 1073741824 → Within unit (ofNat 1073741824 ⊠ worthOf x ⊟ ofNat unit ⊠ intOf r)
+  pub small : toBits binary32 x % 2147483648 ≤ 1065353216 → pairs.sizeOf r ≤ 1073741824
 
 pub record Headed (q : model.Vector) (r : Vector) : Type 0 where
   pub x : Turned (q .x) (r .x)
@@ -127,6 +147,9 @@ pub record Joined (numbers : List Float) (g : ℕ) (a b : GridBody) (job : GridJ
   pub up : 2 ^ g * keepOf numbers ≤ job .up * unit
   pub down : job .down * unit ≤ 2 ^ g * keepOf numbers
 
+abbrev pub Steady : GridBody → Type 0
+Steady o = Sized 1073741824 (o .q1) × Sized 1073741824 (o .q2)
+
 -- ---- the job
 pub record OnBoard (pointsA pointsB numbers : List Float) (job : GridJob) (axs ays bxs bys : List ℕ) : Type 0 where
   pub g : ℕ
@@ -137,7 +160,9 @@ pub record OnBoard (pointsA pointsB numbers : List Float) (job : GridJob) (axs a
 pub record FractionUp (x : Float) (r : ℕ) : Type 0 where
   pub small : r ≤ 4294967296
   pub least : toBits binary32 x % 2147483648 ≤ 1065353216 → worthOf x ⊠ ofNat 16777216 ≼ ofNat r ⊠ ofNat unit
+  pub near : toBits binary32 x ≤ 1065353216 → ofNat r ⊠ ofNat unit ≺ worthOf x ⊠ ofNat 16777216 ⊞ ofNat unit
 
 pub record FractionDown (x : Float) (r : ℕ) : Type 0 where
   pub small : r ≤ 4294967296
   pub most : toBits binary32 x % 2147483648 ≤ 1065353216 → 0Int ≼ worthOf x → ofNat r ⊠ ofNat unit ≼ worthOf x ⊠ ofNat 16777216
+  pub near : toBits binary32 x ≤ 1065353216 → worthOf x ⊠ ofNat 16777216 ≺ ofNat r ⊠ ofNat unit ⊞ ofNat unit

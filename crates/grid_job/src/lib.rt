@@ -9,16 +9,16 @@ use outline::point;
 use pairs::Pair;
 use pairs::Vector;
 use pairs::norm;
-use turns::both_within;
 ghost use mathlib.Core.Bool.{true, false};
 ghost use mathlib.Core.Path.{_≡_};
-ghost use Prim.Native.Nat.{_+_, _*_, _^_, _≤_, _<_};
+ghost use Prim.Native.Nat.{ℕ, _+_, _*_, _^_, _≤_, _<_};
 ghost use lib.Ieee.{binary32, toBits};
 ghost use lib.ListN.{length};
 ghost use Rattle.model.specs.Support.{point};
 ghost use Rattle.grid.specs.Grid.{unit};
-ghost use Rattle.pairs.specs.Pairs.{Sized};
-ghost use Rattle.grid_job.specs.Placing.{Near, NearPair, UpTo, Suits, Less, Offset, Span, Turned, Headed, Asked, AllCornered, PlacedBody, Between, Limits, Joined, keepOf, OnBoard, FractionUp, FractionDown};
+ghost use Rattle.pairs.specs.Pairs.{sizeOf, Sized};
+ghost use Rattle.grid_job.specs.Placing.{Near, NearPair, UpTo, Suits, Ordinary, Fitting, Steady, Less, Offset, Span, Turned, Headed, Asked};
+ghost use Rattle.grid_job.specs.Placing.{AllCornered, PlacedBody, Between, Limits, Joined, keepOf, OnBoard, FractionUp, FractionDown};
 
 // An exponent, where there is one.
 struct Chosen {
@@ -35,7 +35,7 @@ pub struct Placed {
 // The largest pattern from one place to another, signs dropped, and at least `least`.
 fn largest(list: &[f32], from: usize, to: usize, least: u32) -> u32
     requires { ⌜ to ≤ length (now list) ⌝ }
-    ensures { λ r. ⌜ (least ≤ r) × UpTo (now (list .entry)) from to r ⌝ }
+    ensures { λ r. ⌜ (least ≤ r) × UpTo (now (list .entry)) from to r × ((m : ℕ) → least ≤ m → UpTo (now (list .entry)) from to m → r ≤ m) ⌝ }
 {
     let mut best = least;
     let mut i = from;
@@ -52,7 +52,8 @@ fn largest(list: &[f32], from: usize, to: usize, least: u32) -> u32
 // The exponent of a grid on which every place of the job is below 2^28.
 fn exponent(points_a: &[f32], points_b: &[f32], numbers: &[f32]) -> Chosen
     requires { ⌜ length (now numbers) ≡ 24 ⌝ }
-    ensures { λ r. ⌜ (r .found ≡ true → Suits (now («points_a» .entry)) (now («points_b» .entry)) (now (numbers .entry)) (r .g)) ⌝ }
+    ensures { λ r. ⌜ (r .found ≡ true → Suits (now («points_a» .entry)) (now («points_b» .entry)) (now (numbers .entry)) (r .g))
+        × (Ordinary (now («points_a» .entry)) (now («points_b» .entry)) (now (numbers .entry)) → r .found ≡ true) ⌝ }
 {
     let a = largest(points_a, 0, points_a.len(), 0);
     let b = largest(points_b, 0, points_b.len(), a);
@@ -198,7 +199,7 @@ fn between(numbers: &[f32], i: u32, j: u32, g: u32) -> Vector
 // The distance to keep, rounded up and rounded down.
 fn kept_up(numbers: &[f32], g: u32) -> u64
     requires { ⌜ NearPair (now numbers) 0 g × Near (point (now numbers) 1 .y) g ⌝ }
-    ensures { λ r. ⌜ 2 ^ g * keepOf (now (numbers .entry)) ≤ r * unit ⌝ }
+    ensures { λ r. ⌜ (2 ^ g * keepOf (now (numbers .entry)) ≤ r * unit) × (r ≤ 805306368) ⌝ }
 {
     let radii = point(numbers, 0);
     let limits = point(numbers, 1);
@@ -247,19 +248,43 @@ fn none() -> Placed
     }
 }
 
+fn at_most_1(a: Pair) -> bool
+    ensures { λ r. ⌜ (r ≡ true → sizeOf a ≤ 1073741824) × (sizeOf a ≤ 1073741824 → r ≡ true) ⌝ }
+{
+    if a.p > 1073741824 {
+        return false;
+    }
+    if a.m > 1073741824 - a.p {
+        return false;
+    }
+    true
+}
+
+fn heading_fits(q: Vector) -> bool
+    ensures { λ r. ⌜ (r ≡ true → Sized 1073741824 q) × (Sized 1073741824 q → r ≡ true) ⌝ }
+{
+    let x = at_most_1(q.x);
+    if !x {
+        return false;
+    }
+    at_most_1(q.y)
+}
+
 // The headings are at most 1 in both parts.
 fn headings_fit(o: GridBody) -> bool
-    ensures { λ r. ⌜ (r ≡ true → Sized 1073741824 (o .q1) × Sized 1073741824 (o .q2)) ⌝ }
+    ensures { λ r. ⌜ (r ≡ true → Steady o) × (Steady o → r ≡ true) ⌝ }
 {
-    let first = both_within(o.q1, 1073741824);
-    let last = both_within(o.q2, 1073741824);
-    first & last
+    let first = heading_fits(o.q1);
+    if !first {
+        return false;
+    }
+    heading_fits(o.q2)
 }
 
 // The job's rest, once its bodies are placed.
 fn job_of(numbers: &[f32], g: u32, a: GridBody, b: GridBody) -> Placed
     requires { ⌜ Limits (now numbers) g ⌝ }
-    ensures { λ r. ⌜ (r .found ≡ true → Joined (now (numbers .entry)) g a b (r .job)) ⌝ }
+    ensures { λ r. ⌜ (r .found ≡ true → Joined (now (numbers .entry)) g a b (r .job)) × (Steady a → Steady b → r .found ≡ true) ⌝ }
 {
     let fit_a = headings_fit(a);
     if !fit_a {
@@ -289,8 +314,8 @@ fn job_of(numbers: &[f32], g: u32, a: GridBody, b: GridBody) -> Placed
     }
 }
 
-// A job on the grid: two outlines and 24 numbers as a sweep has them. The lists, as long as the outlines have points, get the corners. It is not found
-// where a length is wrong or a number is out of its domain.
+// A job on the grid: two outlines and 24 numbers as a sweep has them. The lists, as long as the outlines have points, get the corners. It is always found
+// where the lengths are right and the numbers in their domain.
 pub fn grid_job(
     points_a: &[f32],
     points_b: &[f32],
@@ -300,7 +325,10 @@ pub fn grid_job(
     bxs: &mut [u64],
     bys: &mut [u64],
 ) -> Placed
-    ensures { λ r. ⌜ (r .found ≡ true → OnBoard (now («points_a» .entry)) (now («points_b» .entry)) (now (numbers .entry)) (r .job) (now (axs .exit)) (now (ays .exit)) (now (bxs .exit)) (now (bys .exit))) ⌝ }
+    ensures { λ r. ⌜ (r .found ≡ true → OnBoard (now («points_a» .entry)) (now («points_b» .entry)) (now (numbers .entry)) (r .job)
+        (now (axs .exit)) (now (ays .exit)) (now (bxs .exit)) (now (bys .exit)))
+        × (Fitting (now («points_a» .entry)) (now («points_b» .entry)) (now (numbers .entry)) (now (axs .entry)) (now (ays .entry))
+        (now (bxs .entry)) (now (bys .entry)) → r .found ≡ true) ⌝ }
 {
     if numbers.len() != 24 {
         return none();

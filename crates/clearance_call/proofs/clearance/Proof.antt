@@ -26,7 +26,8 @@ returns-2 c =
     let k = c .before .before .before .before in
     let f = k .before .before .before .args in
     rw (c .handed-on .ensures) (told (f .points-a .now) (f .points-b .now) (f .numbers .now) (f .from) (omega (arith, r .ensures))
-    (subst T (sym (k .before .before .before .good .1 .1 .1 .0 .1)) tt) (k .shared-slice-known3 .given 2) (l .result) (l .ensures))
+    (subst T (sym (k .before .before .before .good .1 .1 .1 .0 .1)) tt) (k .shared-slice-known3 .given 2)
+    (l .result) (l .ensures .0) (l .ensures .1 (omega (arith, r .ensures))))
 
 pub clearance-spec : {M : Type 1} → statement M
 clearance-spec =

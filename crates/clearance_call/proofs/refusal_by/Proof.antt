@@ -20,7 +20,8 @@ returns : tie.Need-returns
 returns c =
     let pair = c .before .before .before in
     let f = pair .before .before .before .args in
-    pair-refused (f .points-a .now) (f .points-b .now) (f .radii) (f .limits) (f .move-a) (f .move-b) (f .from) _ (pair .check-pair .ensures) _ (c .before .enum-told2 .given .1) _ (c .refusal .ensures)
+    pair-refused (f .points-a .now) (f .points-b .now) (f .radii) (f .limits) (f .move-a) (f .move-b) (f .from)
+    _ (pair .check-pair .ensures) _ (c .before .enum-told2 .given .1) _ (c .refusal .ensures)
 
 check-sweeps-requires : tie.Need-check-sweeps-requires
 check-sweeps-requires c κs = search needs
@@ -39,7 +40,8 @@ returns-2 c =
     let sweeps = c .before .before .before in
     let pair = sweeps .before .before .before in
     let f = pair .before .before .before .args in
-    sweeps-refused (f .points-a .now) (f .points-b .now) (f .radii) (f .limits) (f .move-a) (f .move-b) (f .from) _ (pair .check-pair .ensures) (sweeps .before .enum-told .given .1)
+    sweeps-refused (f .points-a .now) (f .points-b .now) (f .radii) (f .limits) (f .move-a) (f .move-b) (f .from)
+    _ (pair .check-pair .ensures) (sweeps .before .enum-told .given .1)
     _ (sweeps .check-sweeps .ensures) _ (c .before .enum-told4 .given .1) _ (c .refusal2 .ensures)
 
 check-fraction-requires : tie.Need-check-fraction-requires
@@ -60,7 +62,8 @@ returns-3 c =
     let sweeps = fraction .before .before .before in
     let pair = sweeps .before .before .before in
     let f = pair .before .before .before .args in
-    fraction-refused (f .points-a .now) (f .points-b .now) (f .radii) (f .limits) (f .move-a) (f .move-b) (f .from) _ (pair .check-pair .ensures) (sweeps .before .enum-told .given .1)
+    fraction-refused (f .points-a .now) (f .points-b .now) (f .radii) (f .limits) (f .move-a) (f .move-b) (f .from)
+    _ (pair .check-pair .ensures) (sweeps .before .enum-told .given .1)
     _ (sweeps .check-sweeps .ensures) (fraction .before .enum-told3 .given .1)
     _ (fraction .check-fraction .ensures) _ (c .before .enum-told6 .given .1) _ (c .refusal3 .ensures)
 
@@ -83,7 +86,8 @@ returns-4 c =
     let sweeps = fraction .before .before .before in
     let pair = sweeps .before .before .before in
     let f = pair .before .before .before .args in
-    start-refused (f .points-a .now) (f .points-b .now) (f .radii) (f .limits) (f .move-a) (f .move-b) (f .from) _ (pair .check-pair .ensures) (sweeps .before .enum-told .given .1)
+    start-refused (f .points-a .now) (f .points-b .now) (f .radii) (f .limits) (f .move-a) (f .move-b) (f .from)
+    _ (pair .check-pair .ensures) (sweeps .before .enum-told .given .1)
     _ (sweeps .check-sweeps .ensures) (fraction .before .enum-told3 .given .1)
     _ (fraction .check-fraction .ensures) (start .before .enum-told5 .given .1)
     _ (start .check-from .ensures) _ (c .before .enum-told8 .given .1) _ (c .refusal4 .ensures)
@@ -102,7 +106,8 @@ returns-5 c =
     let sweeps = fraction .before .before .before in
     let pair = sweeps .before .before .before in
     let f = pair .before .before .before .args in
-    last-told (f .points-a .now) (f .points-b .now) (f .radii) (f .limits) (f .move-a) (f .move-b) (f .from) _ (pair .check-pair .ensures) (sweeps .before .enum-told .given .1)
+    last-told (f .points-a .now) (f .points-b .now) (f .radii) (f .limits) (f .move-a) (f .move-b) (f .from)
+    _ (pair .check-pair .ensures) (sweeps .before .enum-told .given .1)
     _ (sweeps .check-sweeps .ensures) (fraction .before .enum-told3 .given .1)
     _ (fraction .check-fraction .ensures) (start .before .enum-told5 .given .1)
     _ (start .check-from .ensures) (slop .before .enum-told7 .given .1) _ (slop .check-slop .ensures) _ (c .refusal5 .ensures)

@@ -1,6 +1,8 @@
 -- The job on its board, and the promise from what is said there. Assumes nothing.
+use mathlib.Core.Path.{sym, _∙_}
+use mathlib.Core.Bool.{true≢false}
 use borrow.Author.Tests.{not-false}
-use Rattle.clearance_job.proofs.Laws.{unheard, counted, promised}
+use Rattle.clearance_job.proofs.Laws.{is-not, unheard, counted, promised}
 use borrow.Author.Needs.{needs}
 use Rattle.clearance_job.proofs.settle_lists.Statement.{statement}
 use Rattle.clearance_job.proofs.settle_lists.Tie as tie
@@ -24,13 +26,17 @@ same-length-4 : tie.Need-same-length-4
 same-length-4 c = search needs
 
 returns : tie.Need-returns
-returns c = unheard _ (c .unsettled .result) (c .unsettled .ensures)
+returns c =
+    let g = c .before .before .before .before .before .before .before .before .before .before .before .grid-job in (
+      unheard _ (c .unsettled .result) (c .unsettled .ensures),
+      λ o h. absurd (true≢false (sym (g .ensures .1 o) ∙ is-not (g .result .found) (c .before .if1 .taken))),
+    )
 
 settle-board-requires : tie.Need-settle-board-requires
 settle-board-requires c κs =
     let b1 = c .before .before .before .before .before in
     let g = b1 .before .before .before .before .before .before .before .before .before .before .grid-job in
-    g .ensures (not-false (g .result .found) (b1 .if1 .left)) .fits
+    g .ensures .0 (not-false (g .result .found) (b1 .if1 .left)) .fits
 
 same-length-5 : tie.Need-same-length-5
 same-length-5 c = search needs
@@ -49,18 +55,20 @@ returns-2 c =
     let b1 = c .before .before .before .before .before .before in
     let b2 = b1 .before .before .before .before .before .before .before .before .before .before in
     let f = b2 .before .before .before .before .before .before .before .before .before .before .before .before .args in
-    let on = b2 .grid-job .ensures (not-false (b2 .grid-job .result .found) (b1 .if1 .left)) in
-    let heard = c .settle-board .ensures in
-    record {
-      says = λ h.
-          let spoken = heard .says h in (
-            promised (f .points-a .now) (f .points-b .now) (f .numbers .now) (f .from) _ _ _ _ _ (spoken .part) on (spoken .asked)
-                (c .settle-board .result .answer) (spoken .settled),
-            counted (f .points-a .now) (f .points-b .now) (f .numbers .now) (f .from) _ _ _ _ _ (spoken .part) on (spoken .asked)
-                (c .settle-board .result .answer) (spoken .settled),
-          );
-      silent = heard .silent;
-    }
+    let on = b2 .grid-job .ensures .0 (not-false (b2 .grid-job .result .found) (b1 .if1 .left)) in
+    let heard = c .settle-board .ensures .0 in (
+      record {
+        says = λ h.
+            let spoken = heard .says h in (
+              promised (f .points-a .now) (f .points-b .now) (f .numbers .now) (f .from) _ _ _ _ _ (spoken .part) on (spoken .asked)
+                  (c .settle-board .result .answer) (spoken .settled),
+              counted (f .points-a .now) (f .points-b .now) (f .numbers .now) (f .from) _ _ _ _ _ (spoken .part) on (spoken .asked)
+                  (c .settle-board .result .answer) (spoken .settled),
+            );
+        silent = heard .silent;
+      },
+      λ o h. c .settle-board .ensures .1 h,
+    )
 
 pub settle-lists-spec : {M : Type 1} → statement M
 settle-lists-spec =

@@ -82,11 +82,20 @@ try-piece-requires c κs =
     c .before .before .before .before .before .before .before .before .before .before .before .before .before .before .before .before .pre .0
 
 returns-2 : tie.Need-returns-2 Inv-loop μ-loop
-returns-2 c = (
-  subst (λ (v : ℕ). ClearBetween
-      (c .before .before .before .before .before .before .before .before .before .before .before .before .before .before .before .before .before .before .before .args .job) (c .before .before .before .before .before .before .before .before .before .before .before .before .before .before .before .before .before .before .before .args .from) v (c .before .before .before .before .before .before .before .before .before .before .before .before .before .before .before .before .before .before .before .args .axs .now) (c .before .before .before .before .before .before .before .before .before .before .before .before .before .before .before .before .before .before .before .args .ays .now) (c .before .before .before .before .before .before .before .before .before .before .before .before .before .before .before .before .before .before .before .args .bxs .now) (c .before .before .before .before .before .before .before .before .before .before .before .before .before .before .before .before .before .before .before .args .bys .now)) (omega (arith, c .if3 .taken, c .before .before .before .before .least .ensures .right, c .before .before .before .before .before .before .loop .inv .below)) (joined (c .before .before .before .before .before .before .before .before .before .before .before .before .before .before .before .before .before .before .before .args .job) (c .before .before .before .before .before .before .before .before .before .before .before .before .before .before .before .before .before .before .before .args .axs .now) (c .before .before .before .before .before .before .before .before .before .before .before .before .before .before .before .before .before .before .before .args .ays .now) (c .before .before .before .before .before .before .before .before .before .before .before .before .before .before .before .before .before .before .before .args .bxs .now) (c .before .before .before .before .before .before .before .before .before .before .before .before .before .before .before .before .before .before .before .args .bys .now) (c .before .before .before .before .before .before .before .before .before .before .before .before .before .before .before .before .before .before .before .args .from) (c .before .before .before .before .before .before .loop .u) ((c .before .before .before .before .before .before .loop .u) + c .before .before .before .before .least .result) (c .before .before .before .before .before .before .loop .inv .after) (c .before .before .before .before .before .before .loop .inv .clear) (c .before .before .try-piece .ensures (c .before .if2 .taken))),
-  omega (arith, c .before .before .before .before .before .loop-test .taken),
-)
+returns-2 c =
+    let s = c .before .before .before .before in
+    let l = s .before .before .loop in
+    let f = s .before .before .before .before .before .before .before .before .before .before .before .before .before .before .before .args in (
+      subst (λ (v : ℕ). ClearBetween (f .job) (f .from) v (f .axs .now) (f .ays .now) (f .bxs .now) (f .bys .now)) (omega (
+        arith,
+        c .if3 .taken,
+        s .least .ensures .right,
+        l .inv .below,
+      ))
+          (joined (f .job) (f .axs .now) (f .ays .now) (f .bxs .now) (f .bys .now) (f .from) (l .u) (l .u + s .least .result) (l .inv .after) (l .inv .clear)
+          (c .before .before .try-piece .ensures (c .before .if2 .taken))),
+      omega (arith, s .before .loop-test .taken),
+    )
 
 mul-h : tie.Need-mul-h Inv-loop μ-loop
 mul-h c = search needs
@@ -95,24 +104,20 @@ loop-less : tie.Need-loop-less Inv-loop μ-loop
 loop-less c = search needs
 
 loop-again : tie.Need-loop-again Inv-loop μ-loop
-loop-again c = record {
-  after = omega (arith, c .before .before .before .before .before .before .loop .inv .after);
-  below = c .if3 .left;
-  some = omega (
-    arith,
-    c .before .before .before .before .least .ensures .some (c .before .before .before .before .before .before .loop .inv .some) (omega (
-      arith,
-      c .before .before .before .before .before .before .loop .inv .below,
-    )),
-  );
-  small = omega (
-    arith,
-    c .before .before .before .before .least .ensures .right,
-    c .before .before .before .before .before .before .before .before .before .before .before .before .before .before .before .before .before .before .before .pre .1 .whole,
-  );
-  few = omega (arith, c .before .before .before .before .before .loop-test .taken);
-  clear = λ l. joined (c .before .before .before .before .before .before .before .before .before .before .before .before .before .before .before .before .before .before .before .args .job) (c .before .before .before .before .before .before .before .before .before .before .before .before .before .before .before .before .before .before .before .args .axs .now) (c .before .before .before .before .before .before .before .before .before .before .before .before .before .before .before .before .before .before .before .args .ays .now) (c .before .before .before .before .before .before .before .before .before .before .before .before .before .before .before .before .before .before .before .args .bxs .now) (c .before .before .before .before .before .before .before .before .before .before .before .before .before .before .before .before .before .before .before .args .bys .now) (c .before .before .before .before .before .before .before .before .before .before .before .before .before .before .before .before .before .before .before .args .from) (c .before .before .before .before .before .before .loop .u) ((c .before .before .before .before .before .before .loop .u) + c .before .before .before .before .least .result) (c .before .before .before .before .before .before .loop .inv .after) (c .before .before .before .before .before .before .loop .inv .clear) (c .before .before .try-piece .ensures (c .before .if2 .taken));
-}
+loop-again c =
+    let s = c .before .before .before .before in
+    let l = s .before .before .loop in
+    let start = s .before .before .before .before .before .before .before .before .before .before .before .before .before .before .before in
+    let f = start .args in
+    record {
+      after = omega (arith, l .inv .after);
+      below = c .if3 .left;
+      some = omega (arith, s .least .ensures .some (l .inv .some) (omega (arith, l .inv .below)));
+      small = omega (arith, s .least .ensures .right, start .pre .1 .whole);
+      few = omega (arith, s .before .loop-test .taken);
+      clear = λ m. joined (f .job) (f .axs .now) (f .ays .now) (f .bxs .now) (f .bys .now) (f .from) (l .u) (l .u + s .least .result) (l .inv .after)
+          (l .inv .clear) (c .before .before .try-piece .ensures (c .before .if2 .taken));
+    }
 
 short-touch-requires : tie.Need-short-touch-requires Inv-loop μ-loop
 short-touch-requires c κs =
@@ -135,14 +140,22 @@ returns-3 c = record {
 
 last-look-requires : tie.Need-last-look-requires Inv-loop μ-loop
 last-look-requires c κs =
-    (c .before .before .before .before .before .before .before .before .before .before .before .before .before .before .before .before .before .before .before .before .before .pre .0, omega (arith, c .before .before .before .before .before .before .before .before .before .before .before .before .before .before .before .before .before .before .before .before .before .pre .1 .over, c .before .before .before .before .before .before .before .before .before .before .before .before .before .before .before .before .before .before .before .before .before .pre .1 .whole))
+    let b1 = c .before .before .before .before .before .before .before .before .before .before in
+    let start = b1 .before .before .before .before .before .before .before .before .before .before .before in
+    (start .pre .0, omega (arith, start .pre .1 .over, start .pre .1 .whole))
 
 told-requires : tie.Need-told-requires Inv-loop μ-loop
 told-requires c κs = search needs
 
 returns-4 : tie.Need-returns-4 Inv-loop μ-loop
-returns-4 c = rw (c .told .ensures) (told-settled
-    (c .before .before .before .before .before .before .before .before .before .before .before .before .before .before .before .before .before .before .before .before .before .before .before .args .job) (c .before .before .before .before .before .before .before .before .before .before .before .before .before .before .before .before .before .before .before .before .before .before .before .args .axs .now) (c .before .before .before .before .before .before .before .before .before .before .before .before .before .before .before .before .before .before .before .before .before .before .before .args .ays .now) (c .before .before .before .before .before .before .before .before .before .before .before .before .before .before .before .before .before .before .before .before .before .before .before .args .bxs .now) (c .before .before .before .before .before .before .before .before .before .before .before .before .before .before .before .before .before .before .before .before .before .before .before .args .bys .now) (c .before .before .before .before .before .before .before .before .before .before .before .before .before .before .before .before .before .before .before .before .before .before .before .args .from) (c .before .before .before .before .before .before .before .before .before .before .before .before .before .before .before .before .before .before .before .before .before .before .before .args .low) (c .before .before .before .before .before .before .before .before .before .before .before .before .before .before .before .before .before .before .before .before .before .before .before .args .high) (c .before .before .before .before .before .before .before .before .before .before .loop .u) _ (c .before .last-look .result) (c .before .before .before .before .before .before .before .before .before .before .loop .inv .after) (omega (arith, c .before .before .before .before .before .before .before .before .before .before .loop .inv .below, c .before .before .before .before .before .before .before .before .before .before .before .before .before .before .before .before .before .before .before .before .before .before .before .pre .1 .under)) (omega (arith, c .before .before .before .before .before .before .before .before .before .loop-test .taken)) (c .before .before .before .before .before .before .before .before .before .before .loop .inv .clear) (c .before .last-look .ensures))
+returns-4 c =
+    let l = c .before .before .before .before .before .before .before .before .before .before in
+    let start = l .before .before .before .before .before .before .before .before .before .before .before .before .before in
+    let f = start .args in
+    rw (c .told .ensures) (told-settled (f .job) (f .axs .now) (f .ays .now) (f .bxs .now) (f .bys .now) (f .from) (f .low) (f .high) (l .loop .u) _
+    (c .before .last-look .result) (l .loop .inv .after) (omega (arith, l .loop .inv .below, start .pre .1 .under)) (omega arith)
+    (omega (arith, c .before .before .before .before .before .before .before .before .before .loop-test .taken))
+    (l .loop .inv .clear) (c .before .last-look .ensures))
 
 sub-h-2 : tie.Need-sub-h-2 Inv-loop μ-loop
 sub-h-2 c = search needs
@@ -151,19 +164,18 @@ loop-less-2 : tie.Need-loop-less-2 Inv-loop μ-loop
 loop-less-2 c = search needs
 
 loop-again-2 : tie.Need-loop-again-2 Inv-loop μ-loop
-loop-again-2 c = record {
-  after = c .before .before .before .before .before .before .before .before .loop .inv .after;
-  below =
-      c .before .before .before .before .before .before .before .before .loop .inv .below;
-  some = omega (arith, c .if5 .left);
-  small = omega (
-    arith,
-    c .before .before .before .before .before .before .least .ensures .right,
-    c .before .before .before .before .before .before .before .before .before .before .before .before .before .before .before .before .before .before .before .before .before .pre .1 .whole,
-  );
-  few = omega (arith, c .before .before .before .before .before .before .before .loop-test .taken);
-  clear = c .before .before .before .before .before .before .before .before .loop .inv .clear;
-}
+loop-again-2 c =
+    let s = c .before .before .before .before .before .before in
+    let l = s .before .before .loop in
+    let start = s .before .before .before .before .before .before .before .before .before .before .before .before .before .before .before in
+    record {
+      after = l .inv .after;
+      below = l .inv .below;
+      some = omega (arith, c .if5 .left);
+      small = omega (arith, s .least .ensures .right, start .pre .1 .whole);
+      few = omega (arith, s .before .loop-test .taken);
+      clear = l .inv .clear;
+    }
 
 returns-5 : tie.Need-returns-5 Inv-loop μ-loop
 returns-5 c = record {
@@ -175,6 +187,7 @@ returns-5 c = record {
   );
   clear =
       c .before .loop .inv .clear;
+  some = omega (arith, c .loop-test .left);
   few = c .before .loop .inv .few;
 }
 

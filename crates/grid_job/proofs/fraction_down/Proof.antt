@@ -10,7 +10,7 @@ to-bits-requires : tie.Need-to-bits-requires
 to-bits-requires c κs = search needs
 
 returns : tie.Need-returns
-returns c = no-fraction (c .before .before .args .x)
+returns c = no-fraction (c .before .before .args .x) (c .before .to-bits .result) (c .before .to-bits .ensures) (omega arith)
 
 grid-down-requires : tie.Need-grid-down-requires
 grid-down-requires c κs = search needs
@@ -23,7 +23,7 @@ returns-2 c =
     let n = c .natural in
     let a = c .before .grid-down in
     down-law (c .before .before .before .before .args .x) (c .before .before .before .to-bits .result) (n .result) (intOf (a .result))
-    (c .before .before .before .to-bits .ensures) (omega arith) (a .ensures) (n .ensures .1) (n .ensures .2) (n .ensures .3)
+    (c .before .before .before .to-bits .ensures) (omega arith) (a .ensures) (n .ensures .0) (n .ensures .1) (n .ensures .2) (n .ensures .3)
 
 pub fraction-down-spec : {M : Type 1} → statement M
 fraction-down-spec =

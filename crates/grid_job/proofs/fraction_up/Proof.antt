@@ -23,7 +23,7 @@ returns-2 c =
     let n = c .natural in
     let a = c .before .grid-up in
     up-law (c .before .before .before .before .args .x) (c .before .before .before .to-bits .result) (n .result) (intOf (a .result))
-    (c .before .before .before .to-bits .ensures) (omega arith) (a .ensures) (n .ensures .0) (n .ensures .1)
+    (c .before .before .before .to-bits .ensures) (omega arith) (a .ensures) (n .ensures .0) (n .ensures .1) (n .ensures .2) (n .ensures .3)
 
 pub fraction-up-spec : {M : Type 1} → statement M
 fraction-up-spec =

@@ -3,7 +3,7 @@ use native.Mathlib.Omega.{arith}
 use mathlib.Core.Path.{ap, _∙_}
 use lib.Ieee.{binary32, toBits}
 use Rattle.model.specs.declared.Vector.{Vector}
-use Rattle.grid_job.proofs.Laws.{keep-up-law}
+use Rattle.grid_job.proofs.Laws.{keep-up-law, keep-up-small}
 use borrow.Author.Needs.{needs}
 use Rattle.grid_job.proofs.kept_up.Statement.{statement}
 use Rattle.grid_job.proofs.kept_up.Tie as tie
@@ -31,12 +31,17 @@ returns c =
     let f = c .before .before .before .before .before .before .before .args in
     let p = c .before .before .before .before .before .point .ensures in
     let q = c .before .before .before .before .point2 .ensures in
-    keep-up-law (f .numbers .now) (f .g) (c .keep-up .result) (c .before .before .before .to-bits .result) (c .before .before .to-bits2 .result)
-    (c .before .to-bits3 .result)
-    (c .before .before .before .to-bits .ensures ∙ ap (λ (v : Vector). toBits binary32 (v .y)) q) (c .before .before .to-bits2 .ensures ∙ ap (λ (v :
-    Vector). toBits binary32 (v .x)) p) (c .before .to-bits3 .ensures ∙ ap (λ (v : Vector). toBits binary32 (v .y)) p)
-    (c .before .before .before .before .before .before .before .pre .0) (c .before .before .before .before .before .before .before .pre .1)
-    (c .keep-up .ensures .1)
+    let k = c .keep-up .result in
+    let s = c .before .before .before .to-bits in
+    let x = c .before .before .to-bits2 in
+    let y = c .before .to-bits3 in
+    let es = s .ensures ∙ ap (λ (v : Vector). toBits binary32 (v .y)) q in
+    let ex = x .ensures ∙ ap (λ (v : Vector). toBits binary32 (v .x)) p in
+    let ey = y .ensures ∙ ap (λ (v : Vector). toBits binary32 (v .y)) p in
+    let h = c .before .before .before .before .before .before .before .pre in (
+      keep-up-law (f .numbers .now) (f .g) k (s .result) (x .result) (y .result) es ex ey (h .0) (h .1) (c .keep-up .ensures .1),
+      keep-up-small (f .numbers .now) (f .g) k (s .result) (x .result) (y .result) es ex ey (h .0) (h .1) (c .keep-up .ensures .1),
+    )
 
 pub kept-up-spec : {M : Type 1} → statement M
 kept-up-spec =

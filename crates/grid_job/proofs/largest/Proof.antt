@@ -3,19 +3,19 @@ use mathlib.Core.Logic.{⊎-elim}
 use Rattle.grid_job.proofs.Laws.{pattern-more}
 use native.Mathlib.Omega.{arith}
 use borrow.Author.Needs.{needs}
-use Prim.Native.Nat.{_-_, _≤_}
+use Prim.Native.Nat.{ℕ, _-_, _≤_}
 use Rattle.grid_job.specs.Placing.{UpTo}
 use Rattle.grid_job.proofs.largest.Statement.{statement}
 use Rattle.grid_job.proofs.largest.Tie as tie
 
 abbrev Inv-loop : tie.InvT-loop
-Inv-loop list from to least best₀ i₀ best i = (least ≤ best) × UpTo list from i best
+Inv-loop list from to least best₀ i₀ best i = (least ≤ best) × UpTo list from i best × (from ≤ i) × ((m : ℕ) → least ≤ m → UpTo list from to m → best ≤ m)
 
 abbrev μ-loop : tie.MeasureT-loop
 μ-loop list from to least best₀ i₀ best i = to - i
 
 loop-holds : tie.Need-loop-holds Inv-loop μ-loop
-loop-holds c = (omega arith, λ k l m. absurd (omega arith))
+loop-holds c = (omega arith, λ k l m. absurd (omega arith), omega arith, λ m l u. l)
 
 mul-to-bits : tie.Need-mul-to-bits Inv-loop μ-loop
 mul-to-bits c = search needs
@@ -38,11 +38,16 @@ loop-again c =
     let l = c .before .before .before .before .loop in
     let b = c .before .to-bits in
     let keep = pattern-more (a .list .now) (a .from) (l .i) (l .best) (c .if1 .best) (l .inv .1) in
-    ⊎-elim (λ w. (omega arith, keep (omega arith) (omega (arith, b .ensures)))) (λ w. (omega arith, keep (omega arith) (omega (arith, b .ensures))))
+    ⊎-elim (λ w. (
+      omega arith,
+      keep (omega arith) (omega (arith, b .ensures)),
+      omega (arith, l .inv .2),
+      λ m least up. omega (arith, up (l .i) (l .inv .2) (omega arith), b .ensures),
+    )) (λ w. (omega arith, keep (omega arith) (omega (arith, b .ensures)), omega (arith, l .inv .2), λ m least up. omega (arith, l .inv .3 m least up)))
     (c .if1 .came)
 
 returns : tie.Need-returns Inv-loop μ-loop
-returns c = (omega arith, λ k f t. c .before .loop .inv .1 k f (omega arith))
+returns c = (omega arith, λ k f t. c .before .loop .inv .1 k f (omega arith), c .before .loop .inv .3)
 
 pub largest-spec : {M : Type 1} → statement M
 largest-spec =
