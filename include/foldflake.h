@@ -51,7 +51,8 @@ enum { FOLDFLAKE_TOLD = 32 };
 /* What foldflake_route answers besides refusals. CLEAR is as much as SEPARATED of each sweep, and FAILED is no verdict. */
 enum { FOLDFLAKE_ROUTE_CLEAR = 32, FOLDFLAKE_ROUTE_OVERLAPPED = 33, FOLDFLAKE_ROUTE_HIT = 34, FOLDFLAKE_ROUTE_FAILED = 35 };
 
-/* What foldflake_clearance answers besides refusals. Each says something of every fraction, and OPEN nothing of those after the first of its two. */
+/* What foldflake_clearance and foldflake_route_clearance answer besides refusals. Each says something of every fraction, and OPEN nothing of those after
+   the first of its two. */
 enum { FOLDFLAKE_CLEARANCE_CLEAR = 32, FOLDFLAKE_CLEARANCE_TOUCH = 33, FOLDFLAKE_CLEARANCE_OPEN = 34 };
 
 /* The square root, rounded to nearest. */
@@ -169,6 +170,27 @@ uint32_t foldflake_route(const float *cart, size_t cart_len, const float *waypoi
    FOLDFLAKE_WRONG_LENGTH. On a refusal or a wrong length out and pieces are as they were. */
 uint32_t foldflake_clearance(const float *points_a, size_t numbers_in_a, const float *points_b, size_t numbers_in_b, const float *numbers,
                              size_t numbers_len, float from, float *out, size_t out_len, uint32_t *pieces, size_t pieces_len);
+
+/* The route of foldflake_route looked at as a whole: each leg past each still outline, in that order, up to the first that is not clear. What is told holds at
+   every moment of a leg, of a cart that turns too, as foldflake_clearance has it; the distance to keep is the slop. cart, waypoints, stills and lengths as
+   foldflake_route takes them.
+   CLEAR: on every leg, at every moment of it, the cart is further than the slop from every outline.
+   TOUCH: so before leg and outline in that order; of the leg past the outline up to the fraction u, and at the fraction t they are not further apart.
+   OPEN: so before leg and outline in that order; of the leg past the outline up to the fraction u, and what comes later was not settled.
+   out, 2: u and t of TOUCH, u and 1 of OPEN, 1 twice of CLEAR. where, 3: leg, outline, both from 1, and the pieces of all pairs that were looked at; 0, 0 and
+   the pieces where the answer is CLEAR.
+
+     const float bar[4] = {-1, 0, 1, 0}, post[2] = {0, 0.9f};
+     const float waypoints[8] = {0, 0, 1, 0, 0, 0, -0.8f, 0.6f};    turns by 143 degrees where it stands
+     const uint32_t lengths[1] = {2};
+     float out[2];
+     uint32_t where[3];
+     if (foldflake_route_clearance(bar, 4, waypoints, 8, post, 2, lengths, 1, 0.01f, out, 2, where, 3) == FOLDFLAKE_CLEARANCE_TOUCH) ..    leg 1, outline 1
+
+   The answer is the first that applies, as of foldflake_route: FOLDFLAKE_WRONG_LENGTH, 16, 17, FOLDFLAKE_WRONG_LENGTH; then FOLDFLAKE_CLEARANCE_.., or the
+   refusal of the pair in hand, 1 to 3, 5, 6 or 8. out is written for CLEAR, TOUCH and OPEN alone, where for these and for a pair's refusal. */
+uint32_t foldflake_route_clearance(const float *cart, size_t cart_len, const float *waypoints, size_t waypoints_len, const float *stills, size_t stills_len,
+                                   const uint32_t *lengths, size_t lengths_len, float slop, float *out, size_t out_len, uint32_t *where, size_t where_len);
 
 #ifdef __cplusplus
 }

@@ -8,6 +8,7 @@
 //!   oracle lines SEED COUNT              rows of blocks with their lines (batches.rs)
 //!   oracle known                         a pool, sweeps and blocks whose answers are well known (known.rs)
 //!   oracle sheet                         the sheet of the batch on standard input (sheet.rs)
+//!   oracle gaps                          the gaps of the batch on standard input along its moves (sheet.rs)
 //!   oracle hostile SEED COUNT            distance calls that might work out what is not a number (hostile.rs)
 //!   oracle squared-paper MILLIONS SEED   the claims on squared paper tested by running (squared_paper.rs)
 //!   oracle turns SEED COUNT              what S misses when something turns, COUNT moves of each of ten kinds (turns.rs)
@@ -68,6 +69,8 @@ fn main() {
         #[cfg(feature = "f32")]
         "known" => known::rows(),
         "sheet" => sheet::sheet(),
+        #[cfg(feature = "f32")]
+        "gaps" => sheet::gaps(),
         #[cfg(feature = "f32")]
         "turns" => turns::run(number(2), number(3)),
         #[cfg(feature = "f32")]

@@ -1,7 +1,10 @@
-//! The sheet of a batch by the oracle. A block's floats are f32; f64 takes each over as the same number.
+//! The sheet and the gaps of a batch by the oracle. A block's floats are f32; f64 takes each over as the same number.
 use crate::math::{Real, Rotation, Vector};
+use crate::pool::points;
 use crate::sweep;
+use crate::sweep_toi::proxy_distance::{proxy_distance, SimplexCache};
 use crate::sweep_toi::sweep::Sweep;
+use crate::sweep_toi::toi_proxy::ToiProxy;
 use crate::width::{bits, HEX};
 use std::io::{Read, Write};
 
@@ -74,9 +77,29 @@ pub fn line(number: u64, b: &[u8; SIZE]) -> (String, u32) {
     (text, 16 + x.status)
 }
 
-pub fn sheet() {
+/// The same with the gaps of a worked block in place of its answer: without radii, by a distance call of its own at each 256th of the max fraction,
+/// asked as the sweep asks.
+fn gaps_line(number: u64, b: &[u8; SIZE]) -> (String, u32) {
+    let (text, kind) = line(number, b);
+    if kind < 16 {
+        return (text, kind);
+    }
+    let numbers = |at: usize, n: usize| (0..2 * n).map(|i| float(b, at + 4 * i)).collect::<Vec<Real>>();
+    let (pa, pb) = (points(&numbers(104, b[4] as usize)), points(&numbers(232, b[5] as usize)));
+    let (wa, wb) = (movement_at(b, 24), movement_at(b, 64));
+    let (seen_a, seen_b) = (wa.shifted(wa.c1), wb.shifted(wa.c1));
+    let gaps = (0..=256).map(|k| {
+        let t = float(b, 16) * (k as Real / 256.0);
+        let pose = seen_a.transform_at(t).inv_mul(&seen_b.transform_at(t));
+        let told = proxy_distance(&pose, &ToiProxy::from_points(&pa, 0.0), &ToiProxy::from_points(&pb, 0.0), false, &mut SimplexCache::default());
+        format!("{:0HEX$X}", bits(told.distance))
+    });
+    (format!("{number} {} 0 {}\n", word(b, 0), gaps.collect::<Vec<_>>().join(" ")), kind)
+}
+
+/// Prints a line for each block of standard input; how many there were, were clear, contact, undecided and refused.
+fn each(line: fn(u64, &[u8; SIZE]) -> (String, u32), out: &mut impl Write) -> [u64; 5] {
     let mut input = std::io::stdin().lock();
-    let mut out = std::io::BufWriter::new(std::io::stdout().lock());
     let mut totals = [0u64; 5];
     let mut b = [0u8; SIZE];
     loop {
@@ -104,5 +127,17 @@ pub fn sheet() {
             break;
         }
     }
+    totals
+}
+
+pub fn sheet() {
+    let mut out = std::io::BufWriter::new(std::io::stdout().lock());
+    let totals = each(line, &mut out);
     writeln!(out, "TOTAL {} {} {} {} {}", totals[0], totals[1], totals[2], totals[3], totals[4]).unwrap();
+}
+
+pub fn gaps() {
+    let mut out = std::io::BufWriter::new(std::io::stdout().lock());
+    let totals = each(gaps_line, &mut out);
+    writeln!(out, "TOTAL {} {}", totals[0], totals[4]).unwrap();
 }

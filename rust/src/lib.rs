@@ -81,6 +81,21 @@ mod entry {
             place: *mut u32,
             place_len: usize,
         ) -> u32;
+        pub fn foldflake_route_clearance(
+            cart: *const f32,
+            cart_len: usize,
+            waypoints: *const f32,
+            waypoints_len: usize,
+            stills: *const f32,
+            stills_len: usize,
+            lengths: *const u32,
+            lengths_len: usize,
+            slop: f32,
+            out: *mut f32,
+            out_len: usize,
+            place: *mut u32,
+            place_len: usize,
+        ) -> u32;
     }
 }
 
@@ -689,6 +704,14 @@ pub enum Route {
     Failed(Stop, Contact),
 }
 
+/// The waypoints' numbers, the outlines' points one behind another, and how many numbers each outline has.
+fn route_lists(waypoints: &[Waypoint], stills: &[&[f32]]) -> (Vec<f32>, Vec<f32>, Vec<u32>) {
+    let ways = waypoints.iter().flat_map(|w| [w.center[0], w.center[1], w.rotation[0], w.rotation[1]]).collect();
+    // of an outline that has more than 128 numbers, and is refused for that, 129 are handed on
+    let kept = || stills.iter().map(|s| &s[..s.len().min(129)]);
+    (ways, kept().flatten().copied().collect(), kept().map(|s| s.len() as u32).collect())
+}
+
 /// The route of a cart past still outlines, leg by leg and past the outlines in order on each leg; or the number of the refusal, with the sweep that was
 /// refused, if it was one.
 ///
@@ -702,11 +725,7 @@ pub enum Route {
 /// }
 /// ```
 pub fn route(cart: &[f32], waypoints: &[Waypoint], stills: &[&[f32]], slop: f32) -> Result<Route, (Refusal, Option<Stop>)> {
-    let ways: Vec<f32> = waypoints.iter().flat_map(|w| [w.center[0], w.center[1], w.rotation[0], w.rotation[1]]).collect();
-    // of an outline that has more than 128 numbers, and is refused for that, 129 are handed on
-    let kept = || stills.iter().map(|s| &s[..s.len().min(129)]);
-    let points: Vec<f32> = kept().flatten().copied().collect();
-    let lengths: Vec<u32> = kept().map(|s| s.len() as u32).collect();
+    let (ways, points, lengths) = route_lists(waypoints, stills);
     let (mut out, mut place) = ([0f32; 5], [0u32; 3]);
     // Safety: each list has the length handed over, and the two that are written are ours alone.
     let answer = unsafe {
@@ -734,5 +753,94 @@ pub fn route(cart: &[f32], waypoints: &[Waypoint], stills: &[&[f32]], slop: f32)
         34 => Ok(Route::Hit(stop, contact)),
         35 => Ok(Route::Failed(stop, contact)),
         number => Err((Refusal(number), Some(stop).filter(|s| s.leg > 0))),
+    }
+}
+
+/// The leg and the outline that end a route looked at as a whole.
+#[derive(Clone, Copy, Debug, PartialEq, Eq)]
+pub struct Pair {
+    /// The leg, from 1.
+    pub leg: u32,
+    /// The still outline, from 1.
+    pub outline: u32,
+    /// The pieces of all pairs up to this one, its own included.
+    pub pieces: u32,
+}
+
+/// What holds at every moment of a route: proved, in exact arithmetic. "Clear" is: further apart than the slop, for every point of the cart and of the
+/// outline. Fractions are of the leg, multiples of 2^-24.
+#[derive(Clone, Copy, Debug, PartialEq)]
+pub enum RouteClearance {
+    /// Every leg is clear of every still outline, at every moment of it.
+    Clear {
+        /// Pieces of all legs that were tried.
+        pieces: u32,
+    },
+    /// All pairs before this one, in the route's order, are clear; on this leg past this outline the first contact comes not before `clear_up_to`, and
+    /// certainly by `within_by`.
+    Touch {
+        /// The leg and the outline.
+        pair: Pair,
+        /// Clear up to here, where this is after 0.
+        clear_up_to: f32,
+        /// Here they are not further apart than the slop.
+        within_by: f32,
+    },
+    /// All pairs before this one are clear; on this leg past this outline, what comes after `clear_up_to` was not settled.
+    Open {
+        /// The leg and the outline.
+        pair: Pair,
+        /// Clear up to here, where this is after 0.
+        clear_up_to: f32,
+    },
+}
+
+/// The same route looked at as a whole: what is told of a leg holds at every moment of it, also of a cart that turns. Or the number of the refusal, with
+/// the pair that was refused, if it was one.
+///
+/// ```
+/// use foldflake::{route, route_clearance, Route, RouteClearance, Waypoint};
+/// // a cart of 2 by 1 turns a quarter beside a post that its corner meets on the way
+/// let cart = [-1.0, -0.5, 1.0, -0.5, 1.0, 0.5, -1.0, 0.5];
+/// let turns = [Waypoint { center: [0.0; 2], rotation: [1.0, 0.0] }, Waypoint { center: [0.0; 2], rotation: [0.0, 1.0] }];
+/// let post = [-0.4, 1.1, 0.4, 1.1, 0.4, 1.9, -0.4, 1.9];
+/// assert!(matches!(route(&cart, &turns, &[&post], 0.005), Ok(Route::Clear(_))));
+/// match route_clearance(&cart, &turns, &[&post], 0.005) {
+///     Ok(RouteClearance::Touch { pair, clear_up_to, within_by }) => {
+///         assert_eq!((pair.leg, pair.outline), (1, 1));
+///         assert!(0.55 < clear_up_to && clear_up_to < within_by && within_by < 0.57);
+///     }
+///     other => panic!("{other:?}"),
+/// }
+/// assert!(matches!(route_clearance(&cart, &turns, &[&post.map(|x| 2.0 * x)], 0.005), Ok(RouteClearance::Clear { .. })));
+/// ```
+pub fn route_clearance(cart: &[f32], waypoints: &[Waypoint], stills: &[&[f32]], slop: f32) -> Result<RouteClearance, (Refusal, Option<Pair>)> {
+    let (ways, points, lengths) = route_lists(waypoints, stills);
+    let (mut out, mut place) = ([0f32; 2], [0u32; 3]);
+    // Safety: each list has the length handed over, and the two that are written are ours alone.
+    let answer = unsafe {
+        entry::foldflake_route_clearance(
+            cart.as_ptr(),
+            cart.len(),
+            ways.as_ptr(),
+            ways.len(),
+            points.as_ptr(),
+            points.len(),
+            lengths.as_ptr(),
+            lengths.len(),
+            slop,
+            out.as_mut_ptr(),
+            out.len(),
+            place.as_mut_ptr(),
+            place.len(),
+        )
+    };
+    let ([clear_up_to, within_by], [leg, outline, pieces]) = (out, place);
+    let pair = Pair { leg, outline, pieces };
+    match answer {
+        32 => Ok(RouteClearance::Clear { pieces }),
+        33 => Ok(RouteClearance::Touch { pair, clear_up_to, within_by }),
+        34 => Ok(RouteClearance::Open { pair, clear_up_to }),
+        number => Err((Refusal(number), Some(pair).filter(|p| p.leg > 0))),
     }
 }

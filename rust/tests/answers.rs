@@ -1,7 +1,7 @@
 //! The safe face against answers worked out by hand or listed in README.md.
 use foldflake::{
-    bar, clearance, distance, gap, line, placed_bar, placed_plate, plate, pose, root, route, sweep, Cache, Clearance, Ending, Move, Pose, Refusal, Route,
-    Stop, Sweep, Waypoint,
+    bar, clearance, distance, gap, line, placed_bar, placed_plate, plate, pose, root, route, route_clearance, sweep, Cache, Clearance, Ending, Move, Pair, Pose,
+    Refusal, Route, RouteClearance, Stop, Sweep, Waypoint,
 };
 
 const SQUARE: [f32; 8] = [-1.0, -1.0, 1.0, -1.0, 1.0, 1.0, -1.0, 1.0];
@@ -388,6 +388,36 @@ fn every_answer_of_a_route() {
     assert!(matches!(route(&POINT, &[at(0.0, 0.0); 33], &[far; 32], 0.01), Ok(Route::Clear(_))));
     assert_eq!(route(&[], &there, &[], 0.01), Err((Refusal(17), None)));
     assert_eq!(route(&[], &there, &[far; 33], 0.01), Err((Refusal(17), None)));
+}
+
+#[test]
+fn every_answer_of_a_whole_route() {
+    let there = [at(0.0, 0.0), at(9.0, 0.0), at(9.0, 9.0)];
+    let far: &[f32] = &[50.0, 50.0];
+    assert!(matches!(route_clearance(&POINT, &there, &[far], 0.01), Ok(RouteClearance::Clear { pieces: 2.. })));
+    let (pair, clear_up_to, within_by) = match route_clearance(&POINT, &there, &[far, &[9.0, 5.0]], 0.01) {
+        Ok(RouteClearance::Touch { pair, clear_up_to, within_by }) => (pair, clear_up_to, within_by),
+        other => panic!("{other:?}"),
+    };
+    assert_eq!((pair.leg, pair.outline), (2, 2));
+    // the pair named, asked by itself
+    let alone = clearance(&POINT, 0.0, &goes([9.0, 0.0], [9.0, 9.0]), &[9.0, 5.0], 0.0, &still(0.0, 0.0), 0.0, 1.0, 0.01);
+    assert!(matches!(alone, Ok(Clearance::Touch { clear_up_to: u, within_by: t, .. }) if (u, t) == (clear_up_to, within_by)), "{alone:?}");
+    let touching = route_clearance(&SQUARE, &there, &[&SQUARE, far], 0.01);
+    assert_eq!(touching, Ok(RouteClearance::Touch { pair: Pair { leg: 1, outline: 1, pieces: 0 }, clear_up_to: 0.0, within_by: 0.0 }));
+    // an exact half turn has no rotation half way
+    let half = [at(0.0, 0.0), Waypoint { center: [0.0; 2], rotation: [-1.0, 0.0] }];
+    let beside: &[f32] = &[1.41, -4.0, 1.41, 4.0];
+    let open = route_clearance(&SQUARE, &half, &[far, beside], 0.001);
+    assert!(matches!(open, Ok(RouteClearance::Open { pair: Pair { leg: 1, outline: 2, .. }, clear_up_to }) if clear_up_to < 0.5), "{open:?}");
+    let refused = |told: Result<RouteClearance, (Refusal, Option<Pair>)>| told.map_err(|(number, pair)| (number.0, pair.map(|p| (p.leg, p.outline))));
+    assert_eq!(refused(route_clearance(&[], &there, &[far], 0.01)), Err((1, Some((1, 1)))));
+    assert_eq!(refused(route_clearance(&POINT, &there, &[far, &[]], 0.01)), Err((2, Some((1, 2)))));
+    assert_eq!(refused(route_clearance(&POINT, &there, &[far, &[f32::NAN, 0.0]], 0.01)), Err((3, Some((1, 2)))));
+    assert_eq!(refused(route_clearance(&POINT, &[there[0], there[1], at(f32::INFINITY, 0.0)], &[far], 0.01)), Err((6, Some((2, 1)))));
+    assert_eq!(refused(route_clearance(&POINT, &there, &[far], 0.0)), Err((8, Some((1, 1)))));
+    assert_eq!(refused(route_clearance(&POINT, &there[..1], &[], 0.01)), Err((16, None)));
+    assert_eq!(refused(route_clearance(&[], &there, &[far; 33], 0.01)), Err((17, None)));
 }
 
 /// A square of half size 5 turns a quarter about its middle, beside a wall whose side stands at x.

@@ -1,10 +1,13 @@
 #!/usr/bin/env python3
 """Cases of `route`: texts of routes with the line that each comes to. The rules of texts and of the order of sweeps stand here a second time, in Python;
-a sweep's own answer is the oracle's, asked through `oracle sheet` for one block a sweep. What they come to is stored in tests/cases/route_answers.txt.
-  route_cases.py answers ORACLE     works all answers out and prints that file
-  route_cases.py rows               the parts of table 12 for `replay_batches`, of all cases that fit in a row
-  route_cases.py example ORACLE     the line of examples/hall.route, and figures for each leg
-  route_cases.py FOLDER             NAME.in and NAME.out of every case, larger ones too, for tests/programs/programs.sh
+a sweep's own answer is the oracle's, asked through `oracle sheet` for one block a sweep. What they come to is stored in tests/cases/route_answers.txt. Of the
+same routes looked at as a whole, for `route_clearance`, a pair's own answer is that of the program `clearance` on one block a pair; stored in
+tests/cases/route_clearance_answers.txt.
+  route_cases.py answers ORACLE         works all answers out and prints that file
+  route_cases.py clearances COMMAND..   the same of whole legs, with the command that runs `clearance`
+  route_cases.py rows                   the parts of table 12 for `replay_batches`, of all cases that fit in a row
+  route_cases.py example ORACLE         the line of examples/hall.route, and figures for each leg
+  route_cases.py FOLDER                 NAME.in, NAME.out and NAME.whole of every case, larger ones too, for tests/programs/programs.sh
 """
 import math
 import os
@@ -18,6 +21,7 @@ import case_rows
 TABLE = 12
 HERE = os.path.dirname(os.path.abspath(__file__))
 STORED = os.path.join(HERE, "route_answers.txt")
+STORED_WHOLE = os.path.join(HERE, "route_clearance_answers.txt")
 KINDS = {"clear": 1, "hit": 2, "overlapped": 3, "failed": 4, "refused": 5, "waypoints": 6, "outlines": 7, "text": 8, "order": 9}
 
 
@@ -88,12 +92,14 @@ def block(cart, start, end, still, slop):
     return struct.pack("<128I", *words)
 
 
-def sweeps(oracle, blocks):
-    told = subprocess.run([oracle, "sheet"], input=b"".join(blocks), stdout=subprocess.PIPE, check=True).stdout.decode().splitlines()
+def asked(command, blocks):
+    """The fields of a block's line each."""
+    told = subprocess.run(command, input=b"".join(blocks), stdout=subprocess.PIPE, check=True).stdout.decode().splitlines()
     return [t.split() for t in told[:-1]]
 
 
-def answer(oracle, given, figures=None):
+def answer(command, given, passes="S", calls_at=9, figures=None):
+    """The first pair that does not pass, by what the command prints of its block, and the calls or pieces of all up to it: the field at that place."""
     found = parse(given)
     if isinstance(found, int):
         return "14 %d" % found
@@ -104,7 +110,7 @@ def answer(oracle, given, figures=None):
         return "17"
     pairs = [(i, j) for i in range(len(ways) - 1) for j in range(len(stills))]
     good = [p for p in pairs if not bad_outline(cart) and not bad_outline(stills[p[1]])]
-    told = dict(zip(good, sweeps(oracle, [block(cart, ways[i], ways[i + 1], stills[j], slop) for i, j in good]))) if good else {}
+    told = dict(zip(good, asked(command, [block(cart, ways[i], ways[i + 1], stills[j], slop) for i, j in good]))) if good else {}
     calls = 0
     for i, j in pairs:
         if bad_outline(cart) or bad_outline(stills[j]):
@@ -112,12 +118,16 @@ def answer(oracle, given, figures=None):
         fields = told[i, j]
         if fields[2] != "0":
             return "%s %d %d %d" % (fields[2], i + 1, j + 1, calls)
-        calls += int(fields[9])
+        calls += int(fields[calls_at])
         if figures is not None:
-            figures.append((i + 1, j + 1, fields[3], int(fields[9])))
-        if fields[3] != "S":
-            return "0 %d %d %s %d" % (i + 1, j + 1, " ".join(fields[3:9]), calls)
+            figures.append((i + 1, j + 1, fields[3], int(fields[calls_at])))
+        if fields[3] != passes:
+            return "0 %d %d %s %d" % (i + 1, j + 1, " ".join(fields[3:calls_at]), calls)
     return "0 CLEAR %d" % calls
+
+
+def whole_answer(command, given):
+    return answer(command, given, "CLEAR", -1)
 
 
 # ---- the cases
@@ -252,28 +262,32 @@ def all_cases():
         yield name, "", given
 
 
-def stored():
-    return dict(s.rstrip("\n").split(": ", 1) for s in open(STORED))
+def stored(file=STORED):
+    return dict(s.rstrip("\n").split(": ", 1) for s in open(file))
 
 
 def main(words):
     if words[:1] == ["answers"]:
         for name, kind, given in all_cases():
-            print("%s: %s" % (name, answer(words[1], given)))
+            print("%s: %s" % (name, answer([words[1], "sheet"], given)))
+    elif words[:1] == ["clearances"]:
+        for name, kind, given in all_cases():
+            print("%s: %s" % (name, whole_answer(words[1:], given)))
     elif words[:1] == ["example"]:
         figures = []
         given = open(os.path.join(HERE, "../../examples/hall.route"), "rb").read()
-        print(answer(words[1], given, figures))
+        print(answer([words[1], "sheet"], given, figures=figures))
         for n in sorted({f[0] for f in figures}):
             print("leg %d: %s" % (n, ", ".join("%d %s" % (f[3], f[2]) for f in figures if f[0] == n)))
     elif words[:1] == ["rows"]:
         told = stored()
         case_rows.write(TABLE, [case_rows.row(KINDS[kind], given, (told[name] + "\n").encode()) for name, kind, given in cases()])
     else:
-        told = stored()
+        told, whole = stored(), stored(STORED_WHOLE)
         for name, kind, given in all_cases():
             open(os.path.join(words[0], name + ".in"), "wb").write(given)
             open(os.path.join(words[0], name + ".out"), "w").write(told[name] + "\n")
+            open(os.path.join(words[0], name + ".whole"), "w").write(whole[name] + "\n")
 
 
 if __name__ == "__main__":

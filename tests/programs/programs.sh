@@ -1,12 +1,13 @@
 #!/usr/bin/env bash
-# programs.sh: runs `any_contact` and `clearance`, and `sheet` beside them, `convert` and `salvage` on the cases below, `pack` and `unpack` on those of job_lines.py in
-# tests/cases, `report` on those of report_cases.py, `route` on those of route_cases.py, and compares all that they write, standard error and files included.
+# programs.sh: runs `any_contact`, `clearance` and `gaps`, and `sheet` beside them, `convert` and `salvage` on the cases below, `pack` and `unpack` on those of job_lines.py in
+# tests/cases, `report` on those of report_cases.py, `route` and `route_clearance` on those of route_cases.py, and compares all that they
+# write, standard error and files included.
 # Exit status 1 where one differs. tests/programs/with.sh says which programs are run, and how.
 set -u
 cd "$(dirname "$0")/../.."
 . tests/programs/with.sh
 command -v python3 > /dev/null || { echo "skipped: cases of the programs: no python3 here"; exit 0; }
-proved any_contact clearance sheet convert salvage pack unpack report route
+proved any_contact clearance gaps sheet convert salvage pack unpack report route route_clearance
 work="$(mktemp -d)"; trap 'rm -r "$work"' EXIT
 bad=0
 
@@ -127,6 +128,41 @@ wrote "clearance, closed input" 0 "" $'standard input: Bad file descriptor\n'
 { timeout 60 $run "$bin/clearance" word > "$work/out" 2> "$work/err"; ended=$?; cat > "$work/left"; } < "$work/batch"
 wrote "clearance, an argument" 0 "" $'clearance: no argument is taken\n'
 left "clearance, an argument" "$(wc -c < "$work/batch")"
+# ---- gaps
+# spaced CASE BLOCKS REFUSED: of the file `batch` each line starts as the sheet's does, a worked one has 257 gaps behind its 0 and a refused one nothing more,
+# and TOTAL has those two numbers
+spaced() {
+  timeout 60 $run "$bin/gaps" < "$work/batch" > "$work/out" 2> "$work/err"; ended=$?
+  timeout 60 $run "$bin/sheet" < "$work/batch" | grep -v TOTAL | cut -d' ' -f1-3 > "$work/sheet"; echo "TOTAL $2 $3" >> "$work/sheet"
+  odd="$(grep -v TOTAL "$work/out" | grep -cvE '^[0-9]+ [0-9]+ (0( [0-9A-F]{8}){257}|[1-9][0-9]?)$')"
+  if [ "$ended" = 0 ] && [ "$odd" = 0 ] && [ ! -s "$work/err" ] && cut -d' ' -f1-3 "$work/out" | cmp -s - "$work/sheet"; then
+    echo "gaps, $1: $2 lines, $3 refused"
+  else
+    echo "gaps, $1: WRONG: status $ended, $odd odd lines, told '$(cat "$work/err")', TOTAL '$(grep TOTAL "$work/out")', expected $2 $3"; bad=1
+  fi
+}
+block S > "$work/batch";                                    spaced "one block" 1 0
+block S 100 > "$work/batch";                                spaced "a short block alone" 1 1
+for s in S F 8 10 11 O H; do block $s; done > "$work/batch"; spaced "every kind" 7 3
+many 23 S > "$work/batch";                                  spaced "a part but one block" 23 0
+many 24 H > "$work/batch";                                  spaced "a whole part" 24 0
+{ many 24 S; block O 511; } > "$work/batch";                spaced "a whole part and a short block" 25 1
+{ many 23 S; block 8; block H; } > "$work/batch";           spaced "one block in the second part" 25 1
+{ many 48 F; block S 1; } > "$work/batch";                  spaced "two whole parts and a byte" 49 1
+timeout 60 $run "$bin/gaps" < examples/shift-form-2.batch > "$work/out" 2> "$work/err"; ended=$?
+if [ "$ended" = 0 ] && cmp -s "$work/out" crates/gaps/stdout; then echo "gaps, form 2: as form 1"; else echo "gaps, form 2: WRONG: not as form 1"; bad=1; fi
+timeout 60 $run "$bin/gaps" < /dev/null > "$work/out" 2> "$work/err"; ended=$?
+wrote "gaps, no input" 0 $'TOTAL 0 0\n' "$nothing"
+: > "$work/out"
+timeout 60 $run "$bin/gaps" < examples/shift.batch > /dev/full 2> "$work/err"; ended=$?
+wrote "gaps, full output" 0 "" $'standard output: No space left on device\n'
+timeout 60 $run "$bin/gaps" < "$work" > "$work/out" 2> "$work/err"; ended=$?
+wrote "gaps, a directory as input" 0 "" $'standard input: Is a directory\n'
+timeout 60 $run "$bin/gaps" <&- > "$work/out" 2> "$work/err"; ended=$?
+wrote "gaps, closed input" 0 "" $'standard input: Bad file descriptor\n'
+{ timeout 60 $run "$bin/gaps" word > "$work/out" 2> "$work/err"; ended=$?; cat > "$work/left"; } < examples/shift.batch
+wrote "gaps, an argument" 0 "" $'gaps: no argument is taken\n'
+left "gaps, an argument" "$(wc -c < examples/shift.batch)"
 
 # ---- convert and salvage, in a folder of their own, so that what is left beside the file shows
 folder="$work/folder"; mkdir "$folder"
@@ -273,14 +309,18 @@ for program in pack unpack; do
   faults $program "$work/$program/$([ $program = pack ] && echo a_good_line || echo a_good_block).in"
 done
 
-# routes: one line each; the example's is that of the gate
+# routes, by the sweep and looked at as a whole: one line each; the example's is that of the gate
 mkdir "$work/route"; python3 tests/cases/route_cases.py "$work/route"
 cp examples/hall.route "$work/route/the_hall.in"; cp crates/route/stdout "$work/route/the_hall.out"
+cp crates/route_clearance/stdout "$work/route/the_hall.whole"
 for input in "$work/route"/*.in; do
   timeout 60 $run "$bin/route" < "$input" > "$work/out" 2> "$work/err"; ended=$?
   wrote "route, $(basename "${input%.in}" | tr _ ' ')" 0 "$(cat "${input%.in}.out")"$'\n' ""
+  timeout 60 $run "$bin/route_clearance" < "$input" > "$work/out" 2> "$work/err"; ended=$?
+  wrote "the whole route, $(basename "${input%.in}" | tr _ ' ')" 0 "$(cat "${input%.in}.whole")"$'\n' ""
 done
 faults route examples/hall.route
+faults route_clearance examples/hall.route
 
 # there and back: the blocks that are not refused come back in all their bytes; 10, 11, 14, 21, those with a form in byte 6 (25 to 30), and
 # the short 31 are refused

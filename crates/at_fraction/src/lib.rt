@@ -40,7 +40,7 @@ pub fn pose_at(planned: Sweep, t: f32) -> CheckedPose
 }
 
 // The distance at time t as a sweep works it: seen from the first centre of A, poses not checked again, no radii, and no corners known.
-fn gap(points_a: &[f32], sweep_a: Sweep, points_b: &[f32], sweep_b: Sweep, t: f32) -> f32
+pub fn gap(points_a: &[f32], sweep_a: Sweep, points_b: &[f32], sweep_b: Sweep, t: f32) -> f32
     ensures { λ r. ⌜ r ≡ Moment.gap binary32 (now («points_a» .entry)) «sweep_a» (now («points_b» .entry)) «sweep_b» t ⌝ }
 {
     let origin = sweep_a.c1;

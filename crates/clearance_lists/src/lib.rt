@@ -11,7 +11,7 @@ ghost use lib.Ieee.{binary32};
 ghost use Rattle.clearance_lists.specs.Entry.{clearedNumber, fractionAt, fractionsAfter, piecesAfter, Few, ClearanceTold};
 
 // The place k of 2^24 as a fraction of the way.
-fn fraction_at(k: u64) -> f32
+pub fn fraction_at(k: u64) -> f32
     ensures { λ r. ⌜ r ≡ fractionAt k ⌝ }
 {
     ground::from_bits(place_bits(k))

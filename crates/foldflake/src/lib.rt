@@ -20,6 +20,7 @@ ghost use Rattle.foldflake.specs.Entry.{LineTold, builtNumber, PlacedTol
 ghost use Rattle.foldflake.specs.Moment.{PoseTold, GapTold};
 ghost use Rattle.foldflake.specs.Route.{RouteTold};
 ghost use Rattle.clearance_lists.specs.Entry.{ClearanceTold};
+ghost use Rattle.route_clearance_lists.specs.Entry.{RouteClearanceTold};
 
 // The square root of every f32.
 #[no_mangle]
@@ -267,4 +268,25 @@ pub extern "C" fn foldflake_clearance(
         (now (out .exit)) (now (pieces .exit)) r ⌝ }
 {
     clearance_lists::clearance_told(points_a, points_b, numbers, from, out, pieces)
+}
+
+// The same route looked at as a whole: each leg past each still outline, in that order, up to the first pair that is not clear at every moment of the leg. The
+// distance to keep is the slop. The answer: 32 clear, 33 touch, 34 open; refusals as of the route; 255 where a list has the wrong length. From 32 to 34 two
+// fractions stand in out: 1 twice of clear; of touch up to where the leg is clear, and where they are no farther apart; of open up to where the leg is clear,
+// and 1. In place the leg and the outline, both from 1, and the pieces of all pairs looked at; for 32 two zeros and the pieces; for 16, 17 and 255 nothing is
+// written.
+#[no_mangle]
+pub extern "C" fn foldflake_route_clearance(
+    cart: &[f32],
+    waypoints: &[f32],
+    stills: &[f32],
+    lengths: &[u32],
+    slop: f32,
+    out: &mut [f32],
+    place: &mut [u32],
+) -> u32
+    ensures { λ r. ⌜ RouteClearanceTold (now (cart .entry)) (now (waypoints .entry)) (now (stills .entry)) (now (lengths .entry)) slop (now (out .entry))
+        (now (place .entry)) (now (out .exit)) (now (place .exit)) r ⌝ }
+{
+    route_clearance_lists::route_clearance_told(cart, waypoints, stills, lengths, slop, out, place)
 }

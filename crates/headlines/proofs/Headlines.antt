@@ -204,6 +204,14 @@ use Rattle.shapes.proofs.Corners.{minus-zero-turns}
 -- ---- One moment of a move
 -- the gap at a fraction is the distance that a sweep of these moves works there from no corners, whatever its radii, its last time and its slop
 use Rattle.at_fraction.proofs.Sweeps.{gap-is-the-sweeps}
+-- a run of gaps' own function over parts of 24 blocks, the last one shorter, gives the gaps of the file, for every file below 2^63 bytes: of each ..
+use Rattle.gaps_lines.proofs.Run.{run-gives-gaps}
+use Rattle.gaps_lines.specs.Gaps.{gapsOf}
+use Rattle.gaps_lines.specs.Gaps.{gapAt}
+use Rattle.gaps_lines.specs.Gaps.{fractionAt}
+-- what gaps refuses is what the sheet refuses, by the same line
+use Rattle.gaps_lines.proofs.OnTheSheet.{refused-as-on-the-sheet}
+use Rattle.gaps_lines.proofs.OnTheSheet.{counts-as-on-the-sheet}
 -- ---- Ask 1: a writer for job blocks, and a reader
 -- digits that were written are read back as the number that they were written for, decimal and hexadecimal
 use Rattle.text.proofs.ReadBack.{decimal-value}
@@ -402,3 +410,27 @@ use Rattle.clearance_sheet.proofs.Alike.{same-line as same-line-clearance-sheet
 use Rattle.clearance_sheet.proofs.Alike.{same-totals}
 -- a place of k 2^24-ths is printed as the f32 that is exactly k / 2^24
 use Rattle.places.proofs.Exact.{place-exact}
+-- a route looked at as a whole, for any lists: what is wrong with them is told exactly as route tells it
+use Rattle.route_clearance_legs.specs.Looks.{Told as Told-route-clearance-legs}
+use Rattle.route_clearance_legs.specs.Looks.{Walked}
+use Rattle.route_clearance_legs.specs.Looks.{Passed}
+-- so after CLEAR the cart is farther than the slop from every outline at every moment of every leg (AllClear)
+use Rattle.route_clearance_legs.proofs.First.{route-says}
+use Rattle.route_clearance_legs.specs.Promise.{Says}
+-- a pair has the moves of route's sweep, the slop as its distance to keep and the whole leg, and is refused as that sweep is, by the same number
+use Rattle.route_clearance_legs.proofs.Swept.{cart-moves}
+use Rattle.route_clearance_legs.proofs.Swept.{outline-stands}
+use Rattle.route_clearance_legs.proofs.Swept.{keeps-slop}
+use Rattle.route_clearance_legs.proofs.Swept.{whole-leg}
+use Rattle.route_clearance_legs.proofs.Swept.{as-swept}
+-- at most 4,194,304 pieces are told, 4,096 a pair
+use Rattle.route_clearance_legs.proofs.First.{pieces-few}
+-- the line written is that of an answer that holds of what was read, or 14 and the line (Written, AnswerOf)
+use Rattle.route_clearance_text.proofs.Run.{run-answers-whole as run-answers-whole-route-clearance-text}
+-- of a file below 2^63 bytes read in parts of 64 KiB, the last one shorter: after none at least one block came and all are clear
+use Rattle.all_clear_search.proofs.Run.{run-answers}
+use Rattle.all_clear_search.proofs.Run.{run-tells-first}
+-- of a file below 2^63 bytes read in parts of 64 KiB, the last one shorter: its text is the lines and TOTAL of answers, one for each of its blocks ..
+use Rattle.rooms_lines.proofs.Run.{run-prints}
+use Rattle.rooms_lines.specs.Part.{Printed as Printed-rooms-lines}
+use Rattle.rooms_lines.proofs.Run.{run-gives-lines as run-gives-lines-rooms-lines}

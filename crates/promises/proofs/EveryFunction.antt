@@ -29,6 +29,7 @@ use Rattle.sweep_numbers.proofs as sweep_numbers
 use Rattle.work.proofs as work
 use Rattle.fields.proofs as fields
 use Rattle.sheet_lines.proofs as sheet_lines
+use Rattle.gaps_lines.proofs as gaps_lines
 use Rattle.any_contact_search.proofs as any_contact_search
 use Rattle.convert_forms.proofs as convert_forms
 use Rattle.salvage_walk.proofs as salvage_walk
@@ -46,6 +47,8 @@ use Rattle.list_calls.proofs as list_calls
 use Rattle.foldflake.proofs as foldflake
 use Rattle.clearance_call.proofs as clearance_call
 use Rattle.places.proofs as places
+use Rattle.clearance_lists.proofs as clearance_lists
+use Rattle.all_clear_search.proofs as all_clear_search
 use Rattle.root64.proofs as root64
 use Rattle.ground64.proofs as ground64
 use Rattle.domain64.proofs as domain64
@@ -62,6 +65,7 @@ use Rattle.sheet_lines64.proofs as sheet_lines64
 use Rattle.list_calls64.proofs as list_calls64
 use Rattle.toi_proxy.specs.declared.ToiProxy.{ToiProxy}
 use Rattle.sheet_lines.specs.declared.part.Written.{Written}
+use Rattle.gaps_lines.specs.declared.part.Printed.{Printed}
 use Rattle.convert_forms.specs.declared.Converted.{Converted}
 use Rattle.salvage_walk.specs.declared.Salvaged.{Salvaged}
 use Rattle.job_text.specs.declared.job.Built.{Built}
@@ -77,6 +81,10 @@ toi-proxy-by-parts p0 p1 = λ i. record { points = p0 i; radius = p1 i }
 -- `Written`, where a contract tells its parts
 written-by-parts : {x y : Written} → x .at ≡ y .at → x .totals ≡ y .totals → x .last ≡ y .last → x ≡ y
 written-by-parts p0 p1 p2 = λ i. record { at = p0 i; totals = p1 i; last = p2 i }
+
+-- `Printed`, where a contract tells its parts
+printed-by-parts : {x y : Printed} → x .at ≡ y .at → x .tally ≡ y .tally → x .last ≡ y .last → x ≡ y
+printed-by-parts p0 p1 p2 = λ i. record { at = p0 i; tally = p1 i; last = p2 i }
 
 -- `Converted`, where a contract tells its parts
 converted-by-parts : {x y : Converted} → x .file ≡ y .file → x .text ≡ y .text → x .blocks ≡ y .blocks → x .last ≡ y .last → x ≡ y
@@ -475,6 +483,13 @@ module _ {M : Type 1} (𝓤 : URA M) (H : Heap 𝓤) (A : Atoms 𝓤) (mem : Mem
   }
 
   -- ---- at_fraction
+  pub at-fraction-gap : OneResult 𝓤 H A at_fraction.gap.ended (at_fraction.gap.spec 𝓤 H A mem run)
+  at-fraction-gap = record {
+    clauses = at_fraction.gap.clauses 𝓤 H A mem run;
+    of-contract = refl;
+    once = λ κs a g r r' v v'. told 𝓤 (λ p q. (search same-value, refl));
+  }
+
   pub at-fraction-gap-at : OneResult 𝓤 H A at_fraction.gap_at.ended (at_fraction.gap_at.spec 𝓤 H A mem run)
   at-fraction-gap-at = record {
     clauses = at_fraction.gap_at.clauses 𝓤 H A mem run;
@@ -741,6 +756,14 @@ module _ {M : Type 1} (𝓤 : URA M) (H : Heap 𝓤) (A : Atoms 𝓤) (mem : Mem
     clauses = sheet_lines.write_part.clauses 𝓤 H A mem run;
     of-contract = refl;
     once = λ κs a g r r' v v'. told-in-two 𝓤 (λ p q. (search (same-value, written-by-parts), each-list sheet_lines.write_part.ended κs a v v' (search same-value depth 12)));
+  }
+
+  -- ---- gaps_lines
+  pub gaps-lines-write-part : OneResult 𝓤 H A gaps_lines.write_part.ended (gaps_lines.write_part.spec 𝓤 H A mem run)
+  gaps-lines-write-part = record {
+    clauses = gaps_lines.write_part.clauses 𝓤 H A mem run;
+    of-contract = refl;
+    once = λ κs a g r r' v v'. told-in-two 𝓤 (λ p q. (search (same-value, printed-by-parts), each-list gaps_lines.write_part.ended κs a v v' (search same-value depth 12)));
   }
 
   -- ---- any_contact_search
@@ -1122,6 +1145,22 @@ module _ {M : Type 1} (𝓤 : URA M) (H : Heap 𝓤) (A : Atoms 𝓤) (mem : Mem
     clauses = places.place_bits.clauses 𝓤 H A mem run;
     of-contract = refl;
     once = λ κs a g r r' v v'. told 𝓤 (λ p q. (search same-value, refl));
+  }
+
+  -- ---- clearance_lists
+  pub clearance-lists-fraction-at : OneResult 𝓤 H A clearance_lists.fraction_at.ended (clearance_lists.fraction_at.spec 𝓤 H A mem run)
+  clearance-lists-fraction-at = record {
+    clauses = clearance_lists.fraction_at.clauses 𝓤 H A mem run;
+    of-contract = refl;
+    once = λ κs a g r r' v v'. told 𝓤 (λ p q. (search same-value, refl));
+  }
+
+  -- ---- all_clear_search
+  pub all-clear-search-write-found : OneResult 𝓤 H A all_clear_search.write_found.ended (all_clear_search.write_found.spec 𝓤 H A mem run)
+  all-clear-search-write-found = record {
+    clauses = all_clear_search.write_found.clauses 𝓤 H A mem run;
+    of-contract = refl;
+    once = λ κs a g r r' v v'. told 𝓤 (λ p q. (search same-value, each-list all_clear_search.write_found.ended κs a v v' (search same-value depth 12)));
   }
 
   -- ---- root64

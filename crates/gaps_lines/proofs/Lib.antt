@@ -1,0 +1,6 @@
+mod Floats
+pub mod Pieces
+mod Parts
+pub mod Run
+pub mod OnTheSheet
+mod Slips

@@ -1,0 +1,27 @@
+-- `gaps_lines::part::put_total` meets its contract: its two pieces, one after the other. Assumes nothing.
+use Rattle.text.proofs.Pasted.{put-then}
+use Rattle.gaps_lines.proofs.Pieces.{total-is}
+use borrow.Author.Needs.{needs}
+use Rattle.gaps_lines.proofs.part.put_total.Statement.{statement}
+use Rattle.gaps_lines.proofs.part.put_total.Tie as tie
+
+slice-aggregate-put : tie.Need-slice-aggregate-put
+slice-aggregate-put c = search needs
+
+put-requires : tie.Need-put-requires
+put-requires c κs = search needs
+
+put-two-requires : tie.Need-put-two-requires
+put-two-requires c κs = search needs
+
+same-length : tie.Need-same-length
+same-length c = search needs
+
+returns : tie.Need-returns
+returns c =
+    let s = c .before .before in
+    rw total-is (put-then (search needs) (s .before .before .before .before .put .ensures) (s .put-two .ensures))
+
+pub put-total-spec : {M : Type 1} → statement M
+put-total-spec =
+    tie.close (tie.spec slice-aggregate-put put-requires put-two-requires same-length returns)

@@ -1,0 +1,4 @@
+pub mod Checks
+pub mod Walks
+pub mod First
+pub mod Swept
