@@ -1,0 +1,5 @@
+mod Pieces
+pub mod Folds
+mod Parts
+pub mod Run
+pub mod Counted

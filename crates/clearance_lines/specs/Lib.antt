@@ -1,0 +1,4 @@
+pub mod Lines
+pub mod Pieces
+pub mod Part
+pub mod Counted
