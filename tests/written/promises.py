@@ -20,7 +20,10 @@ OWN = "promises"
 SYSTEM = "what it answers is the system's, and no contract can fix it"
 ONE_WAY = "it says yes only where something holds, and which of two sound answers comes is the search's"
 WHOLE_MOVE = "grid pairs corners board apart turns arcs pieces rides touches clear_search clearance_verdict grid_job clearance_job"
-PROMISES = "clearance_call::clearance clearance_lists::clearance_told foldflake::foldflake_clearance"
+PROMISES = (
+    "clearance_call::clearance clearance_lists::clearance_told foldflake::foldflake_clearance"
+    " clearance_block::clear_block clearance_lines::write_part"
+)
 LEFT_OUT = {"streams": SYSTEM, "outfile": SYSTEM, **{name: ONE_WAY for name in (WHOLE_MOVE + " " + PROMISES).split()}}  # crates and functions
 TOLD = {1: "told", 2: "told-in-two"}  # by the number of clauses
 
