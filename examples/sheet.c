@@ -1,5 +1,6 @@
 /* The sheet of a batch by the C entry points: a line for each block of standard input, then TOTAL. What fails is told on standard error, with exit
-   status 1 and no TOTAL; an argument with exit status 2. On standard error too, one distance and one sweep. */
+   status 1 and no TOTAL; an argument with exit status 2. On standard error too, one distance, one sweep and one look at a
+   whole move. */
 #include <stdio.h>
 
 #include "foldflake.h"
@@ -29,6 +30,14 @@ static int small_calls(void) {
   if (answer != FOLDFLAKE_SWEEP_HIT) return 0;
   fprintf(stderr, "sweep: fraction %g, calls %u, corners of A %d %d, of B %d %d\n", contact[0], counts[0], (int)counts[3], (int)counts[4], (int)counts[5],
           (int)counts[6]);
+
+  /* the same move turned by a quarter on the way, at every fraction of it */
+  const float turns[24] = {0, 0, 1, 0.01f, 0, 0, 0, 0, 4, 0, 1, 0, 0, 1, 0, 0, 4, 0, 4, 0, 1, 0, 1, 0};
+  float fractions[2];
+  uint32_t pieces[1];
+  answer = foldflake_clearance(square, 8, square, 8, turns, 24, 0, fractions, 2, pieces, 1);
+  if (answer != FOLDFLAKE_CLEARANCE_TOUCH) return 0;
+  fprintf(stderr, "clearance: clear up to %.8g, within by %.8g, pieces %u\n", fractions[0], fractions[1], pieces[0]);
   return 1;
 }
 

@@ -50,6 +50,9 @@ enum { FOLDFLAKE_TOLD = 32 };
 /* What foldflake_route answers besides refusals. CLEAR is as much as SEPARATED of each sweep, and FAILED is no verdict. */
 enum { FOLDFLAKE_ROUTE_CLEAR = 32, FOLDFLAKE_ROUTE_OVERLAPPED = 33, FOLDFLAKE_ROUTE_HIT = 34, FOLDFLAKE_ROUTE_FAILED = 35 };
 
+/* What foldflake_clearance answers besides refusals. Each says something of every fraction, and OPEN nothing of those after the first of its two. */
+enum { FOLDFLAKE_CLEARANCE_CLEAR = 32, FOLDFLAKE_CLEARANCE_TOUCH = 33, FOLDFLAKE_CLEARANCE_OPEN = 34 };
+
 /* The square root, rounded to nearest. */
 float foldflake_root(float x);
 
@@ -145,6 +148,26 @@ uint32_t foldflake_gap(const float *points_a, size_t numbers_in_a, const float *
    refusal of a sweep, 1 to 3, 5, 6 or 8. out is written for OVERLAPPED, HIT and FAILED alone, where for these, for CLEAR and for a sweep's refusal. */
 uint32_t foldflake_route(const float *cart, size_t cart_len, const float *waypoints, size_t waypoints_len, const float *stills, size_t stills_len,
                          const uint32_t *lengths, size_t lengths_len, float slop, float *out, size_t out_len, uint32_t *where, size_t where_len);
+
+/* What holds at every fraction of two planned moves, from `from` to the max fraction: proved, in exact arithmetic and not in floats. The distance to keep
+   is the larger of the slop and the sum of the radii; a larger slop asks for more room. numbers, 24, as foldflake_sweep takes them.
+   CLEAR: at every fraction from `from` to the max fraction the outlines are further apart than the distance to keep.
+   TOUCH: so up to the fraction u, where u is after `from`; and at the fraction t they are not further apart: the first contact comes not before u, and
+   certainly by t.
+   OPEN: so up to the fraction u, where u is after `from`; what comes later was not settled.
+   out, 2: u and t of TOUCH, u and the max fraction of OPEN, the max fraction twice of CLEAR. u and t are multiples of 2^-24; a `from` that is none counts
+   as the multiple below it, and a look at fraction 1 alone starts at the one before it. pieces, 1: how many pieces of the way were tried, at most 4096.
+
+     const float square[8] = {-5, -5, 5, -5, 5, 5, -5, 5}, wall[8] = {0, -20, 4, -20, 4, 20, 0, 20};
+     const float numbers[24] = {0, 0, 1, 0.005f, 0, 0, 0, 0, 0, 0, 1, 0, 0, 1, 0, 0, 6, 0, 6, 0, 1, 0, 1, 0};    a quarter turn beside a wall at 6
+     float out[2];
+     uint32_t pieces[1];
+     if (foldflake_clearance(square, 8, wall, 8, numbers, 24, 0, out, 2, pieces, 1) == FOLDFLAKE_CLEARANCE_TOUCH) ..     0.1872.. twice
+
+   The answer is a refusal, 1 to 8 as of foldflake_sweep, 7 also for a `from` that is not from 0 to the max fraction; or FOLDFLAKE_CLEARANCE_.., or
+   FOLDFLAKE_WRONG_LENGTH. On a refusal or a wrong length out and pieces are as they were. */
+uint32_t foldflake_clearance(const float *points_a, size_t numbers_in_a, const float *points_b, size_t numbers_in_b, const float *numbers,
+                             size_t numbers_len, float from, float *out, size_t out_len, uint32_t *pieces, size_t pieces_len);
 
 #ifdef __cplusplus
 }

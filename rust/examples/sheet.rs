@@ -1,6 +1,7 @@
 //! The sheet of a batch by the safe Rust face: a line for each block of standard input as it comes, then TOTAL. What fails is told on standard
-//! error, with exit status 1 and no TOTAL; an argument with exit status 2. On standard error too, one distance and one sweep.
-use foldflake::{distance, line, sweep, Cache, Move, Refusal};
+//! error, with exit status 1 and no TOTAL; an argument with exit status 2. On standard error too, one distance, one sweep
+//! and one look at a whole move.
+use foldflake::{clearance, distance, line, sweep, Cache, Move, Refusal};
 use std::io::{self, ErrorKind, Read, Write};
 use std::process::ExitCode;
 
@@ -82,5 +83,9 @@ fn small_calls() -> Result<(), Refusal> {
     let stands = Move { first: [4.0, 0.0], ..goes };
     let swept = sweep(&square, 0.0, &goes, &square, 0.0, &stands, 1.0, 0.01)?;
     eprintln!("sweep: {swept:?}");
+    // the same move turned by a quarter on the way, at every fraction of it
+    let turns = Move { last_rotation: [0.0, 1.0], ..goes };
+    let looked = clearance(&square, 0.0, &turns, &square, 0.0, &stands, 0.0, 1.0, 0.01)?;
+    eprintln!("clearance: {looked:?}");
     Ok(())
 }

@@ -7,7 +7,7 @@
 //!
 //! Numbers are f32; [`wide`] has the root, the sweep and the distance in f64, with the same types at that width, as `Move<f64>`.
 //!
-//! Read [`Sweep::Separated`] before you rely on it: it does not clear a move that turns.
+//! Read [`Sweep::Separated`] before you rely on it: it does not clear a move that turns. [`clearance`] does: what it answers holds at every fraction.
 //!
 //! ```
 //! use foldflake::{sweep, Move, Sweep};
@@ -53,6 +53,19 @@ mod entry {
             out: *mut f32,
             out_len: usize,
         ) -> u32;
+        pub fn foldflake_clearance(
+            points_a: *const f32,
+            numbers_in_a: usize,
+            points_b: *const f32,
+            numbers_in_b: usize,
+            numbers: *const f32,
+            numbers_len: usize,
+            from: f32,
+            out: *mut f32,
+            out_len: usize,
+            pieces: *mut u32,
+            pieces_len: usize,
+        ) -> u32;
         pub fn foldflake_route(
             cart: *const f32,
             cart_len: usize,
@@ -80,7 +93,7 @@ mod entry {
 /// | 4 | a radius is not finite, below 0 or above 1,048,576 |
 /// | 5 | a rotation's part is above 1 in size or NaN, or `c * c + s * s` is below 0.984375 or above 1.015625 |
 /// | 6 | a translation or a centre is as in 3 |
-/// | 7 | the max fraction, or the fraction asked for, is not in 0 to 1 |
+/// | 7 | the max fraction, or the fraction asked for, is not in 0 to 1, or a look starts outside 0 to the max fraction |
 /// | 8 | the slop is not above 0, above 1,048,576, or NaN |
 /// | 9 | fewer than 512 bytes are left of a batch (in a line only, as 10, 11 and 13) |
 /// | 10 | a block's check is wrong |
@@ -346,6 +359,92 @@ pub fn sweep(
     linear_slop: f32,
 ) -> Result<Sweep, Refusal> {
     width::sweep(points_a, radius_a, move_a, points_b, radius_b, move_b, max_fraction, linear_slop)
+}
+
+/// What holds at every fraction of two planned moves: proved, in exact arithmetic. "Clear" is: further apart than the larger of the slop and the sum of the
+/// radii, for every point of either outline. Fractions are multiples of 2^-24.
+#[derive(Clone, Copy, Debug, PartialEq)]
+pub enum Clearance {
+    /// Clear at every fraction from `from` to the max fraction.
+    Clear {
+        /// Pieces of the way that were tried, at most 4,096.
+        pieces: u32,
+    },
+    /// The first contact comes not before `clear_up_to`, and certainly by `within_by`.
+    Touch {
+        /// Clear from `from` up to here, where this is after `from`.
+        clear_up_to: f32,
+        /// Here they are not further apart than that.
+        within_by: f32,
+        /// As above.
+        pieces: u32,
+    },
+    /// What comes after `clear_up_to` was not settled.
+    Open {
+        /// Clear from `from` up to here, where this is after `from`.
+        clear_up_to: f32,
+        /// As above.
+        pieces: u32,
+    },
+}
+
+/// What holds at every fraction from `from` to `max_fraction`, unlike [`Sweep::Separated`] also of a body that turns. Straight outlines, the motion as
+/// planned: what the controller that drives the cart makes of it is its own. Refused as [`sweep`] is, by 7 also for a `from` that is not from 0 to
+/// `max_fraction`.
+///
+/// ```
+/// use foldflake::{clearance, Clearance, Move, Refusal};
+/// // a square of half size 5 turns a quarter beside a wall: its corners reach 7.07
+/// let square = [-5.0, -5.0, 5.0, -5.0, 5.0, 5.0, -5.0, 5.0];
+/// let wall = [0.0, -20.0, 4.0, -20.0, 4.0, 20.0, 0.0, 20.0];
+/// let turns = Move { local_center: [0.0; 2], first: [0.0; 2], last: [0.0; 2], first_rotation: [1.0, 0.0], last_rotation: [0.0, 1.0] };
+/// let beside = |x: f32| Move { first: [x, 0.0], last: [x, 0.0], last_rotation: [1.0, 0.0], ..turns };
+/// let look = |x, from| clearance(&square, 0.0, &turns, &wall, 0.0, &beside(x), from, 1.0, 0.005);
+/// assert!(matches!(look(7.1, 0.0)?, Clearance::Clear { .. }));
+/// match look(6.0, 0.0)? {
+///     Clearance::Touch { clear_up_to, within_by, .. } => assert!(0.18 < clear_up_to && clear_up_to <= within_by && within_by < 0.19),
+///     other => panic!("{other:?}"),
+/// }
+/// assert_eq!(look(6.0, 1.5), Err(Refusal(7)));
+/// # Ok::<(), Refusal>(())
+/// ```
+#[allow(clippy::too_many_arguments)]
+pub fn clearance(
+    points_a: &[f32],
+    radius_a: f32,
+    move_a: &Move,
+    points_b: &[f32],
+    radius_b: f32,
+    move_b: &Move,
+    from: f32,
+    max_fraction: f32,
+    linear_slop: f32,
+) -> Result<Clearance, Refusal> {
+    let numbers = width::numbers(radius_a, move_a, radius_b, move_b, max_fraction, linear_slop);
+    let (mut out, mut pieces) = ([0f32; 2], [0u32; 1]);
+    // Safety: each list has the length handed over, and the two that are written are ours alone.
+    let answer = unsafe {
+        entry::foldflake_clearance(
+            points_a.as_ptr(),
+            points_a.len(),
+            points_b.as_ptr(),
+            points_b.len(),
+            numbers.as_ptr(),
+            numbers.len(),
+            from,
+            out.as_mut_ptr(),
+            out.len(),
+            pieces.as_mut_ptr(),
+            pieces.len(),
+        )
+    };
+    let ([clear_up_to, within_by], [pieces]) = (out, pieces);
+    match answer {
+        32 => Ok(Clearance::Clear { pieces }),
+        33 => Ok(Clearance::Touch { clear_up_to, within_by, pieces }),
+        34 => Ok(Clearance::Open { clear_up_to, pieces }),
+        number => Err(Refusal(number)),
+    }
 }
 
 /// The distance of two outlines, B turned by `rotation` (cosine, sine) and moved by `translation` in the frame of A. The radii count where

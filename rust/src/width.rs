@@ -90,6 +90,15 @@ impl<T: Copy + Default> Move<T> {
     }
 }
 
+/// The 24 numbers that a sweep takes beside its outlines.
+pub fn numbers<T: Copy + Default>(radius_a: T, move_a: &Move<T>, radius_b: T, move_b: &Move<T>, max_fraction: T, linear_slop: T) -> [T; 24] {
+    let mut numbers = [T::default(); 24];
+    numbers[..4].copy_from_slice(&[radius_a, radius_b, max_fraction, linear_slop]);
+    numbers[4..14].copy_from_slice(&move_a.numbers());
+    numbers[14..].copy_from_slice(&move_b.numbers());
+    numbers
+}
+
 #[allow(clippy::too_many_arguments)]
 pub fn sweep<T: Width>(
     points_a: &[T],
@@ -101,10 +110,7 @@ pub fn sweep<T: Width>(
     max_fraction: T,
     linear_slop: T,
 ) -> Result<Sweep<T>, Refusal> {
-    let mut numbers = [T::default(); 24];
-    numbers[..4].copy_from_slice(&[radius_a, radius_b, max_fraction, linear_slop]);
-    numbers[4..14].copy_from_slice(&move_a.numbers());
-    numbers[14..].copy_from_slice(&move_b.numbers());
+    let numbers = numbers(radius_a, move_a, radius_b, move_b, max_fraction, linear_slop);
     let (mut out, mut counts) = ([T::default(); 5], [0u32; 7]);
     let answer = T::sweep(points_a, points_b, &numbers, &mut out, &mut counts);
     let contact = Contact { fraction: out[0], point: [out[1], out[2]], normal: [out[3], out[4]] };

@@ -1,6 +1,7 @@
 //! The safe face against answers worked out by hand or listed in README.md.
 use foldflake::{
-    bar, distance, gap, line, placed_bar, placed_plate, plate, pose, root, route, sweep, Cache, Ending, Move, Pose, Refusal, Route, Stop, Sweep, Waypoint,
+    bar, clearance, distance, gap, line, placed_bar, placed_plate, plate, pose, root, route, sweep, Cache, Clearance, Ending, Move, Pose, Refusal, Route,
+    Stop, Sweep, Waypoint,
 };
 
 const SQUARE: [f32; 8] = [-1.0, -1.0, 1.0, -1.0, 1.0, 1.0, -1.0, 1.0];
@@ -387,4 +388,99 @@ fn every_answer_of_a_route() {
     assert!(matches!(route(&POINT, &[at(0.0, 0.0); 33], &[far; 32], 0.01), Ok(Route::Clear(_))));
     assert_eq!(route(&[], &there, &[], 0.01), Err((Refusal(17), None)));
     assert_eq!(route(&[], &there, &[far; 33], 0.01), Err((Refusal(17), None)));
+}
+
+/// A square of half size 5 turns a quarter about its middle, beside a wall whose side stands at x.
+fn beside(x: f32, from: f32, end: f32, slop: f32) -> Result<Clearance, Refusal> {
+    let square = SQUARE.map(|part| 5.0 * part);
+    let turns = Move { last_rotation: [0.0, 1.0], ..still(0.0, 0.0) };
+    clearance(&square, 0.0, &turns, &WALL, 0.0, &still(x, 0.0), from, end, slop)
+}
+
+#[test]
+fn every_answer_of_a_look_at_the_whole_move() {
+    // its corners reach 7.0711 half way
+    assert!(matches!(beside(7.08, 0.0, 1.0, 0.005), Ok(Clearance::Clear { pieces: 1.. })));
+    let (clear_up_to, within_by, pieces) = match beside(6.0, 0.0, 1.0, 0.005) {
+        Ok(Clearance::Touch { clear_up_to, within_by, pieces }) => (clear_up_to, within_by, pieces),
+        other => panic!("{other:?}"),
+    };
+    assert!(0.187 < clear_up_to && clear_up_to < within_by && within_by < 0.188 && pieces <= 4096, "{clear_up_to} {within_by} {pieces}");
+    // places are multiples of 2^-24
+    for place in [clear_up_to, within_by] {
+        assert_eq!((place * 16_777_216.0).fract(), 0.0);
+    }
+    // a look at a part of the way: up to the touch and after it
+    assert!(matches!(beside(6.0, 0.0, clear_up_to, 0.005), Ok(Clearance::Clear { .. })));
+    assert!(matches!(beside(6.0, 0.9, 1.0, 0.005), Ok(Clearance::Clear { .. })));
+    assert!(matches!(beside(6.0, 0.5, 1.0, 0.005), Ok(Clearance::Touch { clear_up_to: 0.5, within_by: 0.5, pieces: 0 })));
+    // a single moment, the last one too
+    assert!(matches!(beside(6.0, 0.0, 0.0, 0.005), Ok(Clearance::Clear { .. })));
+    assert!(matches!(beside(6.0, 1.0, 1.0, 0.005), Ok(Clearance::Clear { .. })));
+    assert!(matches!(beside(6.0, -0.0, -0.0, 0.005), Ok(Clearance::Clear { .. })));
+    // more room is asked for by a larger slop
+    assert!(matches!(beside(7.08, 0.0, 1.0, 0.02), Ok(Clearance::Touch { .. })));
+    // an exact half turn has no rotation half way: it is clear where the disc about its middle is free, at 7.5 or less of the square
+    let half = Move { last_rotation: [-1.0, 0.0], ..still(0.0, 0.0) };
+    let look = |x| clearance(&SQUARE.map(|part| 5.0 * part), 0.0, &half, &WALL, 0.0, &still(x, 0.0), 0.0, 1.0, 0.005);
+    assert!(matches!(look(7.05), Ok(Clearance::Open { clear_up_to, .. }) if 0.49 < clear_up_to && clear_up_to < 0.5), "{:?}", look(7.05));
+    assert!(matches!(look(7.6), Ok(Clearance::Clear { .. })), "{:?}", look(7.6));
+}
+
+#[test]
+fn every_refusal_of_a_look_at_the_whole_move() {
+    let stands = still(4.0, 0.0);
+    let m = goes([0.0, 0.0], [4.0, 0.0]);
+    let far = [1_048_576.125, 0.0];
+    let bent = Move { last_rotation: [0.0, 0.0], ..m };
+    let away = Move { last: far, ..m };
+    let by = |a: &[f32], b: &[f32], radius, m: &Move, from, end, slop| clearance(a, radius, m, b, 0.0, &stands, from, end, slop);
+    assert_eq!(by(&[], &[], -1.0, &bent, 2.0, 2.0, 0.0), Err(Refusal(1)));
+    assert_eq!(by(&SQUARE, &[0.0; 130], -1.0, &bent, 2.0, 2.0, 0.0), Err(Refusal(2)));
+    assert_eq!(by(&far, &SQUARE, -1.0, &bent, 2.0, 2.0, 0.0), Err(Refusal(3)));
+    assert_eq!(by(&SQUARE, &SQUARE, -1.0, &bent, 2.0, 2.0, 0.0), Err(Refusal(4)));
+    assert_eq!(by(&SQUARE, &SQUARE, 0.0, &bent, 2.0, 2.0, 0.0), Err(Refusal(5)));
+    assert_eq!(by(&SQUARE, &SQUARE, 0.0, &away, 2.0, 2.0, 0.0), Err(Refusal(6)));
+    assert_eq!(by(&SQUARE, &SQUARE, 0.0, &m, 0.0, 2.0, 0.0), Err(Refusal(7)));
+    for from in [-0.25, 0.75, 1.5, f32::NAN] {
+        assert_eq!(by(&SQUARE, &SQUARE, 0.0, &m, from, 0.5, 0.0), Err(Refusal(7)), "{from}");
+    }
+    assert_eq!(by(&SQUARE, &SQUARE, 0.0, &m, 0.5, 0.5, 0.0), Err(Refusal(8)));
+    assert!(by(&[0.0; 128], &SQUARE, 0.0, &m, 0.5, 0.5, 0.01).is_ok());
+}
+
+/// The entry point behind it, which always hands over lists of the right length. A refusal, too, leaves both lists.
+#[test]
+fn a_look_with_a_list_of_another_length_is_told_first_of_all() {
+    extern "C" {
+        #[allow(clippy::too_many_arguments)]
+        fn foldflake_clearance(
+            points_a: *const f32,
+            numbers_in_a: usize,
+            points_b: *const f32,
+            numbers_in_b: usize,
+            numbers: *const f32,
+            numbers_len: usize,
+            from: f32,
+            out: *mut f32,
+            out_len: usize,
+            pieces: *mut u32,
+            pieces_len: usize,
+        ) -> u32;
+    }
+    let mut numbers = [0f32; 25];
+    for (place, x) in [(2, 0.75f32), (3, 0.5), (10, 1.0), (12, 1.0), (16, 4.0), (18, 4.0), (20, 1.0), (22, 1.0)] {
+        numbers[place] = x;
+    }
+    let (p, n) = (POINT.as_ptr(), numbers.as_ptr());
+    let told = [(24, 2, 1, 0.0, 32), (24, 2, 1, 0.8, 7)];
+    let wrong = [(23, 2, 1), (25, 2, 1), (24, 1, 1), (24, 3, 1), (24, 2, 0), (24, 2, 2)].map(|(len, room, words)| (len, room, words, 0.0, 255));
+    for (len, room, words, from, answer) in told.into_iter().chain(wrong) {
+        let (mut out, mut pieces) = ([7.5f32; 3], [7u32; 2]);
+        // Safety: each list is at least as long as the length handed over, and the two that are written are ours alone.
+        let told = unsafe { foldflake_clearance(p, 2, p, 2, n, len, from, out.as_mut_ptr(), room, pieces.as_mut_ptr(), words) };
+        let left = if answer == 32 { [0.75, 0.75, 7.5] } else { [7.5; 3] };
+        assert_eq!((told, out, pieces[1]), (answer, left, 7), "{len} {room} {words} {from}");
+        assert!(answer == 32 || pieces[0] == 7);
+    }
 }

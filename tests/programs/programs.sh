@@ -1,12 +1,12 @@
 #!/usr/bin/env bash
-# programs.sh: runs `any_contact`, and `sheet` beside it, `convert` and `salvage` on the cases below, `pack` and `unpack` on those of job_lines.py in
+# programs.sh: runs `any_contact` and `clearance`, and `sheet` beside them, `convert` and `salvage` on the cases below, `pack` and `unpack` on those of job_lines.py in
 # tests/cases, `report` on those of report_cases.py, `route` on those of route_cases.py, and compares all that they write, standard error and files included.
 # Exit status 1 where one differs. tests/programs/with.sh says which programs are run, and how.
 set -u
 cd "$(dirname "$0")/../.."
 . tests/programs/with.sh
 command -v python3 > /dev/null || { echo "skipped: cases of the programs: no python3 here"; exit 0; }
-proved any_contact sheet convert salvage pack unpack report route
+proved any_contact clearance sheet convert salvage pack unpack report route
 work="$(mktemp -d)"; trap 'rm -r "$work"' EXIT
 bad=0
 
@@ -88,6 +88,45 @@ left "the same from a pipe" $((3 * 65536))
 { many 128 S; block O; many 383 H; } > "$work/long"
 { timeout 60 $run "$bin/any_contact" > "$work/out" 2> "$work/err"; ended=$?; cat > "$work/left"; } < "$work/long"
 wrote "a contact in the second part" 0 $'129\n' ""; left "the same" $((2 * 65536))
+
+# ---- clearance: a line for each of the sheet's, its refused lines the sheet's own, TOTAL counted from its words, and no u above its t
+# clears CASE FILE LAST: the batch in FILE, whose last line is LAST
+clears() {
+  timeout 60 $run "$bin/clearance" < "$2" > "$work/out" 2> "$work/err"; ended=$?
+  timeout 60 $run "$bin/sheet" < "$2" > "$work/sheet"
+  for f in out sheet; do awk '$1 != "TOTAL" { print $1, $2, ($3 == 0 ? "worked" : $3) }' "$work/$f" > "$work/$f.jobs"; done
+  if [ "$ended" = 0 ] && [ ! -s "$work/err" ] && [ "$(tail -n 1 "$work/out")" = "$3" ] && cmp -s "$work/out.jobs" "$work/sheet.jobs" \
+    && awk '$1 == "TOTAL" { total = $0; next } { n++; word[$4]++ } $4 == "TOUCH" && ($5 "") > ($6 "") { late = 1 }
+      END { exit late || total != "TOTAL " n " " word["CLEAR"] + 0 " " word["TOUCH"] + 0 " " word["OPEN"] + 0 " " word[""] + 0 }' "$work/out"; then
+    echo "clearance, $1: $3"
+  else
+    echo "clearance, $1: WRONG: status $ended, last line '$(tail -n 1 "$work/out")', told '$(cat "$work/err")'; expected '$3'"; bad=1
+  fi
+}
+clears "the sample shift" examples/shift.batch "TOTAL 15 5 8 0 2"; cp "$work/out" "$work/shift"
+clears "the same in form 2" examples/shift-form-2.batch "TOTAL 15 5 8 0 2"
+cmp -s "$work/out" "$work/shift" || { echo "clearance, the same in form 2: WRONG: other lines"; bad=1; }
+clears "every answer of a sheet, a short block last" examples/every-answer.batch "TOTAL 31 3 9 0 19"
+clears "the stored batch" crates/clearance/stdin "$(tail -n 1 crates/clearance/stdout)"
+{ many 128 S; block H; block S 100; } > "$work/batch"
+clears "two parts, a short block last" "$work/batch" "TOTAL 130 128 1 0 1"
+block S 100 > "$work/short"; clears "a short block alone" "$work/short" "TOTAL 1 0 0 0 1"
+timeout 60 $run "$bin/clearance" < "$work/nothing" > "$work/out" 2> "$work/err"; ended=$?
+wrote "clearance, no input" 0 $'TOTAL 0 0 0 0 0\n' "$nothing"
+: > "$work/out"
+for input in batch nothing; do
+  timeout 60 $run "$bin/clearance" < "$work/$input" > /dev/full 2> "$work/err"; ended=$?
+  wrote "clearance, full output, input: $input" 0 "" $'standard output: No space left on device\n'
+  timeout 60 $run "$bin/clearance" < "$work/$input" >&- 2> "$work/err"; ended=$?
+  wrote "clearance, closed output, input: $input" 0 "" $'standard output: Bad file descriptor\n'
+done
+timeout 60 $run "$bin/clearance" < "$work" > "$work/out" 2> "$work/err"; ended=$?
+wrote "clearance, a directory as input" 0 "" $'standard input: Is a directory\n'
+timeout 60 $run "$bin/clearance" <&- > "$work/out" 2> "$work/err"; ended=$?
+wrote "clearance, closed input" 0 "" $'standard input: Bad file descriptor\n'
+{ timeout 60 $run "$bin/clearance" word > "$work/out" 2> "$work/err"; ended=$?; cat > "$work/left"; } < "$work/batch"
+wrote "clearance, an argument" 0 "" $'clearance: no argument is taken\n'
+left "clearance, an argument" "$(wc -c < "$work/batch")"
 
 # ---- convert and salvage, in a folder of their own, so that what is left beside the file shows
 folder="$work/folder"; mkdir "$folder"

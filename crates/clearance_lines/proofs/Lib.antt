@@ -3,3 +3,4 @@ pub mod Folds
 mod Parts
 pub mod Run
 pub mod Counted
+pub mod Program

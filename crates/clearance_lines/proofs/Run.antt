@@ -1,5 +1,5 @@
 -- A run of `write_part` over a file cut into whole parts and a shorter last one prints the lines and the totals of the answers that came, one for each
--- block of the file; and where each part's are answers of its blocks, they all are. Assumes nothing.
+-- block of the file. Assumes nothing.
 use mathlib.Core.Path.{_≡_, refl, sym, ap, _∙_}
 use mathlib.Core.Bool.{Bool, true, false}
 use mathlib.Core.List.{List, [], _∷_, _++_, append-nil, append-assoc}
@@ -8,18 +8,17 @@ use native.Mathlib.Omega.{arith}
 use borrow.Author.Tests.{lt-ltb, le-ltb, le-leb}
 use lib.ListN.{length, length-append}
 use Rattle.model.specs.declared.Totals.{Totals}
-use Rattle.model.specs.Blocks.{wholeBlocks, blocks}
+use Rattle.model.specs.Blocks.{blocks}
 use Rattle.model.specs.Parts.{together, countLimit, partSize}
 use Rattle.model.specs.Sheet.{none, totalLine}
-use Rattle.model.proofs.Sheet.{Sums, WholeParts}
+use Rattle.model.proofs.Sheet.{Sums}
 use Rattle.model.proofs.Blocks.{blocks-in-two-parts, whole-counted}
 use Rattle.runs.specs.Run.{Cut}
 use Rattle.runs.proofs.Whole.{run-makes-whole, text-steps}
 use Rattle.clearance_block.specs.declared.BlockCleared.{BlockCleared}
-use Rattle.clearance_block.specs.Answer.{AnswersOf}
 use Rattle.clearance_lines.specs.Lines.{longestLine, linesFrom, totalsFrom, textOf}
-use Rattle.clearance_lines.specs.Part.{countable, fits, textFor, totalsFor, lastFor, answersFrom, cameFor, run, EachPart, Printed}
-use Rattle.clearance_lines.proofs.Folds.{lines-append, totals-append, answers-append, blocks-counted, totals-add-up}
+use Rattle.clearance_lines.specs.Part.{countable, fits, textFor, totalsFor, lastFor, answersFrom, cameFor, run}
+use Rattle.clearance_lines.proofs.Folds.{lines-append, totals-append, blocks-counted, totals-add-up}
 
 -- the totals add up, and so many bytes can still be counted
 pub record Counting (t : Totals) (b : List ℕ) : Type 0 where
@@ -37,7 +36,7 @@ counting-on t b h =
     let refused : t .refused < countLimit = omega arith in
     rw (lt-ltb _ _ blocks, lt-ltb _ _ clear, lt-ltb _ _ contact, lt-ltb _ _ undecided, lt-ltb _ _ refused)
 
-fitting : (size : ℕ) (t : Totals) (b : List ℕ) → size ≤ partSize → Counting t b → fits size partSize t ≡ true
+pub fitting : (size : ℕ) (t : Totals) (b : List ℕ) → size ≤ partSize → Counting t b → fits size partSize t ≡ true
 fitting size t b small h =
     let room : size / 512 + 2 ≤ partSize / longestLine = omega arith in
     rw (le-leb _ _ room, counting-on t b h)
@@ -122,30 +121,3 @@ module _ (came : ℕ → BlockCleared) where
   pub run-gives-lines : (ps : List (List ℕ)) → Cut (λ t. partSize) next none ps → length (together ps) < countLimit
       → run came partSize none ps ≡ textOf (answersFrom came 0 (length (blocks (together ps))))
   run-gives-lines ps cut small = run-from none ps cut (record { sums = refl; left = omega (arith, small) })
-
-  -- ---- all are answers, where each part's are
-  whole-parts : (t : Totals) (ps : List (List ℕ)) → Cut (λ t. partSize) next t ps → WholeParts ps
-  unfolding Cut WholeParts
-  whole-parts t [] cut = tt
-  whole-parts t (p ∷ []) cut = tt
-  whole-parts t (p ∷ q ∷ r) cut = (rw (cut .0), whole-parts (next t p) (q ∷ r) (cut .1))
-
-  all-answered : (t : Totals) (ps : List (List ℕ)) → WholeParts ps → EachPart came t ps
-      → AnswersOf (blocks (together ps)) (cameFor came t (together ps))
-  unfolding WholeParts EachPart together answersFrom AnswersOf blocks wholeBlocks
-  all-answered t [] whole each = tt
-  all-answered t (p ∷ []) whole each = rw (append-nil p) (each .0)
-  all-answered t (p ∷ q ∷ r) whole each =
-      let rest = together (q ∷ r) in
-      let xs = cameFor came t p in
-      rw (came-in-two-parts t p rest (whole .0), blocks-in-two-parts p rest (whole .0))
-      (answers-append (blocks p) (blocks rest) xs (cameFor came (totalsFrom t xs) rest) (each .0) (all-answered (totalsFrom t xs) (q ∷ r) (whole .1) (each .1)))
-
-  -- the run of a program whose steps keep what `write_part` promises
-  pub run-prints : (ps : List (List ℕ)) → Cut (λ t. partSize) next none ps → length (together ps) < countLimit → EachPart came none ps
-      → Printed (together ps) (run came partSize none ps)
-  run-prints ps cut small each = record {
-    came = cameFor came none (together ps);
-    sound = all-answered none ps (whole-parts none ps cut) each;
-    lines = run-gives-lines ps cut small;
-  }

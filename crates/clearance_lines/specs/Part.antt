@@ -66,18 +66,13 @@ answersFrom came n zero = []
 answersFrom came n (suc k) = came n ∷ answersFrom came (n + 1) k
 
 module _ (came : ℕ → BlockCleared) where
-  -- those of the blocks of so many bytes
+  -- those of the blocks of a part
   abbrev pub cameFor : Totals → List ℕ → List BlockCleared
   cameFor t part = answersFrom came (t .blocks) (length (blocks part))
 
   abbrev pub run : ℕ → Totals → List (List ℕ) → List ℕ
   run room =
       textRun (λ t p. totalsFor t p room (cameFor t p)) (λ t p. lastFor t p room) (λ t p. textFor t p room (cameFor t p))
-
-  -- what each part was given are answers of its blocks: what `write_part` promises of a part, step by step
-  unfoldable pub EachPart : Totals → List (List ℕ) → Type 0
-  EachPart t [] = Unit {0}
-  EachPart t (p ∷ ps) = AnswersOf (blocks p) (cameFor t p) × EachPart (totalsFrom t (cameFor t p)) ps
 
 -- ---- a file's text: the lines and the totals of answers, one for each of its blocks
 pub record Printed (b text : List ℕ) : Type 0 where

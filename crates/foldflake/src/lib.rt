@@ -19,6 +19,7 @@ ghost use Rattle.list_calls.specs.Entry.{SweepTold, DistanceTold};
 ghost use Rattle.foldflake.specs.Entry.{LineTold, builtNumber, PlacedTold};
 ghost use Rattle.foldflake.specs.Moment.{PoseTold, GapTold};
 ghost use Rattle.foldflake.specs.Route.{RouteTold};
+ghost use Rattle.clearance_lists.specs.Entry.{ClearanceTold};
 
 // The square root of every f32.
 #[no_mangle]
@@ -247,4 +248,23 @@ pub extern "C" fn foldflake_route(
     } else {
         255
     }
+}
+
+// What holds at every fraction from `from` to the max fraction. Numbers as a sweep has them; the distance to keep is the larger of the slop and the sum of
+// the radii. The answer: 32 clear, 33 touch, 34 open; a refusal, 1 to 8, 7 also for a `from` that is not from 0 to the max fraction; 255 where a list has
+// the wrong length. From 32 to 34 two fractions stand in out: the end twice of clear; of touch up to where the way is clear, and where they are no farther
+// apart; of open up to where the way is clear, and the end. In pieces how many pieces of the way were tried. Else nothing is written.
+#[no_mangle]
+pub extern "C" fn foldflake_clearance(
+    points_a: &[f32],
+    points_b: &[f32],
+    numbers: &[f32],
+    from: f32,
+    out: &mut [f32],
+    pieces: &mut [u32],
+) -> u32
+    ensures { λ r. ⌜ ClearanceTold (now («points_a» .entry)) (now («points_b» .entry)) (now (numbers .entry)) from (now (out .entry)) (now (pieces .entry))
+        (now (out .exit)) (now (pieces .exit)) r ⌝ }
+{
+    clearance_lists::clearance_told(points_a, points_b, numbers, from, out, pieces)
 }

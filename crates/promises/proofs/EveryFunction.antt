@@ -44,6 +44,8 @@ use Rattle.route_read.proofs as route_read
 use Rattle.route_text.proofs as route_text
 use Rattle.list_calls.proofs as list_calls
 use Rattle.foldflake.proofs as foldflake
+use Rattle.clearance_call.proofs as clearance_call
+use Rattle.places.proofs as places
 use Rattle.root64.proofs as root64
 use Rattle.ground64.proofs as ground64
 use Rattle.domain64.proofs as domain64
@@ -1098,6 +1100,22 @@ module _ {M : Type 1} (𝓤 : URA M) (H : Heap 𝓤) (A : Atoms 𝓤) (mem : Mem
     clauses = foldflake.foldflake_sweep64.clauses 𝓤 H A mem run;
     of-contract = refl;
     once = λ κs a g r r' v v'. told 𝓤 (λ p q. (search same-value, each-list foldflake.foldflake_sweep64.ended κs a v v' (search same-value depth 12)));
+  }
+
+  -- ---- clearance_call
+  pub clearance-call-refusal-of : OneResult 𝓤 H A clearance_call.refusal_of.ended (clearance_call.refusal_of.spec 𝓤 H A mem run)
+  clearance-call-refusal-of = record {
+    clauses = clearance_call.refusal_of.clauses 𝓤 H A mem run;
+    of-contract = refl;
+    once = λ κs a g r r' v v'. told 𝓤 (λ p q. (search same-value, refl));
+  }
+
+  -- ---- places
+  pub places-place-bits : OneResult 𝓤 H A places.place_bits.ended (places.place_bits.spec 𝓤 H A mem run)
+  places-place-bits = record {
+    clauses = places.place_bits.clauses 𝓤 H A mem run;
+    of-contract = refl;
+    once = λ κs a g r r' v v'. told 𝓤 (λ p q. (search same-value, refl));
   }
 
   -- ---- root64
