@@ -16,12 +16,6 @@
 //! | each | `name` | none. Words, told with the number that `route` prints |
 //!
 //! A text in which anything does not fit is refused whole, each fault told with its line; so is what `route` would refuse.
-//!
-//! ```
-//! let route = foldflake::route_text::read(b"cart plate: 1 0.5\nslop: 0.01\n\nat: 0 0\n\nat: 9 0\n\nstill: 5 3\nname: post\n").unwrap();
-//! assert_eq!(route.lines().lines().last(), Some("STILL 40A00000 40400000"));
-//! assert_eq!(route.notes[0].to_string(), "line 9: outline 1 is post");
-//! ```
 use super::text::{
     between, coordinate_fault, corners, counted, cut, decoded, no_such_name, numbers, pieces, plate, radians_warning, step_of, steps, steps_fault, to_f32,
     turn_warning, turned, Piece, Told, HALF_TURN, NO_NAME,

@@ -1,5 +1,6 @@
 //! What the programs that read a text share: arguments, reading, telling, and standard streams that are closed.
 use super::text::Told;
+use std::ffi::OsString;
 use std::io::{self, Read, Write};
 use std::process::ExitCode;
 use std::sync::atomic::{AtomicBool, Ordering};
@@ -49,8 +50,7 @@ pub fn option_fault(name: &str) -> Option<String> {
 }
 
 /// Runs a program that reads one text and prints what it comes to.
-pub fn run(program: &str, help: &str, make: &dyn Fn(&[u8]) -> Result<Made, Vec<Told>>) -> ExitCode {
-    let names: Vec<_> = std::env::args_os().skip(1).collect();
+pub fn run(program: &str, names: Vec<OsString>, help: &str, make: &dyn Fn(&[u8]) -> Result<Made, Vec<Told>>) -> ExitCode {
     let wrong = |what: String| {
         eprintln!("{program}: {what}");
         ExitCode::from(2)

@@ -1,8 +1,10 @@
 //! page [--drawings N|all] [--text JOBS] BATCH SHEET.html: the sheet of a batch as a page that a person can read. The page is made beside its place and put
 //! there once it is whole. What fails is told on standard error, with exit status 1 and no page; wrong arguments with 2.
-use foldflake::job_text::{self, Jobs};
-use foldflake::page::{write, Drawings, Source, Totals};
-use foldflake::{batch, reader, Library};
+use super::batch;
+use super::job_text::{self, Jobs};
+use super::page::{write, Drawings, Source, Totals};
+use super::programs::Programs;
+use super::reader;
 use std::ffi::OsString;
 use std::fs::{self, File, OpenOptions};
 use std::io::{self, BufWriter, Read};
@@ -32,8 +34,7 @@ struct Asked {
     sheet: PathBuf,
 }
 
-fn main() -> ExitCode {
-    let words: Vec<OsString> = std::env::args_os().skip(1).collect();
+pub fn main(words: Vec<OsString>) -> ExitCode {
     if words.len() == 1 && (words[0] == "--help" || words[0] == "-h") {
         return reader::printed(HELP).map_or_else(|status| status, |()| ExitCode::SUCCESS);
     }
@@ -131,7 +132,7 @@ fn run(asked: &Asked) -> Result<Totals, Fault> {
         }
         fs::rename(&part, &place).map(|()| totals)
     };
-    let written = page(&source, *drawings, made).and_then(put);
+    let written = page(batch, &source, *drawings, made).and_then(put);
     if written.is_err() {
         // what was begun is of no use to anyone
         let _ = fs::remove_file(&part);
@@ -175,13 +176,20 @@ fn text_of(text: &Path, batch: &Path, bytes: &[u8]) -> Result<Jobs, Fault> {
     }
 }
 
-fn page(source: &Source, drawings: Drawings, file: File) -> io::Result<Totals> {
-    let mut out = BufWriter::with_capacity(1 << 16, file);
-    let totals = write(&Library, source, drawings, &mut out, &mut |done, all| {
+fn page(batch: &Path, source: &Source, drawings: Drawings, file: File) -> io::Result<Totals> {
+    let other = |why: String| io::Error::new(io::ErrorKind::Other, why);
+    let all = (source.bytes.len() + batch::BLOCK - 1) / batch::BLOCK;
+    let tell = &mut |done: usize| {
         if all > TOLD_EVERY && (done % TOLD_EVERY == 0 || done == all) {
             eprintln!("page: {done} of {all} blocks");
         }
-    })?;
+    };
+    let told = Programs::found().and_then(|programs| programs.answers(batch, tell)).map_err(other)?;
+    if told.len() != all {
+        return Err(other(format!("the programs told of {} blocks, and {all} were read", told.len())));
+    }
+    let mut out = BufWriter::with_capacity(1 << 16, file);
+    let totals = write(&told, source, drawings, &mut out)?;
     let file = out.into_inner()?;
     // a full disk may tell it only now
     file.sync_all()?;

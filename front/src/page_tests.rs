@@ -1,7 +1,7 @@
 //! The page's words, by jobs made for them. tests/programs/page.py parses whole pages and compares them with the sheet.
-use foldflake::job_text::read;
-use foldflake::page::{write, Drawings, Source, Totals};
-use foldflake::Library;
+use super::job_text::read;
+use super::page::{write, Drawings, Source, Totals};
+use super::stored::told;
 use std::io;
 
 /// A batch from text.
@@ -15,7 +15,7 @@ fn page(bytes: &[u8], drawings: usize) -> (String, Totals) {
 
 fn page_of(source: &Source, drawings: Drawings) -> (String, Totals) {
     let mut out = Vec::new();
-    let totals = write(&Library, source, drawings, &mut out, &mut |_, _| {}).unwrap();
+    let totals = write(&told(source.bytes), source, drawings, &mut out).unwrap();
     (String::from_utf8(out).unwrap(), totals)
 }
 
@@ -130,9 +130,9 @@ fn a_failed_write_is_handed_on() {
     let bytes = batch("job: 1\na: 0 0\nb: 1 1\n");
     let source = Source { name: "x", bytes: &bytes, ..Source::default() };
     for room in [0, 10_000, 15_000] {
-        assert!(write(&Library, &source, Drawings::Most(1), &mut Full(room), &mut |_, _| {}).is_err(), "{room}");
+        assert!(write(&told(&bytes), &source, Drawings::Most(1), &mut Full(room)).is_err(), "{room}");
     }
-    assert!(write(&Library, &source, Drawings::Most(1), &mut Full(1_000_000), &mut |_, _| {}).is_ok());
+    assert!(write(&told(&bytes), &source, Drawings::Most(1), &mut Full(1_000_000)).is_ok());
 }
 
 /// What a name holds is text, and never a tag.

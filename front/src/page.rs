@@ -1,10 +1,10 @@
 //! One page that a person can read: every job of a batch as a card, in words, decimals and drawings. It needs no network, and prints on A4.
-use super::batch::{answer, faults, parts, Answer, Job, Part, Status, Verdict, BLOCK};
+use super::batch::{faults, parts, read, Answer, Job, Part, Status, Verdict, BLOCK};
 use super::digest::sha256;
 use super::draw::{curve, moments, outlines, Moments};
-use super::gaps::{fraction, samples, Sampled, PIECES};
+use super::gaps::{fraction, Sampled, PIECES};
+use super::answers::Answers;
 use super::words::{escaped, length, rounded, shortest, signed};
-use super::Answers;
 use std::collections::HashMap;
 use std::fmt::Write as _;
 use std::io::{self, Write};
@@ -109,13 +109,13 @@ struct Row {
     faults: Vec<String>,
 }
 
-/// Writes the page of a batch; `progress` is told how many of how many blocks are worked.
-pub fn write(library: &dyn Answers, source: &Source, drawings: Drawings, out: &mut impl Write, progress: &mut dyn FnMut(usize, usize)) -> io::Result<Totals> {
+/// Writes the page of a batch from what the proved programs told of it, block by block.
+pub fn write(told: &[Answers], source: &Source, drawings: Drawings, out: &mut impl Write) -> io::Result<Totals> {
     let count = (source.bytes.len() + BLOCK - 1) / BLOCK;
     let mut rows = Vec::with_capacity(count);
     let mut totals = Totals { blocks: count, ..Totals::default() };
     for (i, part) in parts(source.bytes).enumerate() {
-        let row = work(library, i as u64 + 1, &part);
+        let row = work(&told[i], &part);
         match &row.answer.told {
             Ok(verdict) => match verdict.status {
                 Status::Separated => totals.separated += 1,
@@ -135,20 +135,19 @@ pub fn write(library: &dyn Answers, source: &Source, drawings: Drawings, out: &m
             *count += usize::from(row.look == look);
         }
         rows.push(row);
-        progress(i + 1, count);
     }
     let titles = titles(source, &rows);
     let drawn = drawn(&rows, drawings);
     out.write_all(head(source, &rows, &titles, &totals, &drawn).as_bytes())?;
     for (i, part) in parts(source.bytes).enumerate() {
-        out.write_all(card(library, source.unit, &titles[i], i + 1, &part, &rows[i], drawn[i]).as_bytes())?;
+        out.write_all(card(&told[i], source.unit, &titles[i], i + 1, &part, &rows[i], drawn[i]).as_bytes())?;
     }
     out.write_all(b"</main>\n</body>\n</html>\n")?;
     Ok(totals)
 }
 
-fn work(library: &dyn Answers, number: u64, part: &Part) -> Row {
-    let answer = answer(library, number, part);
+fn work(told: &Answers, part: &Part) -> Row {
+    let answer = read(told.sheet.clone());
     let (verdict, job) = match (&answer.told, part) {
         (Ok(verdict), Part::Block(block)) => (verdict, Job::of(block)),
         (told, _) => {
@@ -156,8 +155,8 @@ fn work(library: &dyn Answers, number: u64, part: &Part) -> Row {
             return Row { answer, sampled: None, before: None, clearance: f64::NAN, look: Look::Refused, turn: 0.0, faults };
         }
     };
-    let gaps = samples(library, &job);
-    let sampled = Sampled::of(&gaps);
+    let gaps = &told.gaps;
+    let sampled = Sampled::of(gaps);
     let turns = job.turns(0) || job.turns(1);
     let look = match verdict.status {
         Status::Separated if sampled.touching.is_some() => Look::Touching,
@@ -403,7 +402,7 @@ fn places(job: &Job) -> (usize, usize) {
     (more(2, size, 2.0), more(4, f64::from(job.slop), 1.0))
 }
 
-fn card(library: &dyn Answers, unit: &str, title: &Title, number: usize, part: &Part, row: &Row, drawn: bool) -> String {
+fn card(told: &Answers, unit: &str, title: &Title, number: usize, part: &Part, row: &Row, drawn: bool) -> String {
     let job = match row.answer.job {
         0 => format!("Block {number}"),
         job => format!("Job {job}"),
@@ -417,7 +416,7 @@ fn card(library: &dyn Answers, unit: &str, title: &Title, number: usize, part: &
     match (&row.answer.told, part, row.sampled) {
         (Ok(verdict), Part::Block(block), Some(sampled)) => {
             let worked = Worked { job: &Job::of(block), verdict, sampled: &sampled, row, unit };
-            worked.write(library, &format!("{job}, block {number}"), drawn, &mut out);
+            worked.write(told, &format!("{job}, block {number}"), drawn, &mut out);
         }
         (Err(refusal), ..) => refused(*refusal, &row.faults, &mut out),
         _ => {}
@@ -469,7 +468,7 @@ impl Worked<'_> {
         rounded(f64::from(fraction(self.job, k)), places)
     }
 
-    fn write(&self, library: &dyn Answers, title: &str, drawn: bool, out: &mut String) {
+    fn write(&self, told: &Answers, title: &str, drawn: bool, out: &mut String) {
         let (places, gap_places) = places(self.job);
         let _ = writeln!(out, "<p class=\"said\">{}</p>", self.sentence(places));
         self.warnings(gap_places, out);
@@ -494,7 +493,7 @@ impl Worked<'_> {
         self.facts(&moments, places, gap_places, out);
         out.push_str("</table>\n");
         if drawn {
-            let svg = curve(self.job, &samples(library, self.job), self.sampled, &moments, &format!("{title}: the gap over the move"));
+            let svg = curve(self.job, &told.gaps, self.sampled, &moments, &format!("{title}: the gap over the move"));
             let _ = writeln!(out, "<figure>{svg}\n<figcaption>the gap over the move, {} samples, not proved between them</figcaption></figure>", PIECES + 1);
         }
         out.push_str("</div>\n</div>\n");
