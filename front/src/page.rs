@@ -426,7 +426,8 @@ fn card(told: &Answers, unit: &str, title: &Title, number: usize, part: &Part, r
     out
 }
 
-fn reason(refusal: u32) -> &'static str {
+/// What a refusal says.
+pub fn reason(refusal: u32) -> &'static str {
     match refusal {
         3 => "a corner is not a number, or lies too far out",
         4 => "a radius is not a number, below 0, or too large",
