@@ -189,6 +189,11 @@ ends "help of a verb" 0 "" ff help check; grep -q "^usage: foldflake check" "$wo
 cp examples/shift.batch "$work/a shift.batch"; program sheet < examples/shift.batch > "$work/expected"
 root="$PWD"; ends "from another folder" 0 "" eval "(cd '$work' && '$root/foldflake' sheet 'a shift.batch')"; prints "$work/expected" "from another folder"
 
+# a proof that fails: told, status 2, and no program is run; by another kit's name, which makes every program one that is to be proved
+mkdir "$work/kit"; printf '#!/bin/sh\ncase $1 in version) echo another ;; check) echo "rt: sheet is not proved"; exit 1 ;; esac\n' > "$work/kit/rt"; chmod +x "$work/kit/rt"
+ends "a proof that fails" 2 "rt check ended with status 1: see $PWD/target/foldflake.log" env -u PROGRAMS PATH="$work/kit:$PATH" ./foldflake sheet "$clear"
+nothing "a proof that fails"; grep -q '^rt: sheet is not proved$' "$work/told" || wrong "a proof that fails: $(cat "$work/told")"
+
 # install and uninstall
 ends "install" 0 "takes them away" ff install "$work/there"
 [ "$(ls "$work/there/bin")" = foldflake ] && [ "$(ls "$work/there/libexec/foldflake" | wc -l)" = 15 ] || wrong "install: $(ls "$work/there"/*)"
