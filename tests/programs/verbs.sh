@@ -152,11 +152,14 @@ if command -v python3 > /dev/null; then
   python3 tests/programs/tables.py "$work/csv" "$work/printed" "$work/sheet" "$work/clearance" || wrong "csv or json"
 fi
 
-# a program whose output is not whole: status 2, and no file is replaced
+# programs that do not start, and programs whose last line is cut off: status 2, and no file is replaced
 mkdir "$work/torn-bin"; cp "$bin"/* "$work/torn-bin"
 for name in sheet clearance; do : > "$work/torn-bin/$name"; done
+printf '#!/bin/sh\n%s "$@" | sed "\\$d"\n' "$run" > "$work/cut"; chmod +x "$work/cut"
 for verb in "sheet $clear" "clearance $clear" "check $clear" "csv $clear" "json $clear" "page $clear $work/page.html" "check $clear --page $work/page.html"; do
-  ends "${verb%% *}, a program that is torn" 2 "*" env PROGRAMS="$work/torn-bin" ./foldflake $verb; nothing "${verb%% *}, torn"
+  ends "${verb%% *}, a program that does not start" 2 "*" env PROGRAMS="$work/torn-bin" ./foldflake $verb; nothing "${verb%% *}, not started"
+  ends "${verb%% *}, a program's last line cut off" 2 "printed is not whole" env RUN="$work/cut" ./foldflake $verb
+  case $verb in sheet* | clearance*) [ "$(wc -l < "$work/printed")" = 2 ] || wrong "$verb, cut off" ;; *) nothing "$verb, cut off" ;; esac
 done
 rm "$work/torn-bin/sheet"; ends "a program that is missing" 2 "there is no such program" env PROGRAMS="$work/torn-bin" ./foldflake sheet "$clear"
 cmp -s "$work/page.html" "$work/before.html" || wrong "a torn program replaced the page"
