@@ -12,6 +12,7 @@ mod page_file;
 #[cfg(test)]
 mod page_tests;
 mod programs;
+mod proved;
 mod reader;
 mod route_text;
 #[cfg(test)]
