@@ -411,10 +411,10 @@ fn write_job(number: u32, count: u32, given: &Given, out: &mut Jobs, faults: &mu
 
 /// For `--help`.
 pub const HELP: &str = "\
-usage: jobtext JOBS
+usage: foldflake jobtext JOBS
 
 Reads jobs written as text and prints the lines that `pack` makes blocks of; JOBS may be - for standard input. So:
-  set -o pipefail; jobtext shift.txt | pack | sheet
+  set -o pipefail; foldflake jobtext shift.txt | foldflake pack - | foldflake sheet -
 
 A job is a paragraph of lines `name: numbers`, blanks between the numbers, angles in degrees; a blank line ends it, # starts a comment.
   job: 2104              its number, 1 to 4294967295; it may stand once
@@ -431,7 +431,7 @@ A job is a paragraph of lines `name: numbers`, blanks between the numbers, angle
   meant: number again    where an earlier job has the number too; `refused by 8` where the sheet is to refuse it
 A first paragraph `unit: 100 mm` says the unit, for the page.
 
-What does not fit is told with its line, nothing is printed then, and the exit status is 1; it is 2 for wrong arguments. How many jobs were written is
+What does not fit is told with its line, nothing is printed then, and the exit status is 2. How many jobs were written is
 told on standard error.
 ";
 

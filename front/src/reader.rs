@@ -1,8 +1,8 @@
-//! What the programs that read a text share: arguments, reading, telling, and standard streams that are closed.
+//! Standard streams, closed ones too; files and texts that are read whole.
+use super::programs::{of, Fault};
 use super::text::Told;
-use std::ffi::OsString;
 use std::io::{self, Read, Write};
-use std::process::ExitCode;
+use std::path::Path;
 use std::sync::atomic::{AtomicBool, Ordering};
 
 /// What a text comes to.
@@ -40,70 +40,69 @@ mod at_start {
     static LOOK: extern "C" fn() = look;
 }
 
-fn closed(fd: usize) -> bool {
+pub fn closed(fd: usize) -> bool {
     CLOSED[fd].load(Ordering::Relaxed)
 }
 
 /// Why a name is not taken: nobody means a file by `--help`.
 pub fn option_fault(name: &str) -> Option<String> {
-    name.starts_with('-').then(|| format!("{name}: a name that begins with - is not taken; ./{name} names such a file"))
+    (name.starts_with('-') && name != "-").then(|| format!("{name}: a name that begins with - is not taken; ./{name} names such a file"))
 }
 
-/// Runs a program that reads one text and prints what it comes to.
-pub fn run(program: &str, names: Vec<OsString>, help: &str, make: &dyn Fn(&[u8]) -> Result<Made, Vec<Told>>) -> ExitCode {
-    let wrong = |what: String| {
-        eprintln!("{program}: {what}");
-        ExitCode::from(2)
-    };
-    if names.len() == 1 && (names[0] == "--help" || names[0] == "-h") {
-        return printed(help).map_or_else(|status| status, |()| ExitCode::SUCCESS);
+/// Whether a name stands for a standard stream.
+pub fn is_stream(name: &Path) -> bool {
+    name.as_os_str() == "-"
+}
+
+/// What messages call it.
+pub fn called(name: &Path) -> String {
+    name.display().to_string()
+}
+
+/// The bytes of a file, or of standard input for `-`.
+pub fn bytes_of(name: &Path) -> Result<Vec<u8>, Fault> {
+    if !is_stream(name) {
+        return std::fs::read(name).map_err(of(name.display()));
     }
-    let usage = help.lines().next().unwrap_or("").to_string();
-    if names.len() != 1 {
-        return wrong(format!("{usage}; --help explains"));
-    }
-    let name = names[0].to_string_lossy().into_owned();
-    if let (true, Some(what)) = (names[0] != "-", option_fault(&name)) {
-        return wrong(what);
-    }
-    let fault = |what: String| {
-        eprintln!("{what}");
-        ExitCode::FAILURE
-    };
+    input_is_open()?;
     let mut bytes = Vec::new();
-    let read = if names[0] != "-" {
-        std::fs::read(&names[0]).map(|read| bytes = read)
-    } else if closed(0) {
-        return fault("standard input: it is closed".to_string());
-    } else {
-        io::stdin().read_to_end(&mut bytes).map(|_| ())
-    };
-    if let Err(error) = read {
-        return fault(format!("{name}: {error}"));
+    io::stdin().read_to_end(&mut bytes).map_err(of("standard input"))?;
+    Ok(bytes)
+}
+
+/// Fails where standard input was closed.
+pub fn input_is_open() -> Result<(), Fault> {
+    match closed(0) {
+        true => Err(Fault::Said("standard input: it is closed".to_string())),
+        false => Ok(()),
     }
-    let made = match make(&bytes) {
-        Ok(made) => made,
+}
+
+/// What a text comes to. What it tells is told with the text's name; a text with faults is refused whole.
+pub fn read<T>(name: &Path, read: Result<T, Vec<Told>>, notes: impl Fn(&T) -> &[Told]) -> Result<T, Fault> {
+    let name = called(name);
+    match read {
+        Ok(made) => {
+            notes(&made).iter().for_each(|note| eprintln!("{name}, {note}"));
+            Ok(made)
+        }
         Err(faults) => {
             faults.iter().for_each(|fault| eprintln!("{name}, {fault}"));
-            return fault(format!("{name}: refused, and nothing is printed"));
+            Err(Fault::Said(format!("{name}: refused, and nothing is printed")))
         }
-    };
-    made.notes.iter().for_each(|note| eprintln!("{name}, {note}"));
-    match printed(&made.text) {
-        Ok(()) => {
-            eprintln!("{name}: {}", made.wrote);
-            ExitCode::SUCCESS
-        }
-        Err(status) => status,
     }
 }
 
-/// Prints a text, and tells what fails.
-pub fn printed(text: &str) -> Result<(), ExitCode> {
+/// Writes to standard output, at once.
+pub fn put(bytes: &[u8]) -> io::Result<()> {
+    if closed(1) {
+        return Err(io::Error::new(io::ErrorKind::Other, "it is closed"));
+    }
     let mut out = io::stdout().lock();
-    let written = if closed(1) { Err(io::Error::new(io::ErrorKind::Other, "it is closed")) } else { out.write_all(text.as_bytes()).and_then(|()| out.flush()) };
-    written.map_err(|error| {
-        eprintln!("standard output: {error}");
-        ExitCode::FAILURE
-    })
+    out.write_all(bytes).and_then(|()| out.flush())
+}
+
+/// Prints a text.
+pub fn printed(text: &str) -> Result<(), Fault> {
+    put(text.as_bytes()).map_err(of("standard output"))
 }

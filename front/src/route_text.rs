@@ -285,10 +285,10 @@ fn waypoint(fields: &Fields, before: &mut Option<Way>, out: &mut Route, faults: 
 
 /// For `--help`.
 pub const HELP: &str = "\
-usage: routetext ROUTE
+usage: foldflake routetext ROUTE
 
 Reads a route written as text and prints what `route` reads; ROUTE may be - for standard input. So:
-  set -o pipefail; routetext hall.txt | route
+  set -o pipefail; foldflake routetext hall.txt | foldflake route -
 
 Paragraphs of lines `name: numbers`, blanks between the numbers, angles in degrees; a blank line ends a paragraph, # starts a comment.
   cart plate: 1 0.6      the cart: half sizes; or  cart bar: x y  x y ; or  cart: x y  x y ..  corners about its centre, 1 to 64
@@ -304,7 +304,7 @@ Paragraphs of lines `name: numbers`, blanks between the numbers, angles in degre
   at: 4 2                turned about 0 0 and then shifted so; 0 0
   turned: 45             0
 
-What does not fit is told with its line, nothing is printed then, and the exit status is 1; it is 2 for wrong arguments.
+What does not fit is told with its line, nothing is printed then, and the exit status is 2.
 ";
 
 /// What `routetext` prints and tells.
