@@ -337,17 +337,18 @@ fn table(source: &Source, rows: &[Row], titles: &[Title], out: &mut String) {
         });
         let (word, known) = match (&row.known, &part) {
             (Some(known), Part::Block(block)) => (known.word(), known.short(&Job::of(block))),
-            _ => ("–", String::new()),
+            _ => ("–", short(row)),
         };
+        let search = if row.known.is_some() { short(row) } else { String::new() };
         let name = if named { format!("<td class=\"words\">{}</td>", titles[i].name) } else { String::new() };
         let _ = writeln!(
             out,
             "<tr class=\"{2}\"><td>{0}</td><td><a href=\"#block{0}\">{1}</a></td>{name}<td><b>{word}</b></td><td class=\"words known\">{known}</td>\
-             <td class=\"words\">{3}</td><td>{least}</td></tr>",
+             <td>{3}</td><td>{least}</td></tr>",
             i + 1,
             row.answer.job,
             row.look.class(),
-            short(row),
+            search,
         );
     }
     out.push_str("</tbody>\n</table>\n");

@@ -216,7 +216,7 @@ fn totals_go_by_what_is_proved() {
     let shown = "<tr id=\"totals\"><td>3</td><td class=\"clear\">2</td><td class=\"touch\">1</td><td class=\"open\">0</td><td>0</td></tr>";
     assert!(page.contains(shown) && page.contains("<tr id=\"letterS\"><th>S</th><td>2</td><td>1</td><td>0</td></tr>"), "{page}");
     assert!(page.contains("<b>1 not clear, although the search says S:</b> <a href=\"#block3\">3</a></li>\n</ul>"), "{page}");
-    let row = "<td><b>TOUCH</b></td><td class=\"words known\">contact by 0.1873</td><td class=\"words\">S</td><td>0</td></tr>";
+    let row = "<td><b>TOUCH</b></td><td class=\"words known\">contact by 0.1873</td><td>S</td><td>0</td></tr>";
     assert!(page.contains(row), "{page}");
     // the band of each: a run and its letter
     let band = "<path class=\"band clear\" d=\"M44.00 128H390.00V140.00H44.00Z\"/><text class=\"in clear\" x=\"217.00\" y=\"137.50\">C</text>";
@@ -270,7 +270,7 @@ fn where_nothing_is_settled_samples_are_told() {
             "Sampled, not proved: at 0.3398 of the move the outlines touch or overlap."
         ]
     );
-    assert!(page.contains("class=\"card open\"") && page.contains("<td class=\"words\">F, gave up at 0.5868</td>"));
+    assert!(page.contains("class=\"card open\"") && page.contains("<td>F, gave up at 0.5868</td>"));
     assert!(page.contains("The search says F, no verdict: it gave up where it stood, at 0.5868 of the move.") && page.contains("a missed\""), "{page}");
     assert!(page.contains("<li class=\"amber\"><b>1 not settled: treat as not clear:</b>") && page.contains("class=\"band open\""), "{page}");
 }
@@ -279,6 +279,6 @@ fn where_nothing_is_settled_samples_are_told() {
 fn the_table_says_why_a_block_is_refused_and_jobs_of_one_number_are_told_apart() {
     let bytes = batch("job: 7\na: 0 0\nb: 1 1\nslop: 0\nmeant: refused by 8\n\njob: 7\na: 0 0\nb: 1 1\nmeant: number again, refused by 8\nslop: 0\n");
     let (page, _) = page(&bytes, 1);
-    assert!(page.contains("<td class=\"words\">refused by 8: the slop is 0, and has to be above 0</td>"), "{page}");
+    assert!(page.contains("<td class=\"words known\">refused by 8: the slop is 0, and has to be above 0</td>"), "{page}");
     assert!(page.contains("<a href=\"#block1\">7 (block 1)</a> <a href=\"#block2\">7 (block 2)</a>"), "{page}");
 }
