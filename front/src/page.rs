@@ -528,40 +528,43 @@ impl Worked<'_> {
         let (job, status) = (self.job, self.verdict.status);
         let turning = job.turns(0) || job.turns(1);
         let (slop, radii) = (f64::from(job.slop), f64::from(job.radius[0]) + f64::from(job.radius[1]));
-        // how near the bodies may come before the search calls it contact
-        let called = slop.max(radii - slop) + slop / 4.0;
-        let waits = radii > called;
-        let overlap = "with radii the search calls it contact only where the bodies overlap, by three quarters of the slop or more";
+        // the search calls it contact within a quarter of the slop of the target, and with radii that is an overlap
+        let target = slop.max(radii - slop);
+        let [least, most] = [target - slop / 4.0, target + slop / 4.0];
+        let overlaps = radii > most;
         let turn = format!(
             "a turn, by {}°, that the search does not look into: it looks along one axis at a time, and at the ends of an interval",
             rounded(job.moves[0].turn().max(job.moves[1].turn()), 1)
         );
-        let close = "so close that the search, whose numbers are rounded, tells it otherwise";
         let early = "the search tells a hit up to a quarter of the slop before the target";
+        let off = "the search works with rounded numbers, and is off by that much here";
         let hit = self.verdict.floats[0];
         let mut out = Vec::new();
         match (status, self.known.proved) {
             (Status::Separated, Proved::Touch(..)) => {
-                let why = match (waits && f64::from(self.sampled.gap) > called, turning) {
-                    (true, _) => overlap,
+                let why = match (overlaps && f64::from(self.sampled.gap) > most, turning) {
+                    (true, _) => "with radii S lets the bodies overlap by up to three quarters of the slop",
                     (false, true) => &turn,
-                    (false, false) => close,
+                    (false, false) => off,
                 };
                 out.push(format!("Why S, and yet not clear: {why}."));
             }
             (Status::Hit, Proved::Touch(_, t)) if hit > t => {
-                let why = match (self.row.before.map_or(false, |(_, gap)| f64::from(gap) > slop.max(radii - slop) - slop / 4.0), waits, turning) {
-                    (true, true, _) => overlap,
+                let why = match (self.row.before.map_or(true, |(_, gap)| f64::from(gap) > least), overlaps, turning) {
+                    (true, true, _) => "with radii the search tells a hit only where the bodies overlap by about a slop",
+                    (true, false, _) => "the search tells a hit up to a quarter of the slop behind the target",
                     (false, _, true) => &turn,
-                    _ => close,
+                    (false, _, false) => off,
                 };
                 out.push(format!("Why the hit is told later than the contact: {why}."));
             }
             (Status::Hit, Proved::Touch(u, _)) if f64::from(u) - f64::from(hit) > 1e-4 => {
-                out.push(format!("Why the hit is told before they are within that distance: {early}."));
+                let why = if overlaps { off } else { early };
+                out.push(format!("Why the hit is told before they are within that distance: {why}."));
             }
             (Status::Hit, Proved::Clear) => {
-                let why = if waits { close } else { early };
+                let near = self.known.room.map_or(true, |room| f64::from(room) <= most);
+                let why = if near && !overlaps { early } else { off };
                 out.push(format!("Why H, and yet clear: {why}."));
             }
             (Status::Overlapped, Proved::Clear) => {
@@ -571,10 +574,10 @@ impl Worked<'_> {
                 out.push("Why O, and yet a contact later than the start: the search had got further than the 0 that it prints.".to_string());
             }
             (Status::Failed, Proved::Clear) => {
-                out.push("Why no verdict, and yet clear: the search gave up in its own rounding; the proof did not need it.".to_string());
+                out.push("Why no verdict, and yet clear: the search gave up, which says nothing of the move.".to_string());
             }
             (Status::Failed, Proved::Touch(..)) => {
-                out.push("Why no verdict, and yet a contact: the search gave up in its own rounding; the proof did not need it.".to_string());
+                out.push("Why no verdict, and yet a contact: the search gave up, which says nothing of the move.".to_string());
             }
             (_, Proved::Open(_)) => {
                 out.push("Neither clears it: what the search says is not proved. Cut the move into steps, or leave more room.".to_string());

@@ -56,10 +56,7 @@ fn an_s_is_worth_what_is_proved() {
     // the bodies overlap by half a slop at the end of a straight way
     let radii = card("a: 0 0\nb: 10 0\na to: 7.0025 0\nradius a: 1\nradius b: 2\n");
     assert!(radii.contains(S) && opens(&radii).starts_with("not clear: further apart than 3 (the radii together) up to 0.99"), "{radii}");
-    assert_eq!(
-        why(&radii),
-        ["Why S, and yet not clear: with radii the search calls it contact only where the bodies overlap, by three quarters of the slop or more."]
-    );
+    assert_eq!(why(&radii), ["Why S, and yet not clear: with radii S lets the bodies overlap by up to three quarters of the slop."]);
 }
 
 #[test]
@@ -90,7 +87,10 @@ fn a_hit_that_comes_late_is_told() {
     assert!(opens(&page).starts_with("not clear: further apart than 0.005 up to 0.1"), "{page}");
     assert!(why(&page)[0].starts_with("Why the hit is told later than the contact: a turn, by 160.3°, that the search does not look into"), "{page}");
     let radii = card("a: 0 0\nb: 10 0\na to: 9 0\nradius a: 1\nradius b: 2\n");
-    assert!(why(&radii)[0].starts_with("Why the hit is told later than the contact: with radii the search calls it contact only"), "{radii}");
+    assert!(why(&radii)[0].starts_with("Why the hit is told later than the contact: with radii the search tells a hit only where"), "{radii}");
+    // a step into the wall: told where they are within the slop, but for less than a quarter of it
+    let step = card(&format!("a plate: 5 5\n{WALL}a turned: 10 20\n"));
+    assert_eq!(why(&step), ["Why the hit is told later than the contact: the search tells a hit up to a quarter of the slop behind the target."]);
 }
 
 /// A point that passes another at a slop and an eighth: the search tells a hit, and the distance is kept.

@@ -172,7 +172,7 @@ def opening(block, clearance, room):
     # the shortest decimal that reads back
     keep = next(text for text in (f"{keep:.{digits}g}" for digits in range(1, 10)) if bits(float(text)) == bits(keep))
     keep = keep if "e" in keep and float(keep) < 1e-5 else f"{float(keep):.12f}".rstrip("0").rstrip(".")
-    planned = "the whole move" if fraction == 1 else "all that is planned, up to " + (f"{fraction:.4f}".rstrip("0").rstrip(".") or "0") + " of the move"
+    planned = "the whole move" if fraction == 1 else "all that is planned, up to " + (f"{abs(fraction):.4f}".rstrip("0").rstrip(".") or "0") + " of the move"
     if clearance[0] == "CLEAR":
         who, left = "the bodies, radii included," if any(radii) else "the outlines", three(exact(room) - sum(radii))
         stays = f"stay at least {left} apart" if left else "do not meet"
