@@ -15,6 +15,7 @@ mod page_file;
 mod page_tests;
 mod programs;
 mod progress;
+mod proved;
 mod reader;
 mod route_text;
 #[cfg(test)]

@@ -15,8 +15,8 @@ pub const HELP: &str = "\
 usage: foldflake page [--drawings N|all] [--text JOBS] BATCH SHEET.html
 
 Writes the sheet of a batch as one page that any browser opens without a network and that prints on A4; BATCH may be - for standard input.
-  --drawings N     drawings for so many worked blocks, or for all: those told red first, then the others that need a look, then the rest;
-                   500 where nothing is said, and more where more are told red
+  --drawings N     drawings for so many worked blocks, or for all: S that are not clear first, then the others that need a look, then the rest;
+                   500 where nothing is said, and more where more S are not clear
   --text JOBS      the text that the batch was made of: its unit and the jobs' names stand on the page; it has to be of this batch, block by block
 A file of another kind that has the page's name is kept as SHEET.html.old. What fails is told, the exit status is 2, and there is no half page.
 ";
@@ -69,15 +69,7 @@ pub fn made(
         let written = write(told, &source, drawings, &mut out).and_then(|totals| out.into_inner().map(|_| totals).map_err(|error| error.into_error()));
         written.map_err(of(called))
     })?;
-    let Totals { blocks, separated, contact, undecided, refused, turning, touching, near, half_turns, early, gave_up } = totals;
-    eprintln!("{called}: {blocks} blocks: {separated} S, {turning} of them turning, {contact} contact, {undecided} no verdict, {refused} refused");
-    if totals.red_separated() + early + gave_up > 0 {
-        let without = if half_turns > 0 { format!(", {half_turns} make a half turn") } else { String::new() };
-        eprintln!(
-            "{called}: sampled: of S {touching} touch, {near} come too near{without}; {early} hits have contact before; {gave_up} without a verdict have \
-             contact: look at them"
-        );
-    }
+    totals.said().iter().for_each(|line| eprintln!("{called}: {line}"));
     Ok(totals)
 }
 

@@ -20,7 +20,7 @@ sheets="$(tr -cd '\f' < "$work/shift.text" | wc -c)"
 for n in $(seq "$sheets"); do
   awk -v n="$n" 'BEGIN { RS = "\f" } NR == n' "$work/shift.text" > "$work/sheet"
   grep -q "shift.batch, 15 blocks .*page $n of $sheets" "$work/sheet" || { echo "the picture: sheet $n does not carry its name and number"; exit 1; }
-  grep -q "do not clear" "$work/sheet" && grep -q "Job 2113" "$work/sheet" && red="$n"
+  grep -q "Why S, and yet not clear" "$work/sheet" && grep -q "Job 2113" "$work/sheet" && red="$n"
 done
 pdftoppm -r 80 -png "$work/shift.pdf" "$work/sheet"
 first="$(ls "$work"/sheet-*.png | head -n 1)"; second="$(ls "$work"/sheet-*.png | sed -n "${red}p")"

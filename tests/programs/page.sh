@@ -1,8 +1,8 @@
 #!/usr/bin/env bash
-# page.sh: makes the page of every examples/*.batch, of cut ones, of no input, of README's swing with its turn cut by `jobtext`, and of 5,000 random moves,
-# and has tests/programs/page.py compare each with the sheet of the same batch. Then what `page`, `jobtext` and `routetext` tell where something fails, with their
-# exit status: a page is whole or not there. Last it has tests/programs/page-picture.sh make the picture of README. Exit status 1 where anything differs. Needs
-# cargo or rustc, and Python 3.
+# page.sh: makes the page of every examples/*.batch, of cut ones, of no input, of README's swing with its turn cut by `jobtext`, and of 5,000 random moves, and
+# has tests/programs/page.py compare each with what `sheet`, `clearance` and `rooms` print of the same batch. Then what `page`, `jobtext` and `routetext` tell
+# where something fails, with their exit status: a page is whole or not there. Last it has tests/programs/page-picture.sh make the picture of README. Exit
+# status 1 where anything differs. Needs cargo or rustc, and Python 3.
 set -u
 cd "$(dirname "$0")/../.."
 . tests/programs/with.sh
@@ -18,10 +18,14 @@ page() { ./foldflake page "$@"; }
 jobs_of() { ./foldflake jobtext "$@"; }
 route_of() { ./foldflake routetext "$@"; }
 
+same() { # same NAME BATCH: the page in the work folder says what the programs say of the batch
+  for name in sheet clearance rooms; do $run "$bin"/$name < "$2" > "$work/$name"; done
+  python3 tests/programs/page.py "$work/page.html" "$2" "$work/sheet" "$work/clearance" "$work/rooms" > "$work/said" 2>&1 \
+    || { wrong "$1"; tail -n 3 "$work/said"; }
+}
 compare() { # compare NAME: the page of the batch in the work folder
-  $run "$bin"/sheet < "$work/batch" > "$work/sheet"
   page "$work/batch" "$work/page.html" 2> "$work/told" || wrong "$1: $(cat "$work/told")"
-  python3 tests/programs/page.py "$work/page.html" "$work/batch" "$work/sheet" > "$work/said" 2>&1 || { wrong "$1"; tail -n 3 "$work/said"; }
+  same "$1" "$work/batch"
   echo "$1:$(sed 's/^[^:]*://' "$work/said" | head -n 1)"
 }
 for batch in examples/*.batch; do
@@ -39,20 +43,20 @@ grep -q 'line 12, job 11: cut into 9 steps, jobs 11 to 19' "$work/told" || wrong
 grep -q 'line 4, job 1: warning: a turns by 90 degrees in one step, and S does not clear such a turn: `turn by: 10` cuts it' "$work/told" || wrong "no warning"
 [ "$(tail -n 1 "$work/told")" = "$work/jobs: 10 jobs written" ] || wrong "jobtext told last: $(tail -n 1 "$work/told")"
 compare "the swing"
-grep -q '>the search says S, but at 0.50 of the move the outlines touch or overlap: do not clear<' "$work/page.html" || wrong "the swing's card is not red"
+grep -q '>not clear: further apart than 0.005 up to 0.1872 of the move, within 0.005 by 0.1873<' "$work/page.html" || wrong "the swing's card does not open so"
+grep -q '^<section class="card touch warned" id="block1">$' "$work/page.html" || wrong "the swing's card is not red"
 [ "$(cut -d ' ' -f 4 "$work/sheet" | head -n 10 | tr -d '\n')" = SSHOOOOOOS ] || wrong "the swing's letters"
 
 # names and the unit of the text stand on the page; jobs of one number are told apart by block
 page --text examples/shift.txt examples/shift.batch "$work/page.html" 2> /dev/null || wrong "a page with its text"
-$run "$bin"/sheet < examples/shift.batch > "$work/sheet"
-python3 tests/programs/page.py "$work/page.html" examples/shift.batch "$work/sheet" > "$work/said" 2>&1 || { wrong "a page with its text"; tail -n 3 "$work/said"; }
+same "a page with its text" examples/shift.batch
 for word in '<th>unit</th><td>100 mm</td>' '<span class="name">square cart turns at the wall</span>' '(unit: 100 mm)'; do
   grep -q "$word" "$work/page.html" || wrong "not on the page: $word"
 done
 cat examples/shift.batch examples/shift.batch > "$work/batch"; page "$work/batch" "$work/page.html" 2> /dev/null
 grep -q '<a href="#block28">2113 (block 28)</a>' "$work/page.html" || wrong "jobs of one number are not told apart"
 
-# 5,000 random moves, most of which turn: every red card has its drawing, more than the usual 500 where more are red
+# 5,000 random moves, most of which turn: every S that is not clear has its drawing, more than the usual 500 where more are so
 for swings in 3 2500; do
   python3 tests/cases/random_moves.py $swings 5000 > "$work/batch"; compare "5,000 random moves, some $swings of them swings into a wall"
 done
