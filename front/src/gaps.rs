@@ -1,6 +1,5 @@
 //! The gap over the move: sampled, not proved.
 use super::batch::Job;
-use super::Answers;
 
 /// How many equal pieces the planned part of a move is cut into; one sample more than that.
 pub const PIECES: usize = 256;
@@ -8,15 +7,6 @@ pub const PIECES: usize = 256;
 /// The fraction of sample `k`.
 pub fn fraction(job: &Job, k: usize) -> f32 {
     (f64::from(job.max_fraction) * k as f64 / PIECES as f64) as f32
-}
-
-/// The distance of the outlines without radii at each sample; NaN where no number is worked out.
-pub fn samples(library: &dyn Answers, job: &Job) -> Vec<f32> {
-    let at = |k| library.gap(job, fraction(job, k));
-    if job.stands(0) && job.stands(1) {
-        return vec![at(0); PIECES + 1];
-    }
-    (0..=PIECES).map(at).collect()
 }
 
 /// What the samples of one job come to.

@@ -22,15 +22,6 @@
 //! and plate, bar, centre, from, to, turned for b. A first paragraph may have the line `unit` alone, words for the page, as `unit: 100 mm`.
 //!
 //! A text in which anything does not fit is refused whole, each fault told with its line and its job; so is what the sheet would refuse by 3 to 8.
-//!
-//! ```
-//! let text = b"job: 7\na plate: 1 1\nb: 0 0\nb from: 9 0\nb to: 1 0\n";
-//! let jobs = foldflake::job_text::read(text).unwrap();
-//! assert!(jobs.lines().starts_with("7 4 1 00000000 00000000 3F800000 3BA3D70A "));
-//! let faults = foldflake::job_text::read(b"job: 7\nb: 0 0\n\njob: 8\na: 1\nb: 0 0\n").unwrap_err();
-//! assert_eq!(faults[0].to_string(), "line 1, job 7: no line `a`, `a plate` or `a bar`");
-//! assert_eq!(faults[1].to_string(), "line 5, job 8: 1 number is no point: x y for each");
-//! ```
 use super::batch::BLOCK;
 use super::text::{
     between, coordinate_fault, corners, counted, decoded, no_such_name, numbers, pieces, plate, radians_warning, step_of, steps, steps_fault, to_f32,
@@ -420,10 +411,10 @@ fn write_job(number: u32, count: u32, given: &Given, out: &mut Jobs, faults: &mu
 
 /// For `--help`.
 pub const HELP: &str = "\
-usage: jobtext JOBS
+usage: foldflake jobtext JOBS
 
 Reads jobs written as text and prints the lines that `pack` makes blocks of; JOBS may be - for standard input. So:
-  set -o pipefail; jobtext shift.txt | pack | sheet
+  set -o pipefail; foldflake jobtext shift.txt | foldflake pack - | foldflake sheet -
 
 A job is a paragraph of lines `name: numbers`, blanks between the numbers, angles in degrees; a blank line ends it, # starts a comment.
   job: 2104              its number, 1 to 4294967295; it may stand once
@@ -440,7 +431,7 @@ A job is a paragraph of lines `name: numbers`, blanks between the numbers, angle
   meant: number again    where an earlier job has the number too; `refused by 8` where the sheet is to refuse it
 A first paragraph `unit: 100 mm` says the unit, for the page.
 
-What does not fit is told with its line, nothing is printed then, and the exit status is 1; it is 2 for wrong arguments. How many jobs were written is
+What does not fit is told with its line, nothing is printed then, and the exit status is 2. How many jobs were written is
 told on standard error.
 ";
 

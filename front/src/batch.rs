@@ -1,17 +1,7 @@
 //! A batch's bytes: its blocks, the fields that each holds, and the answer that the proved line tells of it.
-//!
-//! ```
-//! use foldflake::batch::{answer, parts, Part};
-//! use foldflake::Library;
-//! let bytes = [0u8; 700];
-//! let found: Vec<Part> = parts(&bytes).collect();
-//! assert_eq!(found.len(), 2);
-//! assert_eq!(answer(&Library, 1, &found[0]).told, Err(10));
-//! assert_eq!(answer(&Library, 2, &found[1]).told, Err(9));
-//! ```
+use super::moves::Move;
 use super::text::LIMIT;
 use super::words::shortest;
-use super::{Answers, Move};
 
 /// How many bytes a block has.
 pub const BLOCK: usize = 512;
@@ -33,7 +23,7 @@ pub fn parts(bytes: &[u8]) -> impl Iterator<Item = Part<'_>> {
     })
 }
 
-/// What a block says of its job. Nothing is checked here: [`answer`] says whether the block is refused.
+/// What a block says of its job. Nothing is checked here: the sheet says whether the block is refused.
 #[derive(Clone, Debug, PartialEq)]
 pub struct Job {
     /// The job's number.
@@ -137,17 +127,8 @@ pub struct Answer {
     pub told: Result<Verdict, u32>,
 }
 
-/// The answer of a piece as block `number` of its file, counted from 1, read off the proved line. A rest is refused by 9.
-pub fn answer(library: &dyn Answers, number: u64, part: &Part) -> Answer {
-    let line = match part {
-        Part::Block(block) => library.line(number, block),
-        Part::Rest(_) => format!("{number} 0 9\n"),
-    };
-    read(line.trim_end().to_string())
-}
-
 /// What a line of the sheet tells, with the corners of the last search or without.
-fn read(line: String) -> Answer {
+pub fn read(line: String) -> Answer {
     let words: Vec<&str> = line.split(' ').collect();
     let number_at = |i: usize| words.get(i).and_then(|word| word.parse().ok()).unwrap_or(0u64);
     let status = match words.get(3).copied() {

@@ -244,9 +244,9 @@ fn names_and_the_unit_are_kept() {
     let mut form_2 = block;
     form_2[6] = 2;
     assert!(jobs.jobs[0].is(&form_2));
-    let sample = read(include_bytes!("../../../examples/shift.txt")).unwrap();
+    let sample = read(include_bytes!("../../examples/shift.txt")).unwrap();
     let made: Vec<u8> = sample.jobs.iter().flat_map(|job| job.block()).collect();
-    assert!(made == include_bytes!("../../../examples/shift.batch"), "another batch");
+    assert!(made == include_bytes!("../../examples/shift.batch"), "another batch");
     assert_eq!(sample.notes.len(), 2 + 4, "two are meant to be refused, four turn: {:?}", sample.notes);
     assert_eq!(job_text::made(b"job: 7\na: 0 0\nb: 1 1\n").unwrap().wrote, "1 job written");
 }
@@ -268,10 +268,10 @@ fn a_route_comes_to_the_lines_of_route() {
         "SLOP 3C23D70A\nCART 3F800000 3F000000 BF800000 3F000000 3F800000 BF000000 BF800000 BF000000\nAT 00000000 00000000 3F800000 00000000\n\
          AT 41100000 00000000 3F800000 00000000\nSTILL 40A00000 40400000\n"
     );
-    let hall = route_text::read(include_bytes!("../../../examples/hall.txt")).unwrap();
+    let hall = route_text::read(include_bytes!("../../examples/hall.txt")).unwrap();
     assert_eq!((hall.ways.len(), hall.stills.len(), hall.slop), (6, 6, 0.005));
     // the stored route has its corners in another order, and a quarter turn a hair off
-    let mut stored = include_str!("../../../examples/hall.route").lines();
+    let mut stored = include_str!("../../examples/hall.route").lines();
     assert_eq!(hall.lines().lines().next(), stored.next());
     let first_still = [4.5f32, 2.5, 3.5, 2.5, 4.5, 1.5, 3.5, 1.5];
     assert_eq!(hall.stills[0], first_still);
@@ -320,4 +320,20 @@ fn every_fault_of_a_route_is_told() {
     let warned = ROUTE.replacen("at: 9 0", "at: 9 0\nturned: 1.5708", 1);
     let told = route_text::read(warned.as_bytes()).unwrap().notes[0].to_string();
     assert_eq!(told, "line 7: warning: 1.5708 looks like radians; turns are in degrees, and 1.5708 radians are 90.00");
+}
+
+#[test]
+fn a_short_text_of_jobs_and_its_faults() {
+    let jobs = read(b"job: 7\na plate: 1 1\nb: 0 0\nb from: 9 0\nb to: 1 0\n").unwrap();
+    assert!(jobs.lines().starts_with("7 4 1 00000000 00000000 3F800000 3BA3D70A "));
+    let faults = read(b"job: 7\nb: 0 0\n\njob: 8\na: 1\nb: 0 0\n").unwrap_err();
+    assert_eq!(faults[0].to_string(), "line 1, job 7: no line `a`, `a plate` or `a bar`");
+    assert_eq!(faults[1].to_string(), "line 5, job 8: 1 number is no point: x y for each");
+}
+
+#[test]
+fn a_short_text_of_a_route() {
+    let route = route_text::read(b"cart plate: 1 0.5\nslop: 0.01\n\nat: 0 0\n\nat: 9 0\n\nstill: 5 3\nname: post\n").unwrap();
+    assert_eq!(route.lines().lines().last(), Some("STILL 40A00000 40400000"));
+    assert_eq!(route.notes[0].to_string(), "line 9: outline 1 is post");
 }

@@ -16,12 +16,6 @@
 //! | each | `name` | none. Words, told with the number that `route` prints |
 //!
 //! A text in which anything does not fit is refused whole, each fault told with its line; so is what `route` would refuse.
-//!
-//! ```
-//! let route = foldflake::route_text::read(b"cart plate: 1 0.5\nslop: 0.01\n\nat: 0 0\n\nat: 9 0\n\nstill: 5 3\nname: post\n").unwrap();
-//! assert_eq!(route.lines().lines().last(), Some("STILL 40A00000 40400000"));
-//! assert_eq!(route.notes[0].to_string(), "line 9: outline 1 is post");
-//! ```
 use super::text::{
     between, coordinate_fault, corners, counted, cut, decoded, no_such_name, numbers, pieces, plate, radians_warning, step_of, steps, steps_fault, to_f32,
     turn_warning, turned, Piece, Told, HALF_TURN, NO_NAME,
@@ -291,10 +285,10 @@ fn waypoint(fields: &Fields, before: &mut Option<Way>, out: &mut Route, faults: 
 
 /// For `--help`.
 pub const HELP: &str = "\
-usage: routetext ROUTE
+usage: foldflake routetext ROUTE
 
 Reads a route written as text and prints what `route` reads; ROUTE may be - for standard input. So:
-  set -o pipefail; routetext hall.txt | route
+  set -o pipefail; foldflake routetext hall.txt | foldflake route -
 
 Paragraphs of lines `name: numbers`, blanks between the numbers, angles in degrees; a blank line ends a paragraph, # starts a comment.
   cart plate: 1 0.6      the cart: half sizes; or  cart bar: x y  x y ; or  cart: x y  x y ..  corners about its centre, 1 to 64
@@ -310,7 +304,7 @@ Paragraphs of lines `name: numbers`, blanks between the numbers, angles in degre
   at: 4 2                turned about 0 0 and then shifted so; 0 0
   turned: 45             0
 
-What does not fit is told with its line, nothing is printed then, and the exit status is 1; it is 2 for wrong arguments.
+What does not fit is told with its line, nothing is printed then, and the exit status is 2.
 ";
 
 /// What `routetext` prints and tells.

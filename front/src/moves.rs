@@ -4,25 +4,18 @@
 ///
 /// At fraction `t` the rotation is `(1 - t) * first_rotation + t * last_rotation`, brought to length 1. So a turn goes the short way round; its
 /// angle grows unevenly, and of a half turn nobody can say which way it goes: never ask for one.
-///
-/// ```
-/// use foldflake::Move;
-/// // a quarter turn about the body's corner (1, 1), which stays at (5, 0) in the hall
-/// let turn = Move { local_center: [1.0, 1.0], first: [5.0, 0.0], last: [5.0, 0.0], first_rotation: [1.0, 0.0], last_rotation: [0.0, 1.0] };
-/// assert_eq!(turn.first, turn.last);
-/// ```
 #[derive(Clone, Copy, Debug, PartialEq)]
-pub struct Move<T = f32> {
+pub struct Move {
     /// The turning centre, in the frame in which the outline's points are given.
-    pub local_center: [T; 2],
+    pub local_center: [f32; 2],
     /// Where the turning centre stands in the hall at fraction 0.
-    pub first: [T; 2],
+    pub first: [f32; 2],
     /// Where it stands at fraction 1.
-    pub last: [T; 2],
+    pub last: [f32; 2],
     /// Cosine and sine at fraction 0; counterclockwise is positive where y points to the left of x.
-    pub first_rotation: [T; 2],
+    pub first_rotation: [f32; 2],
     /// Cosine and sine at fraction 1.
-    pub last_rotation: [T; 2],
+    pub last_rotation: [f32; 2],
 }
 
 /// Where a body stands: its points turned by cosine and sine, then shifted.
@@ -41,7 +34,7 @@ impl Placed {
 
 impl Move {
     /// None in the middle of a half turn.
-    pub(super) fn placed(&self, t: f32) -> Option<Placed> {
+    pub fn placed(&self, t: f32) -> Option<Placed> {
         let t = f64::from(t);
         let between = |from: [f32; 2], to: [f32; 2]| [0, 1].map(|i| (1.0 - t) * f64::from(from[i]) + t * f64::from(to[i]));
         let [c, s] = between(self.first_rotation, self.last_rotation);
@@ -56,13 +49,13 @@ impl Move {
     }
 
     /// By how many degrees the body turns, the short way round, 0 to 180.
-    pub(super) fn turn(&self) -> f64 {
+    pub fn turn(&self) -> f64 {
         let ([c, s], [d, t]) = (self.first_rotation.map(f64::from), self.last_rotation.map(f64::from));
         (c * t - s * d).atan2(c * d + s * t).abs().to_degrees()
     }
 
     /// How far its turning centre goes.
-    pub(super) fn way(&self) -> f64 {
+    pub fn way(&self) -> f64 {
         (f64::from(self.last[0]) - f64::from(self.first[0])).hypot(f64::from(self.last[1]) - f64::from(self.first[1]))
     }
 }

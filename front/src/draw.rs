@@ -1,7 +1,8 @@
 //! The drawings of a card, as SVG: the outlines on squared paper, and the gap over the move.
 use super::batch::{Job, Status, Verdict};
-use super::gaps::{fraction, Sampled, PIECES};
+use super::gaps::{Sampled, PIECES};
 use super::moves::Placed;
+use super::proved::Cell;
 use super::words::{escaped, length, rounded};
 use std::fmt::Write;
 
@@ -24,7 +25,7 @@ pub struct Moments {
     pub end: f32,
     /// The fraction that the line tells, as far as a move goes.
     pub told: f32,
-    /// A sampled fraction at which the outlines touch although the search says otherwise.
+    /// A fraction at which they are in contact although the search says otherwise.
     pub missed: Option<f32>,
 }
 
@@ -319,8 +320,30 @@ fn contact(verdict: &Verdict, paper: &Paper, out: &mut String) {
     let _ = write!(out, r#"<path class="point" d="{}{}"/>"#, cross(5.0), cross(-5.0));
 }
 
-/// The gap over the move as a curve, with lines at the target and at the sum of the radii.
-pub fn curve(job: &Job, samples: &[f32], sampled: &Sampled, moments: &Moments, name: &str) -> String {
+/// The parts of a move that are proved clear, in contact or not settled, as a band of that place and size: each run of one kind by its fill and, where there is
+/// room, its letter.
+fn band(cells: &[Cell], [left, top]: Place, [wide, high]: Place, out: &mut String) {
+    let x_of = |k: usize| left + wide * k as f64 / cells.len() as f64;
+    let bottom = rounded(top + high, 2);
+    let mut from = 0;
+    while from < cells.len() {
+        let to = (from..cells.len()).find(|&k| cells[k] != cells[from]).unwrap_or(cells.len());
+        let (class, letter) = match cells[from] {
+            Cell::Clear => ("clear", "C"),
+            Cell::Touch => ("touch", "T"),
+            Cell::Open => ("open", "O"),
+        };
+        let _ = write!(out, r#"<path class="band {class}" d="M{0} {top}H{1}V{bottom}H{0}Z"/>"#, rounded(x_of(from), 2), rounded(x_of(to), 2));
+        if x_of(to) - x_of(from) > 12.0 {
+            let (x, y) = (rounded((x_of(from) + x_of(to)) / 2.0, 2), rounded(top + high - 2.5, 2));
+            let _ = write!(out, r#"<text class="in {class}" x="{x}" y="{y}">{letter}</text>"#);
+        }
+        from = to;
+    }
+}
+
+/// The gap over the move as a curve, with lines at the target and at the sum of the radii, and what is proved as a band under it.
+pub fn curve(job: &Job, samples: &[f32], cells: &[Cell], sampled: &Sampled, moments: &Moments, name: &str) -> String {
     let (left, top, wide, high) = (44.0, 12.0, 346.0, 112.0);
     let radii = f64::from(job.radius[0]) + f64::from(job.radius[1]);
     let target = f64::from(job.target());
@@ -331,7 +354,7 @@ pub fn curve(job: &Job, samples: &[f32], sampled: &Sampled, moments: &Moments, n
     let peak = (most / step).ceil() * step;
     let x_of = |k: f64| left + wide * k / PIECES as f64;
     let y_of = |gap: f64| top + high * (1.0 - gap / peak);
-    let mut out = opened("curve", "400", "152", name);
+    let mut out = opened("curve", "400", "168", name);
     let mut rules = String::new();
     for i in 0..=((peak / step).round() as usize) {
         let gap = i as f64 * step;
@@ -343,9 +366,10 @@ pub fn curve(job: &Job, samples: &[f32], sampled: &Sampled, moments: &Moments, n
         let _ = write!(rules, "M{0} {top}V{1}", rounded(x, 2), top + high);
         let said = rounded(f64::from(job.max_fraction) * quarter as f64 / 4.0, 4);
         let said = if said.contains('.') { said.trim_end_matches('0').trim_end_matches('.') } else { &said };
-        let _ = write!(out, r#"<text class="tick" x="{}" y="{}">{said}</text>"#, rounded(x, 2), top + high + 12.0);
+        let _ = write!(out, r#"<text class="tick" x="{}" y="{}">{said}</text>"#, rounded(x, 2), top + high + 28.0);
     }
-    let _ = write!(out, r#"<path class="g1" d="{rules}"/><text class="tick" x="{}" y="{}">fraction of the move</text>"#, left + wide / 2.0, top + high + 25.0);
+    let _ = write!(out, r#"<path class="g1" d="{rules}"/><text class="tick" x="{}" y="{}">fraction of the move</text>"#, left + wide / 2.0, top + high + 41.0);
+    band(cells, [left, top + high + 4.0], [wide, 12.0], &mut out);
     let mut level = |class: &str, gap: f64, anchor: &str, x: f64, said: String| {
         let y = y_of(gap);
         let _ = write!(
@@ -401,9 +425,9 @@ pub fn curve(job: &Job, samples: &[f32], sampled: &Sampled, moments: &Moments, n
 }
 
 /// The fraction told, as far as the library takes one: a hit can lie one step above 1.
-pub fn moments(job: &Job, verdict: &Verdict, missed: Option<usize>) -> Moments {
+pub fn moments(job: &Job, verdict: &Verdict, missed: Option<f32>) -> Moments {
     let told = verdict.floats[0];
-    Moments { end: job.max_fraction, told: if told >= 0.0 { told.min(1.0) } else { 0.0 }, missed: missed.map(|k| fraction(job, k)) }
+    Moments { end: job.max_fraction, told: if told >= 0.0 { told.min(1.0) } else { 0.0 }, missed }
 }
 
 #[cfg(test)]

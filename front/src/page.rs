@@ -1,24 +1,25 @@
 //! One page that a person can read: every job of a batch as a card, in words, decimals and drawings. It needs no network, and prints on A4.
-use super::batch::{answer, faults, parts, Answer, Job, Part, Status, Verdict, BLOCK};
+use super::answers::{Answers, Proved};
+use super::batch::{faults, parts, read, Answer, Job, Part, Status, Verdict, BLOCK};
 use super::digest::sha256;
 use super::draw::{curve, moments, outlines, Moments};
-use super::gaps::{fraction, samples, Sampled, PIECES};
+use super::gaps::{fraction, Sampled, PIECES};
+use super::proved::{keep_is_radii, kept, Known};
 use super::words::{escaped, length, rounded, shortest, signed};
-use super::Answers;
 use std::collections::HashMap;
 use std::fmt::Write as _;
 use std::io::{self, Write};
 
-/// How many drawings a page has unless asked for more; where more cards are told red, as many as those.
+/// How many drawings a page has unless asked for more; where there are more S that are proved to touch, as many as those.
 pub const DRAWINGS: usize = 500;
 
 /// The most jobs that one line of the summary lists.
 const LISTED: usize = 200;
 
-/// How many worked blocks get their drawings: those told red first, then the others that need a look, then the rest, each in the batch's order.
+/// How many worked blocks get their drawings: S that are proved to touch first, then the others that need a look, then the rest, each in the batch's order.
 #[derive(Clone, Copy, Debug, PartialEq, Eq)]
 pub enum Drawings {
-    /// [`DRAWINGS`], and all that are told red.
+    /// [`DRAWINGS`], and every S that is proved to touch.
     Usual,
     /// So many.
     Most(usize),
@@ -39,153 +40,160 @@ pub struct Source<'a> {
     pub names: Vec<String>,
 }
 
-/// What a sheet counts, and the jobs whose answer the samples speak against.
+/// What is counted on a page: the proved verdicts, and what the search says beside them.
 #[derive(Clone, Copy, Debug, Default, PartialEq, Eq)]
 pub struct Totals {
     /// Blocks, a short rest among them.
     pub blocks: usize,
-    /// S.
-    pub separated: usize,
-    /// H and O.
-    pub contact: usize,
-    /// F.
-    pub undecided: usize,
     /// Refused ones.
     pub refused: usize,
-    /// S of a move that turns, not told red.
-    pub turning: usize,
-    /// S, although a sampled gap is 0.
-    pub touching: usize,
-    /// S, although a sampled gap is below the target.
-    pub near: usize,
-    /// S of a half turn.
-    pub half_turns: usize,
-    /// H, although a sampled gap is 0 before the fraction told.
-    pub early: usize,
-    /// F, and a sampled gap is 0.
-    pub gave_up: usize,
+    /// For each letter, in the order of [`LETTERS`]: how many are proved clear, how many are proved to touch, and how many are not settled.
+    pub pairs: [[usize; 3]; 4],
 }
 
+/// The search's letters in the order of the totals.
+pub const LETTERS: [&str; 4] = ["S", "H", "O", "F"];
+
 impl Totals {
-    /// S that is told red.
-    pub fn red_separated(&self) -> usize {
-        self.touching + self.near + self.half_turns
+    /// How many are proved clear, proved to touch and not settled.
+    pub fn known(&self) -> [usize; 3] {
+        [0, 1, 2].map(|k| self.pairs.iter().map(|row| row[k]).sum())
+    }
+
+    /// S although they are proved to touch.
+    pub fn missed(&self) -> usize {
+        self.pairs[0][1]
+    }
+
+    /// The totals in a line or two for standard error.
+    pub fn said(&self) -> Vec<String> {
+        let [clear, touch, open] = self.known();
+        let mut out = vec![format!("{} blocks: {clear} proved clear, {touch} not clear, {open} not settled, {} refused", self.blocks, self.refused)];
+        if self.missed() > 0 {
+            out.push(format!("{} not clear although the search says S: look at them", self.missed()));
+        }
+        out
     }
 }
 
 /// Why a job needs a look, the gravest first.
 #[derive(Clone, Copy, Debug, PartialEq, Eq, PartialOrd, Ord)]
 enum Look {
-    Touching,
-    Near,
-    Early,
-    GaveUp,
-    HalfTurn,
-    Contact,
-    Undecided,
-    Turning,
+    /// S, and proved to touch.
+    Missed,
+    /// Proved to touch.
+    Touch,
+    /// Not settled.
+    Open,
     Refused,
+    /// Proved clear, and the search says otherwise.
+    Cleared,
     No,
 }
 
 impl Look {
-    /// Whether the samples speak against the answer, or say nothing of it.
-    fn warns(self) -> bool {
-        self <= Look::HalfTurn
+    /// How a card and its row are coloured.
+    fn class(self) -> &'static str {
+        match self {
+            Look::Missed => "touch warned",
+            Look::Touch => "touch",
+            Look::Open => "open",
+            Look::Refused => "refused",
+            Look::Cleared | Look::No => "clear",
+        }
     }
 }
 
 struct Row {
     answer: Answer,
+    /// What is proved of the whole move; none where the block is refused.
+    known: Option<Known>,
     sampled: Option<Sampled>,
     /// The sample with the least gap before the fraction of a hit, and that gap.
     before: Option<(usize, f32)>,
     /// The gap less the radii, at the least gap.
     clearance: f64,
     look: Look,
-    /// By how many degrees the body turns that turns more.
-    turn: f64,
     /// Which field of a refused block is at fault.
     faults: Vec<String>,
 }
 
-/// Writes the page of a batch; `progress` is told how many of how many blocks are worked.
-pub fn write(library: &dyn Answers, source: &Source, drawings: Drawings, out: &mut impl Write, progress: &mut dyn FnMut(usize, usize)) -> io::Result<Totals> {
+/// Writes the page of a batch from what the proved programs told of it, block by block.
+pub fn write(told: &[Answers], source: &Source, drawings: Drawings, out: &mut impl Write) -> io::Result<Totals> {
     let count = (source.bytes.len() + BLOCK - 1) / BLOCK;
     let mut rows = Vec::with_capacity(count);
     let mut totals = Totals { blocks: count, ..Totals::default() };
     for (i, part) in parts(source.bytes).enumerate() {
-        let row = work(library, i as u64 + 1, &part);
-        match &row.answer.told {
-            Ok(verdict) => match verdict.status {
-                Status::Separated => totals.separated += 1,
-                Status::Hit | Status::Overlapped => totals.contact += 1,
-                Status::Failed => totals.undecided += 1,
-            },
-            Err(_) => totals.refused += 1,
-        }
-        for (look, count) in [
-            (Look::Turning, &mut totals.turning),
-            (Look::Touching, &mut totals.touching),
-            (Look::Near, &mut totals.near),
-            (Look::HalfTurn, &mut totals.half_turns),
-            (Look::Early, &mut totals.early),
-            (Look::GaveUp, &mut totals.gave_up),
-        ] {
-            *count += usize::from(row.look == look);
+        let row = work(&told[i], &part);
+        match (&row.answer.told, &row.known) {
+            (Ok(verdict), Some(known)) => {
+                let column = match known.proved {
+                    Proved::Clear => 0,
+                    Proved::Touch(..) => 1,
+                    Proved::Open(_) => 2,
+                };
+                totals.pairs[place(verdict.status)][column] += 1;
+            }
+            _ => totals.refused += 1,
         }
         rows.push(row);
-        progress(i + 1, count);
     }
     let titles = titles(source, &rows);
     let drawn = drawn(&rows, drawings);
     out.write_all(head(source, &rows, &titles, &totals, &drawn).as_bytes())?;
     for (i, part) in parts(source.bytes).enumerate() {
-        out.write_all(card(library, source.unit, &titles[i], i + 1, &part, &rows[i], drawn[i]).as_bytes())?;
+        out.write_all(card(&told[i], source.unit, &titles[i], i + 1, &part, &rows[i], drawn[i]).as_bytes())?;
     }
     out.write_all(b"</main>\n</body>\n</html>\n")?;
     Ok(totals)
 }
 
-fn work(library: &dyn Answers, number: u64, part: &Part) -> Row {
-    let answer = answer(library, number, part);
-    let (verdict, job) = match (&answer.told, part) {
-        (Ok(verdict), Part::Block(block)) => (verdict, Job::of(block)),
-        (told, _) => {
+/// The place of a letter in the totals.
+fn place(status: Status) -> usize {
+    match status {
+        Status::Separated => 0,
+        Status::Hit => 1,
+        Status::Overlapped => 2,
+        Status::Failed => 3,
+    }
+}
+
+fn work(told: &Answers, part: &Part) -> Row {
+    let answer = read(told.sheet.clone());
+    let (verdict, job, known) = match (&answer.told, part, Known::of(told)) {
+        (Ok(verdict), Part::Block(block), Some(known)) => (verdict, Job::of(block), known),
+        (told, ..) => {
             let faults = told.as_ref().err().map_or(Vec::new(), |refusal| faults(part, *refusal));
-            return Row { answer, sampled: None, before: None, clearance: f64::NAN, look: Look::Refused, turn: 0.0, faults };
+            return Row { answer, known: None, sampled: None, before: None, clearance: f64::NAN, look: Look::Refused, faults };
         }
     };
-    let gaps = samples(library, &job);
-    let sampled = Sampled::of(&gaps);
-    let turns = job.turns(0) || job.turns(1);
-    let look = match verdict.status {
-        Status::Separated if sampled.touching.is_some() => Look::Touching,
-        Status::Separated if sampled.gap < job.target() || sampled.unknown > 0 => Look::Near,
-        Status::Separated if job.half_turn(0) || job.half_turn(1) => Look::HalfTurn,
-        Status::Separated if turns => Look::Turning,
-        Status::Separated => Look::No,
-        // nearer to the hit than two samples the curve cannot tell
-        Status::Hit if sampled.first_touching.map_or(false, |k| fraction(&job, k + 1) < verdict.floats[0]) => Look::Early,
-        Status::Hit | Status::Overlapped => Look::Contact,
-        Status::Failed if sampled.first_touching.is_some() => Look::GaveUp,
-        Status::Failed => Look::Undecided,
+    let gaps = &told.gaps;
+    let sampled = Sampled::of(gaps);
+    let look = match (known.proved, verdict.status) {
+        (Proved::Touch(..), Status::Separated) => Look::Missed,
+        (Proved::Touch(..), _) => Look::Touch,
+        (Proved::Open(_), _) => Look::Open,
+        (Proved::Clear, Status::Separated) => Look::No,
+        (Proved::Clear, _) => Look::Cleared,
     };
     let before = (0..gaps.len())
         .filter(|&k| verdict.status == Status::Hit && fraction(&job, k) < verdict.floats[0] && !gaps[k].is_nan())
         .map(|k| (k, gaps[k]))
         .fold(None, |least: Option<(usize, f32)>, here| least.filter(|least| least.1 <= here.1).or(Some(here)));
     let clearance = f64::from(sampled.gap) - f64::from(job.radius[0]) - f64::from(job.radius[1]);
-    let turn = job.moves[0].turn().max(job.moves[1].turn());
-    Row { sampled: Some(sampled), before, clearance, look, turn, faults: Vec::new(), answer }
+    Row { known: Some(known), sampled: Some(sampled), before, clearance, look, faults: Vec::new(), answer }
 }
 
 /// Which worked blocks get their drawings.
 fn drawn(rows: &[Row], drawings: Drawings) -> Vec<bool> {
     let mut order: Vec<usize> = (0..rows.len()).filter(|&i| rows[i].sampled.is_some()).collect();
-    let rank = |row: &Row| if row.look.warns() { 0 } else { 1 + usize::from(row.look == Look::No) };
+    let rank = |row: &Row| match row.look {
+        Look::Missed => 0,
+        Look::No => 2,
+        _ => 1,
+    };
     order.sort_by_key(|&i| rank(&rows[i]));
-    let red = rows.iter().filter(|row| row.look.warns()).count();
+    let red = rows.iter().filter(|row| row.look == Look::Missed).count();
     let most = match drawings {
         Drawings::Usual => DRAWINGS.max(red),
         Drawings::Most(most) => most,
@@ -231,8 +239,8 @@ fn margins(name: &str, blocks: usize) -> String {
     let name: String = if name.chars().count() > 60 { name.chars().take(58).chain("..".chars()).collect() } else { name.to_string() };
     let plural = if blocks == 1 { "" } else { "s" };
     format!(
-        "@page {{\n  @bottom-left {{ content: \"{}, {blocks} block{plural}\"; font: 9px sans-serif; }}\n  @bottom-right {{ content: \"page \" counter(page) \" of \" \
-         counter(pages); font: 9px sans-serif; }}\n}}\n",
+        "@page {{\n  @bottom-left {{ content: \"{}, {blocks} block{plural}\"; font: 9px sans-serif; }}\n  @bottom-right {{ content: \"page \" counter(page) \
+         \" of \" counter(pages); font: 9px sans-serif; }}\n}}\n",
         quoted(&name)
     )
 }
@@ -244,7 +252,9 @@ fn head(source: &Source, rows: &[Row], titles: &[Title], totals: &Totals, drawn:
         "<!DOCTYPE html>\n<html xmlns=\"http://www.w3.org/1999/xhtml\" lang=\"en\">\n<head>\n<meta charset=\"utf-8\"/>\n\
          <meta name=\"viewport\" content=\"width=device-width\"/>\n<title>Travel sheet: {name}</title>\n<style>\n{STYLE}{margins}</style>\n</head>\n<body>\n\
          <svg xmlns=\"http://www.w3.org/2000/svg\" width=\"0\" height=\"0\" class=\"defs\"><defs><pattern id=\"hatch\" width=\"5\" height=\"5\" \
-         patternUnits=\"userSpaceOnUse\" patternTransform=\"rotate(45)\"><path d=\"M0 0V5\" stroke=\"#555\" stroke-width=\"1.4\"/></pattern></defs></svg>\n\
+         patternUnits=\"userSpaceOnUse\" patternTransform=\"rotate(45)\"><path d=\"M0 0V5\" stroke=\"#555\" stroke-width=\"1.4\"/></pattern>\
+         <pattern id=\"dots\" width=\"4\" height=\"4\" patternUnits=\"userSpaceOnUse\"><path d=\"M0 0H4V4H0Z\" fill=\"#ffe2a0\"/>\
+         <path d=\"M1 1H2.6V2.6H1Z\" fill=\"#7a4a00\"/></pattern></defs></svg>\n\
          <header>\n<h1>Travel sheet</h1>\n<table class=\"batch\">\n<tr><th>batch</th><td>{name}</td></tr>\n<tr><th>blocks</th><td>{}</td></tr>\n",
         totals.blocks,
     );
@@ -252,30 +262,22 @@ fn head(source: &Source, rows: &[Row], titles: &[Title], totals: &Totals, drawn:
         let _ = writeln!(out, "<tr><th>unit</th><td>{}</td></tr>", escaped(source.unit));
     }
     let _ = writeln!(out, "<tr><th>SHA-256</th><td class=\"sum\">{}</td></tr>\n</table>", sha256(source.bytes));
-    out.push_str(
-        "<table class=\"totals\">\n<tr><th>blocks</th><th>S, not turning</th><th>S, turning: look</th><th>S, told red</th><th>contact (H, O)</th>\
-         <th>no verdict (F)</th><th>refused</th></tr>\n",
-    );
-    let Totals { blocks, separated, contact, undecided, refused, turning, .. } = totals;
-    let red = totals.red_separated();
-    let straight = separated - turning - red;
+    out.push_str(KEY);
+    let [clear, touch, open] = totals.known();
     let _ = writeln!(
         out,
-        "<tr id=\"totals\"><td>{blocks}</td><td>{straight}</td><td>{turning}</td><td>{red}</td><td>{contact}</td><td>{undecided}</td>\
-         <td>{refused}</td></tr>\n</table>"
+        "<table class=\"totals\">\n<tr><th>blocks</th><th>proved clear</th><th>not clear</th><th>not settled</th><th>refused</th></tr>\n\
+         <tr id=\"totals\"><td>{}</td><td class=\"clear\">{clear}</td><td class=\"touch\">{touch}</td><td class=\"open\">{open}</td><td>{}</td></tr>\n</table>",
+        totals.blocks, totals.refused
     );
     out.push_str("<h2>Which jobs need a look</h2>\n<ul class=\"looks\">\n");
     let mut none = true;
     for (look, class, said) in [
-        (Look::Touching, "red", "S, but the outlines touch or overlap at a sampled fraction: do not clear"),
-        (Look::Near, "red", "S, but they come nearer than the target at a sampled fraction"),
-        (Look::Early, "red", "hit, but they touch or overlap at a sampled fraction before it"),
-        (Look::GaveUp, "red", "no verdict, and they touch or overlap at a sampled fraction: do not clear"),
-        (Look::HalfTurn, "red", "S, but of a half turn, which has no direction: cut it into steps"),
-        (Look::Contact, "", "contact"),
-        (Look::Undecided, "", "no verdict: treat as not cleared"),
-        (Look::Turning, "", "S of a move that turns, which S does not clear: look at its gap"),
+        (Look::Missed, "red", "not clear, although the search says S"),
+        (Look::Touch, "red", "not clear"),
+        (Look::Open, "amber", "not settled: treat as not clear"),
         (Look::Refused, "", "refused: nothing was looked at"),
+        (Look::Cleared, "", "proved clear, although the search says H, O or F: the card says why"),
     ] {
         let found: Vec<usize> = (0..rows.len()).filter(|&i| rows[i].look == look).collect();
         if found.is_empty() {
@@ -295,76 +297,88 @@ fn head(source: &Source, rows: &[Row], titles: &[Title], totals: &Totals, drawn:
         out.push_str("<li>none</li>\n");
     }
     out.push_str("</ul>\n");
+    letters(totals, &mut out);
     out.push_str(READING);
     let (worked, shown) = (rows.iter().filter(|row| row.sampled.is_some()).count(), drawn.iter().filter(|drawn| **drawn).count());
     if shown < worked {
         let _ = writeln!(
             out,
-            "<p>Drawings: {shown} of {worked} worked blocks, those told red first, then the others that need a look; \
+            "<p>Drawings: {shown} of {worked} worked blocks, S that are not clear first, then the others that need a look; \
              <code>page --drawings all</code> makes them all.</p>"
         );
     }
-    table(rows, titles, &mut out);
+    table(source, rows, titles, &mut out);
     out.push_str("</header>\n<main>\n");
     out
 }
 
-fn table(rows: &[Row], titles: &[Title], out: &mut String) {
+/// What the search says beside what is proved.
+fn letters(totals: &Totals, out: &mut String) {
+    out.push_str("<table class=\"letters\">\n<tr><th>the search says</th><th>proved clear</th><th>not clear</th><th>not settled</th></tr>\n");
+    for (letter, row) in LETTERS.iter().zip(totals.pairs) {
+        let [clear, touch, open] = row;
+        let _ = writeln!(out, "<tr id=\"letter{letter}\"><th>{letter}</th><td>{clear}</td><td>{touch}</td><td>{open}</td></tr>");
+    }
+    out.push_str("</table>\n");
+}
+
+fn table(source: &Source, rows: &[Row], titles: &[Title], out: &mut String) {
     let named = titles.iter().any(|title| !title.name.is_empty());
     let name_head = if named { "<th>name</th>" } else { "" };
     let _ = writeln!(
         out,
-        "<h2>All jobs</h2>\n<table class=\"jobs\">\n<thead><tr><th>block</th><th>job</th>{name_head}<th></th><th>said</th>\
-         <th>least sampled gap</th><th>clearance</th></tr></thead>\n<tbody>"
+        "<h2>All jobs</h2>\n<table class=\"jobs\">\n<thead><tr><th>block</th><th>job</th>{name_head}<th>proved</th><th></th><th>the search</th>\
+         <th>least sampled gap</th></tr></thead>\n<tbody>"
     );
-    for (i, row) in rows.iter().enumerate() {
-        let number = |x: f64, said: String| if x.is_nan() { "no number".to_string() } else { said };
-        let [least, clearance] = match row.sampled {
-            None => [String::new(), String::new()],
-            Some(sampled) => {
-                let gap = f64::from(sampled.gap);
-                [number(gap, length(gap, 4)), number(gap, signed(row.clearance, 4))]
-            }
+    for (i, (row, part)) in rows.iter().zip(parts(source.bytes)).enumerate() {
+        let least = row.sampled.map_or(String::new(), |sampled| match sampled.gap.is_nan() {
+            true => "no number".to_string(),
+            false => length(f64::from(sampled.gap), 4),
+        });
+        let (word, known) = match (&row.known, &part) {
+            (Some(known), Part::Block(block)) => (known.word(), known.short(&Job::of(block))),
+            _ => ("–", short(row)),
         };
-        let class = if row.look.warns() { " class=\"red\"" } else { "" };
+        let search = if row.known.is_some() { short(row) } else { String::new() };
         let name = if named { format!("<td class=\"words\">{}</td>", titles[i].name) } else { String::new() };
         let _ = writeln!(
             out,
-            "<tr{class}><td>{0}</td><td><a href=\"#block{0}\">{1}</a></td>{name}<td>{2}</td><td class=\"words\">{3}</td><td>{least}</td><td>{clearance}</td></tr>",
+            "<tr class=\"{2}\"><td>{0}</td><td><a href=\"#block{0}\">{1}</a></td>{name}<td><b>{word}</b></td><td class=\"words known\">{known}</td>\
+             <td>{3}</td><td>{least}</td></tr>",
             i + 1,
             row.answer.job,
-            letter(&row.answer),
-            short(row),
+            row.look.class(),
+            search,
         );
     }
     out.push_str("</tbody>\n</table>\n");
 }
 
+/// What a setter must know, on the first sheet.
+const KEY: &str = "\
+<ul class=\"key\">\n\
+<li class=\"clear\"><b>CLEAR clears the planned move</b>: proved at every moment of it, not at samples.</li>\n\
+<li class=\"touch\"><b>TOUCH does not</b>: proved contact, at some moment, within the distance to keep.</li>\n\
+<li class=\"open\"><b>OPEN does not</b>: nothing is known after the fraction told. Nor does a refusal: nothing was looked at.</li>\n\
+<li><b>The search\'s letters S, H, O and F clear nothing</b>: S does not look into a turn, H can come late, F is no verdict.</li>\n\
+<li><b>Proved of straight outlines on the move as planned</b>, not of what sticks out of them, nor of the way that a cart takes instead.</li>\n</ul>\n";
+
 const READING: &str = "\
 <h2>How to read it</h2>\n<ul class=\"notes\">\n\
-<li><b>S speaks of one axis, where the search stood and at the end, not of the whole move.</b> A corner that swings in and out in between is missed: the \
-gap over the move shows it. That gap is sampled at 257 fractions of what is planned; <b>sampled is not proved</b>: between two samples the outlines may \
-come nearer. And a sampled 0 need not be contact: tiny sides, the limit of 20 rounds, and the middle of a half turn can give 0 although the outlines are \
-apart.</li>\n\
-<li>The gap is the distance of the outlines without their radii, the clearance what the radii leave of it: bodies with radii meet where it is 0. The search \
-calls it contact at the target. The lines in each curve show both.</li>\n\
-<li>Numbers are rounded to the nearest for reading: fractions to four places, angles to a tenth of a degree, coordinates to two places and gaps to four; \
-where a job is small to more, as its card says. Exact bits, and the shortest decimals that read back to them, are in each card's fold-out.</li>\n\
-<li>Drawings: A is grey, B is hatched. Thin line: at the start; thick: at the fraction told; dashed: at the end of what is planned; dotted red: at a \
-sampled fraction where they touch though the search says otherwise. Dash-dotted arrow: the way of the turning centre. Corners are numbered from 0 as on the \
+<li><b>What is proved</b> comes from <code>clearance</code>, in exact arithmetic over the numbers of the block. The distance to keep is the larger of the slop \
+and the radii together. A fraction up to which they are further apart is rounded down, one by which they are within it up.</li>\n\
+<li><b>The distance that a clear move keeps</b> was found by asking for more: twice as much until that is no longer proved, then ten times halfway \
+between what is proved and what is not. The last that was proved is told, less the radii, rounded down to three digits. More may hold.</li>\n\
+<li><b>The band</b> under each curve has the planned move in 64 equal parts. C: proved clear over all of the part. T: a proved contact in it. O: not \
+settled.</li>\n\
+<li><b>The curve is sampled, not proved</b>: the distance of the outlines without radii at 257 fractions of what is planned, as the search works it. Between \
+two samples they may come nearer, and tiny sides, the limit of 20 rounds and the middle of a half turn can give 0 although they are apart. Lines show the \
+target, at which the search calls it contact, and the radii together.</li>\n\
+<li>Other numbers are rounded to the nearest for reading: fractions to four places, angles to a tenth of a degree, coordinates to two places and gaps to four; \
+where a job is small to more, as its card says. Exact bits, and the shortest decimals that read back to them, are in each card\'s fold-out.</li>\n\
+<li>Drawings: A is grey, B is hatched. Thin line: at the start; thick: at the fraction that the search tells; dashed: at the end of what is planned; dotted \
+red: in contact, where the search says otherwise. Dash-dotted arrow: the way of the turning centre. Corners are numbered from 0 as on the \
 sheet; the outline drawn is the smallest convex shape around them. Cross and arrow: the point and the normal, from A to B.</li>\n</ul>\n";
-
-fn letter(answer: &Answer) -> &'static str {
-    match &answer.told {
-        Ok(verdict) => match verdict.status {
-            Status::Overlapped => "O",
-            Status::Hit => "H",
-            Status::Separated => "S",
-            Status::Failed => "F",
-        },
-        Err(_) => "–",
-    }
-}
 
 fn short(row: &Row) -> String {
     let verdict = match &row.answer.told {
@@ -374,19 +388,11 @@ fn short(row: &Row) -> String {
             return format!("refused by {number}: {}", escaped(why));
         }
     };
-    match (verdict.status, row.look) {
-        (Status::Separated, Look::Touching) => "S, but sampled contact: do not clear".to_string(),
-        (Status::Separated, Look::Near) => "S, but sampled below the target".to_string(),
-        (Status::Separated, Look::HalfTurn) => "S, but of a half turn: cut it into steps".to_string(),
-        (Status::Separated, Look::Turning) => format!("S, but it turns by {}°: look", rounded(row.turn, 1)),
-        (Status::Separated, _) => "S, and nothing turns".to_string(),
-        (Status::Hit, look) => {
-            let early = if look == Look::Early { ", but sampled contact before it" } else { "" };
-            format!("hit at {}{early}", rounded(f64::from(verdict.floats[0]), 4))
-        }
-        (Status::Overlapped, _) => "touching or overlapping".to_string(),
-        (Status::Failed, Look::GaveUp) => "no verdict, and sampled contact: do not clear".to_string(),
-        (Status::Failed, _) => "no verdict: treat as not cleared".to_string(),
+    match verdict.status {
+        Status::Separated => "S".to_string(),
+        Status::Hit => format!("H at {}", rounded(f64::from(verdict.floats[0]), 4)),
+        Status::Overlapped => "O".to_string(),
+        Status::Failed => format!("F, gave up at {}", rounded(f64::from(verdict.floats[0]), 4)),
     }
 }
 
@@ -403,31 +409,32 @@ fn places(job: &Job) -> (usize, usize) {
     (more(2, size, 2.0), more(4, f64::from(job.slop), 1.0))
 }
 
-fn card(library: &dyn Answers, unit: &str, title: &Title, number: usize, part: &Part, row: &Row, drawn: bool) -> String {
+fn card(told: &Answers, unit: &str, title: &Title, number: usize, part: &Part, row: &Row, drawn: bool) -> String {
     let job = match row.answer.job {
         0 => format!("Block {number}"),
         job => format!("Job {job}"),
     };
-    let class = if row.look.warns() { "card warned" } else { "card" };
     let name = if title.name.is_empty() { String::new() } else { format!(" <span class=\"name\">{}</span>", title.name) };
     let mut out = format!(
-        "<section class=\"{class}\" id=\"block{number}\">\n<h3><span class=\"letter\">{}</span> {job}{name} <small>block {number}</small></h3>\n",
-        letter(&row.answer)
+        "<section class=\"card {}\" id=\"block{number}\">\n<h3><span class=\"mark\">{}</span> {job}{name} <small>block {number}</small></h3>\n",
+        row.look.class(),
+        row.known.as_ref().map_or("refused", Known::word),
     );
-    match (&row.answer.told, part, row.sampled) {
-        (Ok(verdict), Part::Block(block), Some(sampled)) => {
-            let worked = Worked { job: &Job::of(block), verdict, sampled: &sampled, row, unit };
-            worked.write(library, &format!("{job}, block {number}"), drawn, &mut out);
+    match (&row.answer.told, part, row.sampled, &row.known) {
+        (Ok(verdict), Part::Block(block), Some(sampled), Some(known)) => {
+            let worked = Worked { job: &Job::of(block), verdict, known, sampled: &sampled, row, unit };
+            worked.write(told, &format!("{job}, block {number}"), drawn, &mut out);
         }
         (Err(refusal), ..) => refused(*refusal, &row.faults, &mut out),
         _ => {}
     }
-    exact(part, row, &mut out);
+    exact(part, told, row, &mut out);
     out.push_str("</section>\n");
     out
 }
 
-fn reason(refusal: u32) -> &'static str {
+/// What a refusal says.
+pub fn reason(refusal: u32) -> &'static str {
     match refusal {
         3 => "a corner is not a number, or lies too far out",
         4 => "a radius is not a number, below 0, or too large",
@@ -444,20 +451,18 @@ fn reason(refusal: u32) -> &'static str {
 }
 
 fn refused(refusal: u32, faults: &[String], out: &mut String) {
-    let _ = writeln!(out, "<p class=\"said\">Refused by {refusal}: {}.</p>", escaped(reason(refusal)));
+    let _ = writeln!(out, "<p class=\"proved\">Refused by {refusal}: {}.</p>", escaped(reason(refusal)));
     for fault in faults {
         let _ = writeln!(out, "<p class=\"fault\">At fault: {}.</p>", escaped(fault));
     }
     out.push_str("<p>Nothing was looked at: this is no answer about the move.</p>\n");
 }
 
-/// What a sampled 0 is worth.
-const SAMPLED: &str = "This is sampled, not proved: tiny sides and the round limit can give 0 without contact.";
-
 /// A block that was worked.
 struct Worked<'a> {
     job: &'a Job,
     verdict: &'a Verdict,
+    known: &'a Known,
     sampled: &'a Sampled,
     row: &'a Row,
     unit: &'a str,
@@ -469,18 +474,17 @@ impl Worked<'_> {
         rounded(f64::from(fraction(self.job, k)), places)
     }
 
-    fn write(&self, library: &dyn Answers, title: &str, drawn: bool, out: &mut String) {
+    fn write(&self, told: &Answers, title: &str, drawn: bool, out: &mut String) {
         let (places, gap_places) = places(self.job);
+        let _ = writeln!(out, "<p class=\"proved\">{}</p>", self.known.sentence(self.job));
         let _ = writeln!(out, "<p class=\"said\">{}</p>", self.sentence(places));
-        self.warnings(gap_places, out);
+        for why in self.reasons() {
+            let _ = writeln!(out, "<p class=\"why\">{why}</p>");
+        }
         if let Some(said) = self.padding() {
             let _ = writeln!(out, "<p class=\"pad\">{said}</p>");
         }
-        let missed = match self.row.look {
-            Look::Touching => self.sampled.middle(),
-            Look::Early | Look::GaveUp => self.sampled.first_touching,
-            _ => None,
-        };
+        let missed = self.missed();
         let moments = moments(self.job, self.verdict, missed);
         out.push_str("<div class=\"sides\">\n");
         if drawn {
@@ -494,77 +498,117 @@ impl Worked<'_> {
         self.facts(&moments, places, gap_places, out);
         out.push_str("</table>\n");
         if drawn {
-            let svg = curve(self.job, &samples(library, self.job), self.sampled, &moments, &format!("{title}: the gap over the move"));
-            let _ = writeln!(out, "<figure>{svg}\n<figcaption>the gap over the move, {} samples, not proved between them</figcaption></figure>", PIECES + 1);
+            let svg = curve(self.job, &told.gaps, &self.known.cells, self.sampled, &moments, &format!("{title}: the gap over the move"));
+            let _ = writeln!(
+                out,
+                "<figure>{svg}\n<figcaption>curve: the gap at {} samples, not proved between them; band, proved: C clear, T contact, \
+                 O not settled</figcaption></figure>",
+                PIECES + 1
+            );
         }
         out.push_str("</div>\n</div>\n");
     }
 
-    /// The status said plainly.
+    /// The letter, and what it is worth.
     fn sentence(&self, places: usize) -> String {
         let [t, x, y, ..] = self.verdict.floats.map(f64::from);
         let (t, x, y) = (rounded(t, 4), rounded(x, places), rounded(y, places));
         match self.verdict.status {
-            Status::Separated => "S: separated along one axis, where the search stood and at the end.".to_string(),
-            Status::Hit => format!("Hit at {t} of the move, at x {x} y {y}."),
+            Status::Separated => "The search says S: separated along one axis, where it stood and at the end; it does not look in between.".to_string(),
+            Status::Hit => format!("The search says H: hit at {t} of the move, at x {x} y {y}; that nothing touches before is not proved by it."),
             Status::Overlapped => {
-                "Touching or overlapping where the search stood. (Its fraction is printed as 0, although the search may have got further.)".to_string()
+                "The search says O: touching or overlapping where it stood. (Its fraction is printed as 0, although it may have got further.)".to_string()
             }
-            Status::Failed => format!("No verdict: treat as not cleared. The search gave up where it stood, at {t} of the move; they may overlap before that."),
+            Status::Failed => format!("The search says F, no verdict: it gave up where it stood, at {t} of the move."),
         }
     }
 
-    fn warnings(&self, gap_places: usize, out: &mut String) {
-        let mut red = |said: String, more: String| {
-            let _ = writeln!(out, "<p class=\"red\">{said}</p>");
-            if !more.is_empty() {
-                let _ = writeln!(out, "<p>{more}</p>");
+    /// Where the search and what is proved disagree, why; and what else has to be known of such a verdict.
+    fn reasons(&self) -> Vec<String> {
+        let (job, status) = (self.job, self.verdict.status);
+        let turning = job.turns(0) || job.turns(1);
+        let (slop, radii) = (f64::from(job.slop), f64::from(job.radius[0]) + f64::from(job.radius[1]));
+        // the search calls it contact within a quarter of the slop of the target, and with radii that is an overlap
+        let target = slop.max(radii - slop);
+        let [least, most] = [target - slop / 4.0, target + slop / 4.0];
+        let overlaps = radii > most;
+        let turn = format!(
+            "a turn, by {}°, that the search does not look into: it looks along one axis at a time, and at the ends of an interval",
+            rounded(job.moves[0].turn().max(job.moves[1].turn()), 1)
+        );
+        let early = "the search tells a hit up to a quarter of the slop before the target";
+        let off = "the search works with rounded numbers, and is off by that much here";
+        let hit = self.verdict.floats[0];
+        let mut out = Vec::new();
+        match (status, self.known.proved) {
+            (Status::Separated, Proved::Touch(..)) => {
+                let why = match (overlaps && f64::from(self.sampled.gap) > most, turning) {
+                    (true, _) => "with radii S lets the bodies overlap by up to three quarters of the slop",
+                    (false, true) => &turn,
+                    (false, false) => off,
+                };
+                out.push(format!("Why S, and yet not clear: {why}."));
             }
-        };
-        let told = rounded(f64::from(self.verdict.floats[0]), 2);
-        let run = self
-            .sampled
-            .touching
-            .map_or(String::new(), |[from, to]| format!("Sampled gap 0 from {} to {} of the move. {SAMPLED}", self.at(from, 4), self.at(to, 4)));
-        let first = self.sampled.first_touching.map_or(String::new(), |k| self.at(k, 2));
-        match self.row.look {
-            Look::Touching => {
-                let at = self.at(self.sampled.middle().unwrap_or(0), 2);
-                red(format!("the search says S, but at {at} of the move the outlines touch or overlap: do not clear"), run);
+            (Status::Hit, Proved::Touch(_, t)) if hit > t => {
+                let why = match (self.row.before.map_or(true, |(_, gap)| f64::from(gap) > least), overlaps, turning) {
+                    (true, true, _) => "with radii the search tells a hit only where the bodies overlap by about a slop",
+                    (true, false, _) => "the search tells a hit up to a quarter of the slop behind the target",
+                    (false, _, true) => &turn,
+                    (false, _, false) => off,
+                };
+                out.push(format!("Why the hit is told later than the contact: {why}."));
             }
-            Look::Near => {
-                if self.sampled.gap < self.job.target() {
-                    let [gap, target] = [self.sampled.gap, self.job.target()].map(|x| length(f64::from(x), gap_places));
-                    let at = self.at(self.sampled.least, 2);
-                    let said = format!(
-                        "the search says S, but at {at} of the move the outlines are only {gap} apart, less than the target {target}: look before clearing"
-                    );
-                    red(said, "Sampled, not proved.".to_string());
+            (Status::Hit, Proved::Touch(u, _)) if f64::from(u) - f64::from(hit) > 1e-4 => {
+                let why = if overlaps { off } else { early };
+                out.push(format!("Why the hit is told before they are within that distance: {why}."));
+            }
+            (Status::Hit, Proved::Clear) => {
+                let near = self.known.room.map_or(true, |room| f64::from(room) <= most);
+                let why = if near && !overlaps { early } else { off };
+                out.push(format!("Why H, and yet clear: {why}."));
+            }
+            (Status::Overlapped, Proved::Clear) => {
+                out.push("Why O, and yet clear: where sides are tiny, or its rounds run out, the search tells O of outlines that are apart.".to_string());
+            }
+            (Status::Overlapped, Proved::Touch(u, _)) if u > 0.0 => {
+                out.push("Why O, and yet a contact later than the start: the search had got further than the 0 that it prints.".to_string());
+            }
+            (Status::Failed, Proved::Clear) => {
+                out.push("Why no verdict, and yet clear: the search gave up, which says nothing of the move.".to_string());
+            }
+            (Status::Failed, Proved::Touch(..)) => {
+                out.push("Why no verdict, and yet a contact: the search gave up, which says nothing of the move.".to_string());
+            }
+            (_, Proved::Open(_)) => {
+                out.push("Neither clears it: what the search says is not proved. Cut the move into steps, or leave more room.".to_string());
+                if let Some(k) = self.sampled.first_touching {
+                    out.push(format!("Sampled, not proved: at {} of the move the outlines touch or overlap.", self.at(k, 4)));
                 }
-                if self.sampled.unknown > 0 {
-                    red(format!("the search says S, but {} sampled gaps are no number: look before clearing", self.sampled.unknown), String::new());
-                }
-            }
-            Look::Early => {
-                red(format!("the search tells a hit at {told}, but already at {first} of the move the outlines touch or overlap"), SAMPLED.to_string());
-            }
-            Look::GaveUp => {
-                red(format!("the search gave up at {told}, and at {first} of the move the outlines touch or overlap: do not clear"), run);
             }
             _ => {}
         }
-        for body in 0..2 {
-            if self.job.half_turn(body) {
-                let name = ["A", "B"][body];
-                red(format!("{name} makes a half turn, which has no direction and no pose halfway: cut it into steps"), String::new());
+        if self.known.proved != Proved::Clear {
+            for (_, name) in ["A", "B"].iter().enumerate().filter(|(body, _)| job.half_turn(*body)) {
+                out.push(format!("{name} makes a half turn, which has no direction and no pose halfway: cut it into steps."));
             }
+        } else if self.sampled.first_touching.is_some() || self.sampled.unknown > 0 {
+            out.push("The sampled curve says otherwise, and is wrong: tiny sides, the round limit and the middle of a half turn do that.".to_string());
         }
-        if self.row.look == Look::Turning {
-            let turn = rounded(self.row.turn, 1);
-            let _ = writeln!(
-                out,
-                "<p class=\"look\">It turns by {turn}°, and S does not clear a turn: look at the gap below, which is sampled, or cut the turn into steps.</p>"
-            );
+        out
+    }
+
+    /// A moment to draw at which they are in contact, where the search tells none or a later one; a sampled one where nothing is proved.
+    fn missed(&self) -> Option<f32> {
+        let t = match (self.verdict.status, self.known.proved) {
+            (Status::Separated | Status::Failed, Proved::Touch(_, t)) => t,
+            (Status::Hit, Proved::Touch(_, t)) if self.verdict.floats[0] > t => t,
+            (_, Proved::Open(_)) => return self.sampled.first_touching.map(|k| fraction(self.job, k)),
+            _ => return None,
+        };
+        match (self.verdict.status, self.sampled.middle()) {
+            // deep in it, where that was sampled
+            (Status::Separated, Some(k)) => Some(fraction(self.job, k)),
+            _ => Some(t),
         }
     }
 
@@ -592,7 +636,7 @@ impl Worked<'_> {
     fn facts(&self, moments: &Moments, places: usize, gap_places: usize, out: &mut String) {
         let (job, verdict, sampled) = (self.job, self.verdict, self.sampled);
         // what a printed card has no room for
-        let more = ["point", "normal", "last search", "work", "rounded"];
+        let more = ["point", "normal", "last search", "work", "rounded", "target"];
         let mut row = |name: &str, said: String| {
             let class = if more.contains(&name) { " class=\"more\"" } else { "" };
             let _ = writeln!(out, "<tr{class}><th>{name}</th><td>{said}</td></tr>");
@@ -652,6 +696,7 @@ impl Worked<'_> {
             let [a, b] = job.radius.map(|r| length(f64::from(r), places.max(4)));
             row("radii", format!("A {a}, B {b}"));
         }
+        row("distance to keep", format!("{} ({})", kept(job), if keep_is_radii(job) { "the radii together" } else { "the slop" }));
         row("target", format!("{} (slop {})", length(f64::from(job.target()), gap_places), length(f64::from(job.slop), gap_places)));
         let told = |gap: f32, k: usize| format!("{} at {} of the move", length(f64::from(gap), gap_places), self.at(k, 4));
         let least = if sampled.gap.is_nan() { "no number".to_string() } else { told(sampled.gap, sampled.least) };
@@ -692,10 +737,13 @@ fn degrees(job: &Job, body: usize, t: f32) -> Option<f64> {
     job.moves[body].placed(t).map(|placed| placed.rotation[1].atan2(placed.rotation[0]).to_degrees())
 }
 
-/// The fold-out: the sheet's line, and every number by its bits and its shortest decimal.
-fn exact(part: &Part, row: &Row, out: &mut String) {
+/// The fold-out: the programs' lines, and every number by its bits and its shortest decimal.
+fn exact(part: &Part, told: &Answers, row: &Row, out: &mut String) {
     out.push_str("<details><summary>exact numbers</summary>\n<pre>");
     let _ = writeln!(out, "line on the sheet\n<code>{}</code>", escaped(&row.answer.line));
+    if row.known.is_some() {
+        let _ = writeln!(out, "line of clearance\n<code>{}</code>\nline of rooms\n<code>{}</code>", escaped(&told.clearance), escaped(&told.rooms));
+    }
     if let (Ok(verdict), Part::Block(block)) = (&row.answer.told, part) {
         let job = Job::of(block);
         let mut number = |name: &str, x: f32| {
