@@ -197,6 +197,7 @@ ends "help of a verb" 0 "" ff help check; grep -q "^usage: foldflake check" "$wo
 # from another folder, by a link, with a name that has a blank
 cp examples/shift.batch "$work/a shift.batch"; program sheet < examples/shift.batch > "$work/expected"
 root="$PWD"; ends "from another folder" 0 "" eval "(cd '$work' && '$root/foldflake' sheet 'a shift.batch')"; prints "$work/expected" "from another folder"
+ln -s "$root/foldflake" "$work/link"; ends "by a link" 0 "" "$work/link" sheet examples/shift.batch; prints "$work/expected" "by a link"
 
 # a proof that fails: told, status 2, and no program is run; by another kit's name, which makes every program one that is to be proved
 mkdir "$work/kit"
