@@ -90,7 +90,8 @@ for verb in convert salvage; do
 done
 ends "convert, blocks refused" 2 "are refused, and not in what it wrote" ff convert examples/every-answer.batch "$work/other.batch"
 head -c 700 examples/shift.batch > "$work/torn"
-ends "salvage of a torn batch" 0 "" ff salvage "$work/torn" "$work/found"; [ "$(cat "$work/printed")" = $'512 188\nTOTAL 1 188' ] || wrong "salvage: $(cat "$work/printed")"
+ends "salvage of a torn batch" 0 "" ff salvage "$work/torn" "$work/found"
+[ "$(cat "$work/printed")" = $'512 188\nTOTAL 1 188' ] || wrong "salvage: $(cat "$work/printed")"
 
 # text
 ends "text" 0 "15 jobs written" ff text examples/shift.txt "$work/made.batch"; nothing text
@@ -121,7 +122,8 @@ for file in examples/shift.txt examples/shift.batch examples/every-answer.batch 
 done
 ends "check -" 1 "" eval 'ff check - < examples/shift.batch'; cp "$work/printed" "$work/expected"
 ends "check shift.batch" 1 "" ff check examples/shift.batch; prints "$work/expected" "check -"
-grep -q '^2113: NOT CLEAR: clear up to 0.1872 of the move, contact by 0.1873; warning: the search says S, which does not clear a move$' "$work/printed" || wrong "job 2113"
+swing='2113: NOT CLEAR: clear up to 0.1872 of the move, contact by 0.1873; warning: the search says S, which does not clear a move'
+grep -qxF "$swing" "$work/printed" || wrong "job 2113"
 ends "check, two files" 1 "" ff check examples/shift.batch examples/fractions.batch
 [ "$(tail -n 6 "$work/printed" | tr -s ' ')" = "2 files, 24 jobs: 5 proved clear, 17 not clear, 0 not settled, 2 refused
 the search says CLEAR TOUCH OPEN
@@ -141,7 +143,8 @@ ends "check, no name of a page" 2 "--page takes a name" ff check examples/shift.
 ends "page" 0 "*" ff page --text examples/shift.txt examples/shift.batch "$work/other.html"; nothing page
 cmp -s "$work/other.html" <(sed 's/shift\.txt/shift.batch/g; s/shift\\2e txt/shift\\2e batch/' "$work/page.html") || wrong "page: other than check's"
 ends "csv" 0 "" ff csv examples/every-answer.batch
-[ "$(wc -l < "$work/printed")" = 32 ] && [ "$(head -n 1 "$work/printed" | cut -d , -f 1-7)" = block,job,refusal,reason,status,fraction,fraction_bits ] || wrong "csv"
+[ "$(wc -l < "$work/printed")" = 32 ] || wrong "csv: $(wc -l < "$work/printed") lines"
+[ "$(head -n 1 "$work/printed" | cut -d , -f 1-7)" = block,job,refusal,reason,status,fraction,fraction_bits ] || wrong "csv: its header"
 if command -v python3 > /dev/null; then
   cp "$work/printed" "$work/csv"
   ends "json" 0 "" ff json examples/every-answer.batch
@@ -149,17 +152,22 @@ if command -v python3 > /dev/null; then
   python3 tests/programs/tables.py "$work/csv" "$work/printed" "$work/sheet" "$work/clearance" || wrong "csv or json"
 fi
 
-# a program whose output is not whole: status 2, and no file is replaced
-mkdir "$work/torn-bin"; cp "$bin"/* "$work/torn-bin"; for name in sheet clearance; do rm "$work/torn-bin/$name"; : > "$work/torn-bin/$name"; chmod +x "$work/torn-bin/$name"; done
+# programs that do not start, and programs whose last line is cut off: status 2, and no file is replaced
+mkdir "$work/torn-bin"; cp "$bin"/* "$work/torn-bin"
+for name in sheet clearance; do : > "$work/torn-bin/$name"; done
+printf '#!/bin/sh\n%s "$@" | sed "\\$d"\n' "$run" > "$work/cut"; chmod +x "$work/cut"
 for verb in "sheet $clear" "clearance $clear" "check $clear" "csv $clear" "json $clear" "page $clear $work/page.html" "check $clear --page $work/page.html"; do
-  ends "${verb%% *}, a program that is torn" 2 "*" env PROGRAMS="$work/torn-bin" ./foldflake $verb; nothing "${verb%% *}, torn"
+  ends "${verb%% *}, a program that does not start" 2 "*" env PROGRAMS="$work/torn-bin" ./foldflake $verb; nothing "${verb%% *}, not started"
+  ends "${verb%% *}, a program's last line cut off" 2 "printed is not whole" env RUN="$work/cut" ./foldflake $verb
+  case $verb in sheet* | clearance*) [ "$(wc -l < "$work/printed")" = 2 ] || wrong "$verb, cut off" ;; *) nothing "$verb, cut off" ;; esac
 done
 rm "$work/torn-bin/sheet"; ends "a program that is missing" 2 "there is no such program" env PROGRAMS="$work/torn-bin" ./foldflake sheet "$clear"
 cmp -s "$work/page.html" "$work/before.html" || wrong "a torn program replaced the page"
 
 # faults and usage
 ends "no verb" 2 "their output is whole" ff; ends "a verb that is none" 2 "there is no such verb" ff jobs x
-for verb in check page text csv json clearance all-clear sheet sheet64 any-contact report route route-clearance unpack pack convert salvage jobtext routetext; do
+for verb in check page text csv json clearance all-clear sheet sheet64 any-contact report route route-clearance unpack pack convert salvage jobtext \
+  routetext; do
   ends "$verb without a name" 2 "usage: foldflake $verb" ff $verb; nothing "$verb without a name"
   ends "$verb --help" 0 "" ff $verb --help; grep -q "^usage: foldflake $verb " "$work/printed" || wrong "$verb --help"
   case $verb in page | text | convert | salvage) out="$work/nowhere" ;; *) out="" ;; esac
@@ -183,11 +191,18 @@ done
 ends "progress" 1 "*" eval "FOLDFLAKE_PROGRESS=yes ff check $work/long"
 [ "$(grep -c '^clearance: 10[05]0 of 1050 blocks, ' "$work/told")" = 2 ] || wrong "progress: $(cat "$work/told")"
 ends "--version" 0 "" ff --version
-[ "$(sed 's/ .*//' "$work/printed" | tr '\n' ' ')" = "foldflake kit commit " ] && grep -qF "$(rt version)" "$work/printed" || wrong "--version: $(cat "$work/printed")"
+[ "$(sed 's/ .*//' "$work/printed" | tr '\n' ' ')" = "foldflake kit commit " ] && grep -qF "$(rt version)" "$work/printed" \
+  || wrong "--version: $(cat "$work/printed")"
 ends "help of a verb" 0 "" ff help check; grep -q "^usage: foldflake check" "$work/printed" || wrong "help check"
 # from another folder, by a link, with a name that has a blank
 cp examples/shift.batch "$work/a shift.batch"; program sheet < examples/shift.batch > "$work/expected"
 root="$PWD"; ends "from another folder" 0 "" eval "(cd '$work' && '$root/foldflake' sheet 'a shift.batch')"; prints "$work/expected" "from another folder"
+
+# a proof that fails: told, status 2, and no program is run; by another kit's name, which makes every program one that is to be proved
+mkdir "$work/kit"
+printf '#!/bin/sh\ncase $1 in version) echo another ;; check) echo "rt: sheet is not proved"; exit 1 ;; esac\n' > "$work/kit/rt"; chmod +x "$work/kit/rt"
+ends "a proof that fails" 2 "rt check ended with status 1: see $PWD/target/foldflake.log" env -u PROGRAMS PATH="$work/kit:$PATH" ./foldflake sheet "$clear"
+nothing "a proof that fails"; grep -q '^rt: sheet is not proved$' "$work/told" || wrong "a proof that fails: $(cat "$work/told")"
 
 # install and uninstall
 ends "install" 0 "takes them away" ff install "$work/there"
