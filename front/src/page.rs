@@ -359,7 +359,7 @@ const KEY: &str = "\
 <ul class=\"key\">\n\
 <li class=\"clear\"><b>CLEAR clears the planned move</b>: proved at every moment of it, not at samples.</li>\n\
 <li class=\"touch\"><b>TOUCH does not</b>: proved contact, at some moment, within the distance to keep.</li>\n\
-<li class=\"open\"><b>OPEN does not</b>: nothing is known after the fraction told. Nor does a refusal: nothing was looked at.</li>\n\
+<li class=\"open\"><b>OPEN does not</b>: the proof comes no further than the fraction told. Nor does a refusal: nothing was looked at.</li>\n\
 <li><b>The search\'s letters S, H, O and F clear nothing</b>: S does not look into a turn, H can come late, F is no verdict.</li>\n\
 <li><b>Proved of straight outlines on the move as planned</b>, not of what sticks out of them, nor of the way that a cart takes instead.</li>\n</ul>\n";
 
@@ -602,7 +602,7 @@ impl Worked<'_> {
         let t = match (self.verdict.status, self.known.proved) {
             (Status::Separated | Status::Failed, Proved::Touch(_, t)) => t,
             (Status::Hit, Proved::Touch(_, t)) if self.verdict.floats[0] > t => t,
-            (_, Proved::Open(_)) => return self.sampled.first_touching.map(|k| fraction(self.job, k)),
+            (Status::Separated | Status::Hit | Status::Failed, Proved::Open(_)) => return self.sampled.first_touching.map(|k| fraction(self.job, k)),
             _ => return None,
         };
         match (self.verdict.status, self.sampled.middle()) {

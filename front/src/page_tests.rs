@@ -262,7 +262,7 @@ fn where_nothing_is_settled_samples_are_told() {
     let bytes: Vec<u8> = words.iter().flat_map(|word| word.to_le_bytes()).collect();
     let (page, totals) = page(&bytes, 1);
     assert_eq!(totals.pairs[3], [0, 0, 1], "{page}");
-    assert_eq!(opens(&page), "not settled after 0.3386: further apart than 0.005 up to there, and nothing is proved of what follows");
+    assert_eq!(opens(&page), "not settled after 0.3386: further apart than 0.005 up to there, and the proof comes no further");
     assert_eq!(
         why(&page),
         [

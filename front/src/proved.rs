@@ -59,8 +59,8 @@ impl Known {
             Proved::Touch(u, t) => {
                 format!("not clear: further apart than {named} up to {} of the move, within {keep} by {}", fraction_down(u), fraction_up(t))
             }
-            Proved::Open(u) if u <= 0.0 => format!("not settled: nothing is proved of {}", planned(job)),
-            Proved::Open(u) => format!("not settled after {}: further apart than {named} up to there, and nothing is proved of what follows", fraction_down(u)),
+            Proved::Open(u) if u <= 0.0 => "not settled: the proof comes no further than the start".to_string(),
+            Proved::Open(u) => format!("not settled after {}: further apart than {named} up to there, and the proof comes no further", fraction_down(u)),
         }
     }
 
@@ -167,8 +167,8 @@ mod tests {
         assert_eq!(said("", "TOUCH 00000000 3E3FC400 0", "- C")[0], "not clear: within 0.005 by 0.1873 of the move");
         assert_eq!(
             said("", "OPEN 3EDFFFFF 4096", "- C"),
-            ["not settled after 0.4374: further apart than 0.005 up to there, and nothing is proved of what follows", "not settled after 0.4374"]
+            ["not settled after 0.4374: further apart than 0.005 up to there, and the proof comes no further", "not settled after 0.4374"]
         );
-        assert_eq!(said("", "OPEN 00000000 4096", "- C")[0], "not settled: nothing is proved of the whole move");
+        assert_eq!(said("", "OPEN 00000000 4096", "- C")[0], "not settled: the proof comes no further than the start");
     }
 }

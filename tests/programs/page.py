@@ -187,8 +187,8 @@ def opening(block, clearance, room):
         apart = f"further apart than {keep}{note} up to {four(u)} of the move, within {keep} by {four(t, True)}"
         return "not clear: " + (apart if u else f"within {keep}{note} by {four(t, True)} of the move"), f"contact by {four(t, True)}"
     assert clearance[0] == "OPEN", clearance
-    rest = f"not settled after {four(u)}: further apart than {keep}{note} up to there, and nothing is proved of what follows"
-    return rest if u else f"not settled: nothing is proved of {planned}", f"not settled after {four(u)}"
+    rest = f"not settled after {four(u)}: further apart than {keep}{note} up to there, and the proof comes no further"
+    return rest if u else "not settled: the proof comes no further than the start", f"not settled after {four(u)}"
 
 
 def reasons(status, told, clearance):
