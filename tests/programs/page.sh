@@ -56,9 +56,10 @@ done
 cat examples/shift.batch examples/shift.batch > "$work/batch"; page "$work/batch" "$work/page.html" 2> /dev/null
 grep -q '<a href="#block28">2113 (block 28)</a>' "$work/page.html" || wrong "jobs of one number are not told apart"
 
-# 5,000 random moves, most of which turn: every S that is not clear has its drawing, more than the usual 500 where more are so
+# random moves, most of which turn: every S that is not clear has its drawing, more than the usual 500 where more are so. PAGE_MOVES asks for more of them
 for swings in 3 2500; do
-  python3 tests/cases/random_moves.py $swings 5000 > "$work/batch"; compare "5,000 random moves, some $swings of them swings into a wall"
+  moves="${PAGE_MOVES:-$((swings > 500 ? 1200 : 300))}"
+  python3 tests/cases/random_moves.py $swings "$moves" > "$work/batch"; compare "$moves random moves, $swings of 5,000 swings into a wall"
 done
 
 # what fails
@@ -145,14 +146,15 @@ grep -q 'line 22: outline 1 is column 1' "$work/told" && grep -q 'a route of 5 l
 [ "$(cat "$work/printed" "$work/told")" = $'TOTAL 0 0 0 0 0\nstandard input: no block came' ] || wrong "a broken pipeline: $(cat "$work/printed" "$work/told")"
 $run "$bin"/sheet64 < /dev/null 2>&1 > /dev/null | grep -q '^standard input: no block came$' || wrong "sheet64 of nothing"
 
-# a long batch: told as it goes, within seconds
-for i in $(seq 667); do cat examples/shift.batch; done | head -c 5120000 > "$work/long"
-TIMEFORMAT="10000 blocks in %R s, %U s of the processor"; time FOLDFLAKE_PROGRESS=yes page "$work/long" "$sheet" 2> "$work/told" || wrong "a long batch"
+# a long batch: told as it goes, within seconds. PAGE_BLOCKS asks for a longer one
+long="${PAGE_BLOCKS:-2000}"; red=$(((long + 2) / 15)); drawn=$((red > 500 ? red : 500))
+for i in $(seq $((long / 15 + 1))); do cat examples/shift.batch; done | head -c $((512 * long)) > "$work/long"
+TIMEFORMAT="$long blocks in %R s, %U s of the processor"; time FOLDFLAKE_PROGRESS=yes page "$work/long" "$sheet" 2> "$work/told" || wrong "a long batch"
 for name in sheet clearance rooms gaps; do
-  [ "$(grep -c "^$name: .* of 10000 blocks, .* s$" "$work/told")" = 10 ] || wrong "how far $name is, is not told"
+  [ "$(grep -c "^$name: .* of $long blocks, .* s$" "$work/told")" = $((long / 1000)) ] || wrong "how far $name is, is not told"
 done
 echo "a page of $(($(stat -c %s "$sheet") / 1000000)) MB"
-[ "$(grep -c 'class="paper"' "$sheet")" = 666 ] || wrong "not all red ones are drawn: $(grep -c 'class="paper"' "$sheet")"
+[ "$(grep -c 'class="paper"' "$sheet")" = $drawn ] || wrong "not all red ones are drawn: $(grep -c 'class="paper"' "$sheet")"
 page --drawings 5 "$work/long" "$sheet" 2> /dev/null; [ "$(grep -c 'class="paper"' "$sheet")" = 5 ] || wrong "not 5 drawings"
 tests/programs/page-picture.sh "$work/page.png" || wrong "the picture"
 exit $bad
