@@ -20,14 +20,16 @@ OWN = "promises"
 SYSTEM = "what it answers is the system's, and no contract can fix it"
 ONE_WAY = "it says yes only where something holds, and which of two sound answers comes is the search's"
 WHOLE_MOVE = "grid pairs corners board apart turns arcs pieces rides touches clear_search clearance_verdict grid_job clearance_job"
+ROOM = "it fills the first of a room's floats, and what stands behind them is nobody's matter"
 TEST = "it compares and counts stored rows, and nothing of the product calls it"
 PROMISES = (
     "clearance_call::clearance clearance_lists::clearance_told foldflake::foldflake_clearance"
-    " clearance_block::clear_block clearance_lines::write_part"
+    " clearance_block::clear_block clearance_lines::write_part all_clear_search::search_part"
+    " rooms_block::block_rooms rooms_lines::write_part"
 )
 ROUTES = "route_clearance_legs::route_clearance route_clearance_text::write_answer route_clearance_lists::route_clearance_told"
 ROUTES += " foldflake::foldflake_route_clearance"
-LEFT_OUT = {"streams": SYSTEM, "outfile": SYSTEM, "replay_rows": TEST}  # crates and functions
+LEFT_OUT = {"streams": SYSTEM, "outfile": SYSTEM, "replay_rows": TEST, "block_floats::floats_at": ROOM}  # crates and functions
 LEFT_OUT.update({name: ONE_WAY for name in f"{WHOLE_MOVE} {PROMISES} {ROUTES}".split()})
 TOLD = {1: "told", 2: "told-in-two"}  # by the number of clauses
 

@@ -427,3 +427,10 @@ use Rattle.route_clearance_legs.proofs.Swept.{as-swept}
 use Rattle.route_clearance_legs.proofs.First.{pieces-few}
 -- the line written is that of an answer that holds of what was read, or 14 and the line (Written, AnswerOf)
 use Rattle.route_clearance_text.proofs.Run.{run-answers-whole as run-answers-whole-route-clearance-text}
+-- of a file below 2^63 bytes read in parts of 64 KiB, the last one shorter: after none at least one block came and all are clear
+use Rattle.all_clear_search.proofs.Run.{run-answers}
+use Rattle.all_clear_search.proofs.Run.{run-tells-first}
+-- of a file below 2^63 bytes read in parts of 64 KiB, the last one shorter: its text is the lines and TOTAL of answers, one for each of its blocks ..
+use Rattle.rooms_lines.proofs.Run.{run-prints}
+use Rattle.rooms_lines.specs.Part.{Printed as Printed-rooms-lines}
+use Rattle.rooms_lines.proofs.Run.{run-gives-lines as run-gives-lines-rooms-lines}

@@ -48,6 +48,7 @@ use Rattle.foldflake.proofs as foldflake
 use Rattle.clearance_call.proofs as clearance_call
 use Rattle.places.proofs as places
 use Rattle.clearance_lists.proofs as clearance_lists
+use Rattle.all_clear_search.proofs as all_clear_search
 use Rattle.root64.proofs as root64
 use Rattle.ground64.proofs as ground64
 use Rattle.domain64.proofs as domain64
@@ -1152,6 +1153,14 @@ module _ {M : Type 1} (𝓤 : URA M) (H : Heap 𝓤) (A : Atoms 𝓤) (mem : Mem
     clauses = clearance_lists.fraction_at.clauses 𝓤 H A mem run;
     of-contract = refl;
     once = λ κs a g r r' v v'. told 𝓤 (λ p q. (search same-value, refl));
+  }
+
+  -- ---- all_clear_search
+  pub all-clear-search-write-found : OneResult 𝓤 H A all_clear_search.write_found.ended (all_clear_search.write_found.spec 𝓤 H A mem run)
+  all-clear-search-write-found = record {
+    clauses = all_clear_search.write_found.clauses 𝓤 H A mem run;
+    of-contract = refl;
+    once = λ κs a g r r' v v'. told 𝓤 (λ p q. (search same-value, each-list all_clear_search.write_found.ended κs a v v' (search same-value depth 12)));
   }
 
   -- ---- root64

@@ -122,7 +122,7 @@ module _ (cart waypoints stills : List Float) (lengths : List ℕ) (slop : Float
       says-there (cleared.Refused n) h so = stopped 0 (omega arith) _ h
       says-there (cleared.Clear n) h so = absurd (let z : _≡_ {A = ℕ} 0 1 = cc in omega arith)
       says-there (cleared.Touch u t n) h so = stopped n (h .few) _ (h .passed, h .holds, h .whole)
-      says-there (cleared.Open u n) h so = stopped n (h .few) _ (h .passed, h .holds, h .whole)
+      says-there (cleared.Open u n) h so = stopped n (h .few) _ (h .passed, h .holds .says, h .whole)
 
     walk-says : (r : RouteCleared) → Walked cart waypoints stills lengths slop (legs# * k#) r → Says cart waypoints stills lengths slop r
     walk-says _ (passed {pieces} p) = (all-clear pieces p, few _ pieces p)

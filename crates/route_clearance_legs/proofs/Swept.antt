@@ -1,5 +1,5 @@
--- A pair's numbers are those of `route`'s sweep: the same two moves, no radii, the whole leg; the distance to keep is the slop; and a pair is refused as that sweep
--- is, by the same number. Assumes nothing.
+-- A pair's numbers are those of `route`'s sweep: the same two moves, no radii, the whole leg; the distance to keep is the slop; and a pair is refused as
+-- that sweep is, by the same number. Assumes nothing.
 use mathlib.Core.Path.{_≡_, refl, _∙_}
 use mathlib.Core.List.{List}
 use Prim.Native.Nat.{ℕ, _+_, _*_}

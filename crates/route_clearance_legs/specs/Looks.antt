@@ -1,6 +1,6 @@
--- A route looked at pair by pair: leg by leg, and on a leg outline by outline, until one is not clear. Legs and outlines are `route`'s own. A look that is not
--- refused promises something of its pair (`clearance_call`), and which of its answers comes is the search's; so what is said here of a route's answer is said of
--- every answer that may come.
+-- A route looked at pair by pair: leg by leg, and on a leg outline by outline, until one is not clear. Legs and outlines are `route`'s own. A look that is
+-- not refused promises something of its pair (`clearance_call`), and which of its answers comes is the search's; so what is said here of a route's answer is
+-- said of every answer that may come.
 use mathlib.Core.Path.{_≡_}
 use mathlib.Core.Bool.{Bool, true, false}
 use mathlib.Core.List.{List, [], _∷_}

@@ -21,7 +21,8 @@ use Rattle.route_text.proofs.Lines.{length-two, no-route-is}
 use Rattle.route_clearance_legs.specs.declared.End.{End}
 use Rattle.route_clearance_legs.specs.declared.RouteCleared.{RouteCleared}
 use Rattle.route_clearance_legs.specs.Looks.{Told}
-use Rattle.route_clearance_text.specs.Answer.{ToldOf, place, whereTold, clearLine, touchLine, openLine, refusedLine, answerLine, AnswerOf, no-route, looked}
+use Rattle.route_clearance_text.specs.Answer.{ToldOf, place, whereTold, clearLine, touchLine, openLine, refusedLine, answerLine}
+use Rattle.route_clearance_text.specs.Answer.{AnswerOf, no-route, looked}
 use Rattle.route_clearance_text.specs.Answer.{longestLine, Written}
 
 pub where-is : (e : End) → whereTold e ≡ (48 ∷ 32 ∷ []) ++ two (e .leg) (e .outline) 32

@@ -16,7 +16,8 @@ same-length c = search needs
 
 returns : tie.Need-returns
 returns c =
-    rw (← c .before .before .before .place-bits .ensures) (roomy 9 (c .before .before .put-hex .ensures) (omega (arith, c .before .before .before .before .before .before .pre)))
+    let at-start = c .before .before .before in
+    rw (← at-start .place-bits .ensures) (roomy 9 (c .before .before .put-hex .ensures) (omega (arith, at-start .before .before .before .pre)))
 
 pub put-place-spec : {M : Type 1} → statement M
 put-place-spec = tie.close (tie.spec place-bits-requires put-hex-requires same-length returns)

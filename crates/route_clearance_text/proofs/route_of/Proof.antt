@@ -75,7 +75,8 @@ returns c =
     route-kept _ _ _ (l .before .before .before .before .least .ensures .0) (l .before .before .before .least2 .ensures .0)
     (l .before .before .least3 .ensures .0)
     (l .before .least4 .ensures .0) (l .least5 .ensures .0)
-    (c .before .before .before .before .before .before .whole-end .ensures .0) (c .before .before .before .before .before .point .ensures) (c .route-clearance .ensures)
+    (c .before .before .before .before .before .before .whole-end .ensures .0) (c .before .before .before .before .before .point .ensures)
+    (c .route-clearance .ensures)
 
 pub route-of-spec : {M : Type 1} → statement M
 route-of-spec =

@@ -1,0 +1,4 @@
+mod Pieces
+pub mod Folds
+mod Parts
+pub mod Run
