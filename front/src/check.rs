@@ -1,13 +1,14 @@
 //! `check`: what is proved of each job's whole move, in a line of words.
-use super::answers::{room, Answers, Proved};
+use super::answers::{Answers, Proved};
 use super::batch::{faults, parts, read, Job, Part, Status, Verdict};
 use super::files::{Place, PAGE};
 use super::job_text::{self, Jobs};
 use super::page::{reason, Drawings};
 use super::page_file::{made, name_of, ASKED};
 use super::programs::{of, Fault, Input, Programs};
+use super::proved::Known;
 use super::reader::{self, bytes_of, called};
-use super::words::{rounded, shortest};
+use super::words::rounded;
 use std::ffi::OsString;
 use std::fmt::Write;
 use std::path::{Path, PathBuf};
@@ -21,7 +22,7 @@ up to which they are and by when they are not; not settled; or refused. Then wha
 counts; over several files a table of the search's letters against the proved verdicts follows. A file with a zero byte is a batch, another one jobs as text
 (`foldflake jobtext --help` lists the names); - stands for standard input.
   --page PAGE.html   writes the page too, of one file
-  --rooms            asks for the distances of more than 5,000 blocks too, which takes its time; else a clear job of so many tells the distance to keep
+  --rooms            asks for the distances of more than 5,000 blocks too, which takes its time; else a clear job of so many tells the slop alone
 The exit status is 0 where every job is proved clear, 1 where one is not, 2 where something fails or no job came.
 ";
 
@@ -193,7 +194,7 @@ fn line(number: usize, name: &str, part: &Part, answers: &Answers, counts: &mut 
         (Ok(verdict), Ok((proved, _)), Part::Block(block)) => {
             let job = Job::of(block);
             counts.letters[letter(verdict.status)][place(proved)] += 1;
-            format!("{}; {}", words(&job, proved, room(&answers.rooms)), search(verdict, proved))
+            format!("{}{}; {}", Known::of(answers)?.sentence(&job), way(&job, proved), search(verdict, proved))
         }
         (Err(refusal), Err(same), _) if *refusal == same => {
             counts.refused += 1;
@@ -222,42 +223,22 @@ fn place(proved: Proved) -> usize {
     }
 }
 
-/// What is proved.
-fn words(job: &Job, proved: Proved, room: Option<f32>) -> String {
-    match (proved, room) {
-        (Proved::Clear, Some(room)) => {
-            let [a, b] = job.radius.map(f64::from);
-            // the roundings of these two differences are taken off
-            let apart = f64::from(room) - a - b - 1e-15 * (f64::from(room) + a + b);
-            match down(apart) {
-                Some(apart) => format!("clear: the bodies stay at least {apart} apart over the whole move"),
-                None => "clear: the bodies stay apart over the whole move".to_string(),
-            }
-        }
-        (Proved::Clear, None) => {
-            let keep = job.slop.max(job.radius[0] + job.radius[1]);
-            format!("clear: the outlines stay farther apart than the distance to keep, {}, over the whole move", shortest(keep))
-        }
-        (Proved::Touch(_, t), _) if t == 0.0 => "NOT CLEAR: in contact at the start".to_string(),
-        (Proved::Touch(u, t), _) if u == 0.0 => format!("NOT CLEAR: contact by {} of the move", above(t)),
-        (Proved::Touch(u, t), _) => format!("NOT CLEAR: clear up to {} of the move{}, contact by {}", below(u), way(job, u), above(t)),
-        (Proved::Open(u), _) if u == 0.0 => "NOT SETTLED: nothing is proved of the move".to_string(),
-        (Proved::Open(u), _) => format!("NOT SETTLED: clear up to {} of the move{}, what comes later is open", below(u), way(job, u)),
-    }
-}
-
-/// How far the bodies that go have gone.
-fn way(job: &Job, t: f32) -> String {
+/// How far the bodies that go have gone where they are clear no more, or not settled.
+fn way(job: &Job, proved: Proved) -> String {
+    let t = match proved {
+        Proved::Touch(u, _) | Proved::Open(u) if u > 0.0 => u,
+        _ => return String::new(),
+    };
     let gone = |body: usize| {
         let whole = job.moves[body].way();
         let [gone, planned] = [t, job.max_fraction].map(|t| whole * f64::from(t));
-        (whole > 0.0).then(|| format!("{} gone {} of {}", ["A", "B"][body], rounded(gone, 2), rounded(planned, 2)))
+        (whole > 0.0).then(|| format!("{} having gone {} of {}", ["A", "B"][body], rounded(gone, 2), rounded(planned, 2)))
     };
     let ways: Vec<String> = (0..2).filter_map(gone).collect();
     if ways.is_empty() {
         String::new()
     } else {
-        format!(" ({})", ways.join(", "))
+        format!(", {}", ways.join(", "))
     }
 }
 
@@ -277,26 +258,6 @@ fn search(verdict: &Verdict, proved: Proved) -> String {
         (Status::Hit | Status::Overlapped | Status::Failed, Proved::Clear) => format!("warning: the search says {said}"),
         _ => format!("search: {said}"),
     }
-}
-
-/// A fraction rounded down, to four places. A fraction here is a multiple of 2^-24, so that the product is exact.
-fn below(u: f32) -> String {
-    format!("{:.4}", (f64::from(u) * 1e4).floor() / 1e4)
-}
-
-/// A fraction rounded up.
-fn above(t: f32) -> String {
-    format!("{:.4}", (f64::from(t) * 1e4).ceil() / 1e4)
-}
-
-/// A length rounded down to three digits; none where it is not above 0.
-fn down(x: f64) -> Option<String> {
-    if !(x > 0.0) {
-        return None;
-    }
-    let places = 2 - x.log10().floor() as i32;
-    let scale = 10f64.powi(places);
-    Some(format!("{:.*}", places.max(0) as usize, (x * scale).floor() / scale))
 }
 
 /// Blocks of jobs as text, as a file.
@@ -320,14 +281,6 @@ pub fn text(words: Vec<OsString>) -> Result<u8, Fault> {
 mod tests {
     use super::*;
 
-    #[test]
-    fn rounded_to_the_safe_side() {
-        assert_eq!([below(0.187_255_86), above(0.187_255_86), below(1.0), above(1.0), below(0.0)], ["0.1872", "0.1873", "1.0000", "1.0000", "0.0000"]);
-        let said = |x: f64| down(x).unwrap();
-        assert_eq!([said(0.999_511), said(0.187_9), said(12.399), said(1239.0), said(0.000_123_49)], ["0.999", "0.187", "12.3", "1230", "0.000123"]);
-        assert_eq!([down(0.0), down(-1.0), down(f64::NAN)], [None, None, None]);
-    }
-
     /// Of each pair of letter and verdict, and of what cannot be read.
     #[test]
     fn lines_in_words() {
@@ -341,22 +294,28 @@ mod tests {
         };
         let verdict = |letter: &str, fraction: &str| format!("0 {letter} {fraction} 00000000 00000000 00000000 00000000 2 2 2 0 0 0 0");
         let (s, h, f) = (verdict("S", "3F800000"), verdict("H", "3F000000"), verdict("F", "3F000000"));
-        assert_eq!(said(&s, "0 CLEAR 3", "0 3F000000 CC").unwrap(), "clear: the bodies stay at least 0.249 apart over the whole move; search: S");
-        assert_eq!(said(&s, "0 CLEAR 3", "0 3E800000 CC").unwrap(), "clear: the bodies stay apart over the whole move; search: S");
-        assert_eq!(
-            said(&f, "0 CLEAR 3", "").unwrap(),
-            "clear: the outlines stay farther apart than the distance to keep, 0.25, over the whole move; warning: the search says F, no verdict"
-        );
+        let bodies = "proved clear over the whole move: the bodies, radii included,";
+        assert_eq!(said(&s, "0 CLEAR 3", "0 3F000000 CC").unwrap(), format!("{bodies} stay at least 0.250 apart; search: S"));
+        assert_eq!(said(&s, "0 CLEAR 3", "0 3E800000 CC").unwrap(), format!("{bodies} do not meet; search: S"));
+        assert_eq!(said(&f, "0 CLEAR 3", "").unwrap(), format!("{bodies} do not meet; warning: the search says F, no verdict"));
+        let further = "further apart than 0.25 (the radii together) up to";
         assert_eq!(
             said(&s, "0 TOUCH 3E3FC000 3E3FC400 35", "").unwrap(),
-            "NOT CLEAR: clear up to 0.1872 of the move (A gone 1.50 of 8.00), contact by 0.1873; warning: the search says S, which does not clear a move"
+            format!(
+                "not clear: {further} 0.1872 of the move, within 0.25 by 0.1873, A having gone 1.50 of 8.00; \
+                 warning: the search says S, which does not clear a move"
+            )
         );
-        assert_eq!(said(&h, "0 TOUCH 00000000 00000000 0", "").unwrap(), "NOT CLEAR: in contact at the start; warning: the search tells a hit only at 0.5000");
-        assert_eq!(said(&h, "0 TOUCH 00000000 3F000000 9", "").unwrap(), "NOT CLEAR: contact by 0.5000 of the move; search: H, a hit at 0.5000");
-        assert_eq!(said(&s, "0 OPEN 00000000 9", "").unwrap(), "NOT SETTLED: nothing is proved of the move; warning: the search says S, which settles nothing");
+        let within = "not clear: within 0.25 (the radii together)";
+        let late = "warning: the search tells a hit only at 0.5000";
+        assert_eq!(said(&h, "0 TOUCH 00000000 00000000 0", "").unwrap(), format!("{within} at the start already; {late}"));
+        assert_eq!(said(&h, "0 TOUCH 00000000 3EFD70A4 9", "").unwrap(), format!("{within} by 0.4951 of the move; search: H, a hit at 0.5000"));
+        let nothing = "not settled: the proof comes no further than the start; warning: the search says S, which settles nothing";
+        assert_eq!(said(&s, "0 OPEN 00000000 9", "").unwrap(), nothing);
         assert_eq!(
             said(&f, "0 OPEN 3F000000 9", "").unwrap(),
-            "NOT SETTLED: clear up to 0.5000 of the move (A gone 4.00 of 8.00), what comes later is open; search: F, no verdict"
+            "not settled after 0.5000: further apart than 0.25 (the radii together) up to there, and the proof comes no further, \
+             A having gone 4.00 of 8.00; search: F, no verdict"
         );
         assert_eq!(said("10", "10", "10").unwrap().split(':').next(), Some("refused by 10"));
         assert_eq!([said("10", "11", ""), said(&s, "8", ""), said(&s, "0 SURE 3", "")], [None, None, None]);

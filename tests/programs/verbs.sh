@@ -108,7 +108,7 @@ echo words > "$work/words"; ends "text over another file" 0 "15 jobs written" ff
 # check: a line a job, whose words are the proved verdicts; totals; several files; a page
 verdicts() { # the verdict of each line that check printed, in the words of clearance
   grep ': .*: \|^[0-9]*: ' "$work/printed" | grep -v '^[0-9]* jobs\?: ' \
-    | sed 's/.*: clear: .*/CLEAR/; s/.*: NOT CLEAR: .*/TOUCH/; s/.*: NOT SETTLED: .*/OPEN/; s/.*: refused by \([0-9]*\): .*/\1/'
+    | sed 's/.*: proved clear over .*/CLEAR/; s/.*: not clear: .*/TOUCH/; s/.*: not settled.*/OPEN/; s/.*: refused by \([0-9]*\): .*/\1/'
 }
 for file in examples/shift.txt examples/shift.batch examples/every-answer.batch examples/fractions.batch "$clear"; do
   status=1; [ "$file" != "$clear" ] || status=0
@@ -122,8 +122,8 @@ for file in examples/shift.txt examples/shift.batch examples/every-answer.batch 
 done
 ends "check -" 1 "" eval 'ff check - < examples/shift.batch'; cp "$work/printed" "$work/expected"
 ends "check shift.batch" 1 "" ff check examples/shift.batch; prints "$work/expected" "check -"
-swing='2113: NOT CLEAR: clear up to 0.1872 of the move, contact by 0.1873; warning: the search says S, which does not clear a move'
-grep -qxF "$swing" "$work/printed" || wrong "job 2113"
+swing='2113: not clear: further apart than 0.005 up to 0.1872 of the move, within 0.005 by 0.1873'
+grep -qxF "$swing; warning: the search says S, which does not clear a move" "$work/printed" || wrong "job 2113"
 ends "check, two files" 1 "" ff check examples/shift.batch examples/fractions.batch
 [ "$(tail -n 6 "$work/printed" | tr -s ' ')" = "2 files, 24 jobs: 5 proved clear, 17 not clear, 0 not settled, 2 refused
 the search says CLEAR TOUCH OPEN
@@ -197,6 +197,7 @@ ends "help of a verb" 0 "" ff help check; grep -q "^usage: foldflake check" "$wo
 # from another folder, by a link, with a name that has a blank
 cp examples/shift.batch "$work/a shift.batch"; program sheet < examples/shift.batch > "$work/expected"
 root="$PWD"; ends "from another folder" 0 "" eval "(cd '$work' && '$root/foldflake' sheet 'a shift.batch')"; prints "$work/expected" "from another folder"
+ln -s "$root/foldflake" "$work/link"; ends "by a link" 0 "" "$work/link" sheet examples/shift.batch; prints "$work/expected" "by a link"
 
 # a proof that fails: told, status 2, and no program is run; by another kit's name, which makes every program one that is to be proved
 mkdir "$work/kit"
