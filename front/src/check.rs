@@ -310,11 +310,11 @@ mod tests {
         let late = "warning: the search tells a hit only at 0.5000";
         assert_eq!(said(&h, "0 TOUCH 00000000 00000000 0", "").unwrap(), format!("{within} at the start already; {late}"));
         assert_eq!(said(&h, "0 TOUCH 00000000 3EFD70A4 9", "").unwrap(), format!("{within} by 0.4951 of the move; search: H, a hit at 0.5000"));
-        let nothing = "not settled: nothing is proved of the whole move; warning: the search says S, which settles nothing";
+        let nothing = "not settled: the proof comes no further than the start; warning: the search says S, which settles nothing";
         assert_eq!(said(&s, "0 OPEN 00000000 9", "").unwrap(), nothing);
         assert_eq!(
             said(&f, "0 OPEN 3F000000 9", "").unwrap(),
-            "not settled after 0.5000: further apart than 0.25 (the radii together) up to there, and nothing is proved of what follows, \
+            "not settled after 0.5000: further apart than 0.25 (the radii together) up to there, and the proof comes no further, \
              A having gone 4.00 of 8.00; search: F, no verdict"
         );
         assert_eq!(said("10", "10", "10").unwrap().split(':').next(), Some("refused by 10"));

@@ -369,8 +369,8 @@ const READING: &str = "\
 and the radii together. A fraction up to which they are further apart is rounded down, one by which they are within it up.</li>\n\
 <li><b>The distance that a clear move keeps</b> was found by asking for more: twice as much until that is no longer proved, then ten times halfway \
 between what is proved and what is not. The last that was proved is told, less the radii, rounded down to three digits. More may hold.</li>\n\
-<li><b>The band</b> under each curve has the planned move in 64 equal parts. C: proved clear over all of the part. T: a proved contact in it. O: not \
-settled.</li>\n\
+<li><b>The band</b> under each curve has the planned move in 64 equal parts. C: proved clear over all of the part. T: a proved contact in it, or \
+less than 2^-24 of the move before it. O: not settled.</li>\n\
 <li><b>The curve is sampled, not proved</b>: the distance of the outlines without radii at 257 fractions of what is planned, as the search works it. Between \
 two samples they may come nearer, and tiny sides, the limit of 20 rounds and the middle of a half turn can give 0 although they are apart. Lines show the \
 target, at which the search calls it contact, and the radii together.</li>\n\
