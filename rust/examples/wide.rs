@@ -1,5 +1,4 @@
 //! The blocks of a batch in f64, by the safe Rust face: prints what `examples/wide.c` prints, from its own reading of the block.
-use foldflake::batch::{parts, Job, Part};
 use foldflake::{line, wide, Cache, Contact, Corners, Counts, Distance, Ending, Move, Sweep};
 use std::fmt::Write as _;
 use std::io::{self, Read, Write as _};
@@ -8,9 +7,9 @@ fn main() -> io::Result<()> {
     let mut bytes = Vec::new();
     io::stdin().read_to_end(&mut bytes)?;
     let mut out = io::BufWriter::new(io::stdout());
-    for (number, part) in (1..).zip(parts(&bytes)) {
-        let text = match part {
-            Part::Block(block) => {
+    for (number, part) in (1..).zip(bytes.chunks(512)) {
+        let text = match <&[u8; 512]>::try_from(part) {
+            Ok(block) => {
                 let line = line(number, block).expect("a file has fewer than 2^63 blocks");
                 // 10, 11 and 13 are about the block's bytes, whatever its floats are worked in
                 match line.split_whitespace().nth(2) {
@@ -18,16 +17,42 @@ fn main() -> io::Result<()> {
                     _ => work(number, &Job::of(block)),
                 }
             }
-            Part::Rest(_) => format!("{number} 0 9\n"),
+            Err(_) => format!("{number} 0 9\n"),
         };
         out.write_all(text.as_bytes())?;
     }
     out.flush()
 }
 
-/// Every number of a list as an f64: the same number.
-fn taken_over<const N: usize>(numbers: [f32; N]) -> [f64; N] {
-    numbers.map(f64::from)
+/// What a block says of its job, every number as an f64: the same number.
+struct Job {
+    number: u32,
+    points: [Vec<f64>; 2],
+    /// The radii, the max fraction and the slop.
+    numbers: [f64; 4],
+    moves: [Move<f64>; 2],
+}
+
+impl Job {
+    fn of(block: &[u8; 512]) -> Job {
+        let word = |place: usize| u32::from_le_bytes([block[place], block[place + 1], block[place + 2], block[place + 3]]);
+        let number = |place: usize| f64::from(f32::from_bits(word(place)));
+        let pair = |place: usize| [number(place), number(place + 4)];
+        let planned = |from: usize| Move {
+            local_center: pair(from),
+            first: pair(from + 8),
+            last: pair(from + 16),
+            first_rotation: pair(from + 24),
+            last_rotation: pair(from + 32),
+        };
+        let points = |from: usize, count: u8| (0..2 * usize::from(count.min(16))).map(|i| number(from + 4 * i)).collect();
+        Job {
+            number: word(0),
+            points: [points(104, block[4]), points(232, block[5])],
+            numbers: [8, 12, 16, 20].map(number),
+            moves: [planned(24), planned(64)],
+        }
+    }
 }
 
 fn told(numbers: &[f64]) -> String {
@@ -36,19 +61,11 @@ fn told(numbers: &[f64]) -> String {
 }
 
 fn work(number: u64, job: &Job) -> String {
-    let points = |side: usize| -> Vec<f64> { job.points[side].iter().map(|&x| f64::from(x)).collect() };
-    let (a, b) = (points(0), points(1));
-    let [radius_a, radius_b] = taken_over(job.radius);
-    let [max_fraction, slop] = taken_over([job.max_fraction, job.slop]);
-    let [move_a, move_b] = job.moves.map(|m| Move {
-        local_center: taken_over(m.local_center),
-        first: taken_over(m.first),
-        last: taken_over(m.last),
-        first_rotation: taken_over(m.first_rotation),
-        last_rotation: taken_over(m.last_rotation),
-    });
+    let [a, b] = &job.points;
+    let [radius_a, radius_b, max_fraction, slop] = job.numbers;
+    let [move_a, move_b] = job.moves;
     let mut text = format!("{number} {} ", job.number);
-    match wide::sweep(&a, radius_a, &move_a, &b, radius_b, &move_b, max_fraction, slop) {
+    match wide::sweep(a, radius_a, &move_a, b, radius_b, &move_b, max_fraction, slop) {
         Err(refusal) => write!(text, "{}", refusal.0),
         Ok(Sweep::Overlapped(counts, corners)) => {
             let contact = Contact { fraction: 0.0, point: [0.0; 2], normal: [0.0; 2] };
@@ -63,7 +80,7 @@ fn work(number: u64, job: &Job) -> String {
     let mut cache = Cache::default();
     for (turn_b, centre_a, centre_b) in [(move_b.first_rotation, move_a.first, move_b.first), (move_b.last_rotation, move_a.last, move_b.last)] {
         let seen = [centre_b[0] - centre_a[0], centre_b[1] - centre_a[1]];
-        let (answer, out) = match wide::distance(turn_b, seen, &a, radius_a, &b, radius_b, true, job.number, &mut cache) {
+        let (answer, out) = match wide::distance(turn_b, seen, a, radius_a, b, radius_b, true, job.number, &mut cache) {
             Err(refusal) => (refusal.0, [0.0; 7]),
             Ok(Distance { point_a, point_b, normal, distance, rounds, ending }) => {
                 let ending = match ending {
@@ -74,8 +91,8 @@ fn work(number: u64, job: &Job) -> String {
                 (256 * rounds + ending, [point_a[0], point_a[1], point_b[0], point_b[1], normal[0], normal[1], distance])
             }
         };
-        let ([a, b, c], [d, e, f]) = (cache.index_a, cache.index_b);
-        write!(text, "\nD {answer} {} {} {a} {b} {c} {d} {e} {f}{}", cache.pair, cache.count, told(&out)).expect("a string takes all");
+        let ([i, j, k], [l, m, n]) = (cache.index_a, cache.index_b);
+        write!(text, "\nD {answer} {} {} {i} {j} {k} {l} {m} {n}{}", cache.pair, cache.count, told(&out)).expect("a string takes all");
     }
 
     let mut numbers = vec![radius_a, radius_b, max_fraction, slop];

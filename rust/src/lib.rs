@@ -24,11 +24,8 @@
 //! The proofs are for rounding to nearest with subnormal numbers kept: the floating-point environment has to be Rust's default.
 #![deny(missing_docs)]
 
-pub mod front;
 pub mod wide;
 mod width;
-
-pub use front::{batch, job_text, page, reader, route_text, Move};
 
 use std::fmt;
 
@@ -219,6 +216,31 @@ pub struct Corners {
     pub a: Option<[u32; 2]>,
     /// First and second corner of B.
     pub b: Option<[u32; 2]>,
+}
+
+/// A planned move of one body. Its turning centre goes straight from `first` to `last`, while the body turns from one rotation to the other.
+///
+/// At fraction `t` the rotation is `(1 - t) * first_rotation + t * last_rotation`, brought to length 1. So a turn goes the short way round; its
+/// angle grows unevenly, and of a half turn nobody can say which way it goes: never ask for one.
+///
+/// ```
+/// use foldflake::Move;
+/// // a quarter turn about the body's corner (1, 1), which stays at (5, 0) in the hall
+/// let turn = Move { local_center: [1.0, 1.0], first: [5.0, 0.0], last: [5.0, 0.0], first_rotation: [1.0, 0.0], last_rotation: [0.0, 1.0] };
+/// assert_eq!(turn.first, turn.last);
+/// ```
+#[derive(Clone, Copy, Debug, PartialEq)]
+pub struct Move<T = f32> {
+    /// The turning centre, in the frame in which the outline's points are given.
+    pub local_center: [T; 2],
+    /// Where the turning centre stands in the hall at fraction 0.
+    pub first: [T; 2],
+    /// Where it stands at fraction 1.
+    pub last: [T; 2],
+    /// Cosine and sine at fraction 0; counterclockwise is positive where y points to the left of x.
+    pub first_rotation: [T; 2],
+    /// Cosine and sine at fraction 1.
+    pub last_rotation: [T; 2],
 }
 
 /// How a sweep ends, with its contact, the work that it took and the corners of its last search.
@@ -564,26 +586,6 @@ pub fn gap(points_a: &[f32], move_a: &Move, points_b: &[f32], move_b: &Move, fra
     match answer {
         32 => Ok(out[0]),
         number => Err(Refusal(number)),
-    }
-}
-
-/// The proved library as the page asks it.
-///
-/// ```
-/// use foldflake::{front::Answers, Library};
-/// assert_eq!(Library.line(3, &[0; 512]), "3 0 10\n");
-/// ```
-#[derive(Clone, Copy, Debug, Default)]
-pub struct Library;
-
-impl front::Answers for Library {
-    fn line(&self, number: u64, block: &[u8; batch::BLOCK]) -> String {
-        line(number, block).expect("a file has fewer than 2^63 blocks")
-    }
-
-    fn gap(&self, job: &batch::Job, fraction: f32) -> f32 {
-        let [a, b] = &job.points;
-        gap(a, &job.moves[0], b, &job.moves[1], fraction).unwrap_or(f32::NAN)
     }
 }
 

@@ -1,5 +1,18 @@
-//! Jobs and routes from text through the proved library. What each text comes to, and every message, is tested beside the code, in src/front.
-use foldflake::{bar, job_text, line, placed_bar, placed_plate, plate, route, route_text, Route, Waypoint};
+//! Jobs and routes from text through the proved library. What each text comes to, and every message, is tested beside the code, in front/.
+use foldflake::{bar, line, placed_bar, placed_plate, plate, route, Route, Waypoint};
+use front::{job_text, route_text};
+
+#[allow(dead_code)]
+#[path = "../../front/src"]
+mod front {
+    pub mod batch;
+    pub mod job_text;
+    mod moves;
+    mod reader;
+    pub mod route_text;
+    mod text;
+    mod words;
+}
 
 /// The letters that the sheet has for a text's jobs.
 fn letters(text: &str) -> String {

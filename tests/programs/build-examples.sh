@@ -1,6 +1,6 @@
 #!/usr/bin/env bash
-# build-examples.sh: proves and builds the static library, and builds over it the C and the Rust examples, `page`, `jobtext` and `routetext` into target/link;
-# target/link/kinds then says which of `c` and `rust` there are. What this machine cannot build is told as skipped, and why. C takes a compiler that writes
+# build-examples.sh: proves and builds the static library, and builds over it the C and the Rust examples into target/link; target/link/kinds then says which of
+# `c` and `rust` there are. What this machine cannot build is told as skipped, and why. C takes a compiler that writes
 # x86-64 programs, CC, by default cc, on another machine x86_64-linux-gnu-gcc. Rust takes cargo, and on another machine CARGO_BUILD_TARGET.
 set -eu
 cd "$(dirname "$0")/../.."
@@ -13,9 +13,9 @@ else
   echo "skipped: the C examples: no $cc here, and nothing else that writes x86-64 programs"
 fi
 if ! command -v cargo > /dev/null; then
-  echo "skipped: the Rust crate, its examples, page, jobtext and routetext: no cargo here"
+  echo "skipped: the Rust crate and its examples: no cargo here"
 elif [ "$machine" != x86_64 ] && [ -z "${CARGO_BUILD_TARGET:-}" ]; then
-  echo "skipped: the Rust crate, its examples, page, jobtext and routetext: the archive is for x86-64, and Rust here for $machine"
+  echo "skipped: the Rust crate and its examples: the archive is for x86-64, and Rust here for $machine"
 else
   kinds="$kinds rust"
 fi
@@ -29,10 +29,9 @@ for kind in $kinds; do
     done
     ;;
   rust)
-    cargo build --offline --quiet --release --manifest-path rust/Cargo.toml --examples --bins --target-dir target/rust
+    cargo build --offline --quiet --release --manifest-path rust/Cargo.toml --examples --target-dir target/rust
     built="target/rust/${CARGO_BUILD_TARGET:-.}/release"
     for example in sheet wide; do cp "$built/examples/$example" "target/link/$example-rust"; done
-    cp "$built/page" "$built/jobtext" "$built/routetext" target/link/
     ;;
   esac
 done

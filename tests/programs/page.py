@@ -1,10 +1,13 @@
 #!/usr/bin/env python3
-"""page.py PAGE BATCH SHEET: that a page by rust/src/bin/page.rs says what the sheet of the same batch says.
+"""page.py PAGE BATCH SHEET CLEARANCE ROOMS: that a page says what the programs say of the same batch.
 
-PAGE is parsed as XML, SHEET is what `sheet` printed of BATCH. Compared, by the standard library alone: each line of the sheet with its card; every
-float of a line with the card's bits, its shortest decimal and its rounded one; totals and checksum; that each drawing is SVG with finite numbers, in
-its frame; that links lead somewhere and nothing is fetched; and the least sampled gap of each worked job with one worked out here, in doubles, from
-the block's corners, which also says which S cards have to be red."""
+PAGE is parsed as XML; SHEET, CLEARANCE and ROOMS are what `sheet`, `clearance` and `rooms` printed of BATCH. Compared, by the standard library alone: each line
+with its card and its row of the table; every float of a line with the card's bits, its shortest decimal and its rounded one; what is proved with how the card
+opens, rounded to the side on which it stays true, by exact fractions worked out here; where the search disagrees, that the card says why; the band with the
+cells; totals and checksum; that each drawing is SVG with finite numbers, in its frame; that links lead somewhere and nothing is fetched; and the least
+sampled gap of each worked job with one worked out here, in doubles, from the block's corners, which must not speak against what is proved."""
+from collections import Counter
+from fractions import Fraction
 import hashlib
 import math
 import re
@@ -19,8 +22,8 @@ NUMBER = r"-?\d+(?:\.\d+)?"
 # the steps of a path, by their letter: how many numbers each takes
 STEPS = {"M": 2, "L": 2, "H": 1, "V": 1, "A": 7, "Z": 0}
 PIECES = 256
-# the lines whose gap was worked out here too
-compared = []
+# the lines whose gap was worked out here too, and how often each pair of letter and verdict was met
+compared, pairs = [], Counter()
 
 
 def said(element):
@@ -142,20 +145,103 @@ def gaps(block):
 
 
 # ---- cards
-def check_card(card, line, block, measured):
-    fields = line.split(" ")
+def exact(word):
+    return Fraction(single(int(word, 16)))
+
+
+def four(x, up=False):
+    """A fraction to four places, rounded down or up."""
+    return f"{(math.ceil if up else math.floor)(x * 10000) / 10000:.4f}"
+
+
+def three(x):
+    """A distance by three digits, rounded down; none where nothing is left."""
+    if x <= 0:
+        return None
+    places = 2 - math.floor(math.log10(x))
+    assert Fraction(10) ** (2 - places) <= x < Fraction(10) ** (3 - places), x
+    places = min(places, 12)
+    digits = math.floor(x * Fraction(10) ** places)
+    return f"{float(digits * Fraction(10) ** -places):.{max(places, 0)}f}" if digits else None
+
+
+def opening(block, clearance, room):
+    """How the card has to open, and what the table has to say, by the verdict's fields, from the word on."""
+    radii, (fraction, slop) = [Fraction(x) for x in struct.unpack("<2f", block[8:16])], struct.unpack("<2f", block[16:24])
+    keep, note = (single(bits(sum(struct.unpack("<2f", block[8:16])))), " (the radii together)") if sum(radii) > Fraction(slop) else (slop, "")
+    # the shortest decimal that reads back
+    keep = next(text for text in (f"{keep:.{digits}g}" for digits in range(1, 10)) if bits(float(text)) == bits(keep))
+    keep = keep if "e" in keep and float(keep) < 1e-5 else f"{float(keep):.12f}".rstrip("0").rstrip(".")
+    planned = "the whole move" if fraction == 1 else "all that is planned, up to " + (f"{abs(fraction):.4f}".rstrip("0").rstrip(".") or "0") + " of the move"
+    if clearance[0] == "CLEAR":
+        who, left = "the bodies, radii included," if any(radii) else "the outlines", three(exact(room) - sum(radii))
+        stays = f"stay at least {left} apart" if left else "do not meet"
+        return f"proved clear over {planned}: {who} {stays}", f"at least {left} apart" if left else "they do not meet"
+    assert room == "-", (clearance, room)
+    u = exact(clearance[1])
+    if clearance[0] == "TOUCH":
+        t = exact(clearance[2])
+        assert 0 <= u <= t <= Fraction(fraction), clearance
+        if t == 0:
+            return f"not clear: within {keep}{note} at the start already", "contact at the start"
+        apart = f"further apart than {keep}{note} up to {four(u)} of the move, within {keep} by {four(t, True)}"
+        return "not clear: " + (apart if u else f"within {keep}{note} by {four(t, True)} of the move"), f"contact by {four(t, True)}"
+    assert clearance[0] == "OPEN", clearance
+    rest = f"not settled after {four(u)}: further apart than {keep}{note} up to there, and the proof comes no further"
+    return rest if u else "not settled: the proof comes no further than the start", f"not settled after {four(u)}"
+
+
+def reasons(status, told, clearance):
+    """How the card has to say why the search disagrees with what is proved; nothing where it does not."""
+    if clearance[0] == "OPEN":
+        return "Neither clears it: "
+    if clearance[0] == "CLEAR":
+        return {"S": "", "H": "Why H, and yet clear: ", "O": "Why O, and yet clear: ", "F": "Why no verdict, and yet clear: "}[status]
+    u, t = exact(clearance[1]), exact(clearance[2])
+    if status == "H":
+        hit = Fraction(single(told[0]))
+        early = "Why the hit is told before they are within that distance: " if u - hit > Fraction(1e-4) else ""
+        return "Why the hit is told later than the contact: " if hit > t else early
+    late = "Why O, and yet a contact later than the start: " if u else ""
+    return {"S": "Why S, and yet not clear: ", "O": late, "F": "Why no verdict, and yet a contact: "}[status]
+
+
+def band(card):
+    """The cells that a card's band shows, as a text of letters."""
+    out = ""
+    for path in card.iter(f"{SVG}path"):
+        kind = re.fullmatch(r"band (clear|touch|open)", path.get("class", ""))
+        if kind:
+            left, right = (float(x) for x in re.match(rf"M({NUMBER}) {NUMBER}H({NUMBER})V", path.get("d")).groups())
+            assert abs(left - 44 - 346 * len(out) / 64) < 0.01, path.get("d")
+            out += {"clear": "C", "touch": "T", "open": "O"}[kind.group(1)] * round((right - left) * 64 / 346)
+    return out
+
+
+def check_card(card, row, line, proved, block, measured):
+    fields, clearance, room = line.split(" "), proved[0].split(" "), proved[1].split(" ")
+    assert clearance[:3] == room[:3] == fields[:3], (line, proved)
     assert card.get("id") == f"block{fields[0]}"
     title = said(card.find(f"{HTML}h3"))
     assert re.search(rf"\bJob {fields[1]}\b" if fields[1] != "0" else rf"\bBlock {fields[0]}\b", title), (title, line)
-    exact = said(card.find(f"{HTML}details/{HTML}pre"))
-    assert exact.split("\n")[1] == line, (exact.split("\n")[1], line)
+    pre = said(card.find(f"{HTML}details/{HTML}pre"))
+    assert pre.split("\n")[1] == line, (pre.split("\n")[1], line)
     spoken = [said(p) for p in card.iter(f"{HTML}p")]
+    mark, known = title.split(" ")[0], [said(cell) for cell in row]
     if fields[2] != "0":
         assert spoken[0].startswith(f"Refused by {fields[2]}: ") and spoken[1].startswith("At fault: "), spoken
-        assert not list(card.iter(f"{SVG}svg"))
+        assert mark == "refused" and card.get("class") == "card refused" and not list(card.iter(f"{SVG}svg"))
         return None
     status, told = fields[3], [int(word, 16) for word in fields[4:9]]
-    numbers = {row[:24].strip(): row[24:].split() for row in exact.split("\n")[2:]}
+    assert pre.split("\n")[3] == proved[0] and pre.split("\n")[5] == proved[1], pre
+    opens, short = opening(block, clearance[3:], room[3])
+    assert spoken[0] == opens and mark == clearance[3], (spoken[0], opens)
+    missed = clearance[3] == "TOUCH" and status == "S"
+    assert card.get("class") == "card " + clearance[3].lower() + " warned" * missed and row.get("class") == card.get("class")[5:], line
+    assert known[-4:-1] == [clearance[3], short, known[-2]] and known[-2].startswith(status), (known, line)
+    assert band(card) in ("", room[4]), (band(card), room)
+    pairs[f"{status} {clearance[3]}"] += 1
+    numbers = {row[:24].strip(): row[24:].split() for row in pre.split("\n")[6:]}
     for name, word in zip(("fraction", "point x", "point y", "normal x", "normal y"), told):
         shown, shortest = numbers[name]
         assert int(shown, 16) == word, (name, shown, line)
@@ -163,18 +249,23 @@ def check_card(card, line, block, measured):
     for name, (shown, shortest) in numbers.items():
         assert shortest == "NaN" or bits(float(shortest)) == int(shown, 16), name
     t, x, y = map(single, told[:3])
-    start = {"S": "S: separated along one axis", "O": "Touching or overlapping", "F": "No verdict: treat as not cleared."}
-    start["H"] = f"Hit at {t:.4f} of the move, at x "
-    assert spoken[0].startswith(start[status]), (spoken[0], line)
+    start = {"S": "separated along one axis, where it stood and at the end", "O": "touching or overlapping where it stood"}
+    start["H"], start["F"] = f"hit at {t:.4f} of the move, at x ", f"it gave up where it stood, at {t:.4f} of the move."
+    begins = f"The search says {status}{', no verdict' * (status == 'F')}: {start[status]}"
+    assert spoken[1].startswith(begins), (spoken[1], line)
     if status == "H":
         for name, value in (("x", x), ("y", y)):
-            shown = re.search(rf"\b{name} (-?[\d.]+)", spoken[0][len(start["H"]) - 2 :]).group(1).rstrip(".")
+            shown = re.search(rf"\b{name} (-?[\d.]+)", spoken[1][len(begins) - 2 :]).group(1).rstrip(".")
             places = len(shown.split(".")[1])
             assert places >= 2 and float(shown) == float(f"{value:.{places}f}"), (shown, value)
+    why = reasons(status, told, clearance[3:])
+    assert spoken[2 : 2 + bool(why)] == [text for text in spoken if why and text.startswith(why)], (spoken, why, line)
+    assert why or not any(re.match(r"Why |Neither ", text) for text in spoken), (spoken, line)
     facts = {said(row[0]): said(row[1]) for row in card.iter(f"{HTML}tr")}
     check_words(status, t, fields, facts, spoken, block, line)
     assert facts["work"] == "distance calls {}, searches {}, root steps {}".format(*fields[9:12]), (facts["work"], line)
-    return check_gap(status, t, facts, spoken, block, line, measured)
+    check_gap(clearance[3:], room[3], facts, block, line, measured)
+    return missed
 
 
 def number(text):
@@ -200,72 +291,83 @@ def check_words(status, t, fields, facts, spoken, block, line):
     if facts["least sampled gap"] != "no number":
         clearance = number(facts["clearance there"])
         assert abs(clearance - (number(facts["least sampled gap"]) - floats[0] - floats[1])) < 3e-4 + 1e-6 * abs(clearance), (facts, line)
-    turning = any(m[6:8] != m[8:10] for m in moves)
-    looks = [text for text in spoken if text.startswith("It turns by ")]
-    reds = [text for text in spoken if text.startswith("the search ") or "makes a half turn" in text]
-    assert bool(looks) == (status == "S" and turning and not reds), (spoken, line)
+    halves = [f"{body} makes a half turn" for body, m in zip("AB", moves) if math.hypot(m[6] + m[8], m[7] + m[9]) < 1e-4]
+    assert spoken[0].startswith("proved clear") or all(any(text.startswith(half) for text in spoken) for half in halves), (spoken, line)
     assert status != "F" or facts["search stood at"] == f"{t:.4f} of the move", (facts, line)
     for text in [*spoken, *facts.values()]:
         assert not re.search(r"(?i)clear by|is clear|\bsafe", text), (text, line)
 
 
-def check_gap(status, t, facts, spoken, block, line, measured):
-    reds = [text for text in spoken if text.startswith("the search ")]
+def check_gap(clearance, room, facts, block, line, measured):
+    """The least sampled gap beside one worked out here, and what is proved beside both."""
     ours = gaps(block) if measured else None
     if ours is None:
-        return bool(reds)
+        return
     least = facts["least sampled gap"]
     value = float(re.match(r"(?:below )?([\d.]+)", least).group(1))
     size = max(map(abs, struct.unpack("<88f", block[8:360])))
     near = 1e-4 + 2e-6 * size
     assert abs(value - min(ours)) <= near, (least, min(ours), line)
     compared.append(line)
-    if status == "F":
-        # every sample of the card is looked at, wherever the search stood
-        assert min(ours) > near or any("touch or overlap: do not clear" in text for text in reds), (spoken, line)
-    if status != "S":
-        return bool(reds)
-    floor = max(struct.unpack("<f", block[20:24])[0], sum(struct.unpack("<2f", block[8:16])) - struct.unpack("<f", block[20:24])[0])
-    if min(ours) == 0:
-        where = re.fullmatch(r"the search says S, but at ([\d.]+) of the move the outlines touch or overlap: do not clear", reds[0])
-        assert where, (spoken, line)
-        place = float(where.group(1)) / struct.unpack("<f", block[16:20])[0] * PIECES
-        assert min(ours[max(0, int(place) - 2) : int(place) + 4]) == 0, (where.group(1), line)
-    elif min(ours) > floor + near:
-        assert not reds, (reds, line)
-    return bool(reds)
+    a, b, fraction, slop = struct.unpack("<4f", block[8:24])
+    keep = max(slop, a + b)
+    # where they are told to be further apart, samples are, and at the contact they are not
+    upto = fraction if clearance[0] == "CLEAR" else single(int(clearance[1], 16))
+    inside = [gap for k, gap in enumerate(ours) if fraction * k / PIECES <= upto]
+    assert upto == 0 or min(inside) > (single(int(room, 16)) if clearance[0] == "CLEAR" else keep) - near, (min(inside), upto, line)
+    if clearance[0] == "TOUCH":
+        place = single(int(clearance[2], 16)) / fraction * PIECES if fraction else 0
+        steps = max(abs(p - q) for p, q in zip(ours, ours[1:]))
+        assert min(ours[int(place) : int(place) + 2]) <= keep + near + steps, (place, line)
 
 
-def main(page, batch, sheet):
+def main(page, batch, *texts):
     raw = open(page, encoding="utf-8").read()
-    blocks, lines = open(batch, "rb").read(), open(sheet, encoding="ascii").read().splitlines()
-    total = lines.pop().split(" ")[1:]
+    blocks = open(batch, "rb").read()
+    lines, clearances, rooms = (open(text, encoding="ascii").read().splitlines() for text in texts)
+    total, proved = lines.pop().split(" ")[1:], clearances.pop().split(" ")[1:]
+    assert rooms.pop().split(" ")[1:] == [total[0], total[-1]] == [proved[0], proved[-1]], (total, proved)
     root = ET.fromstring(raw)
     cards = list(root.iter(f"{HTML}section"))
-    assert len(cards) == len(lines) == int(total[0]), (len(cards), len(lines), total)
+    assert len(cards) == len(lines) == len(clearances) == len(rooms) == int(total[0]), (len(cards), len(lines), total)
+    rows = [row for table in root.iter(f"{HTML}table") if table.get("class") == "jobs" for row in table.find(f"{HTML}tbody")]
+    assert [[said(row[0]), said(row[1])] for row in rows] == [line.split(" ")[:2] for line in lines]
     # of a long batch only some gaps are worked out here
     every = 1 + len(lines) // 1000 * 10
-    reds = [check_card(card, line, blocks[512 * i : 512 * i + 512], i % every == 0) for i, (card, line) in enumerate(zip(cards, lines))]
-    shown = [int(said(cell)) for cell in next(row for row in root.iter(f"{HTML}tr") if row.get("id") == "totals")]
-    assert [shown[0], sum(shown[1:4]), *shown[4:]] == list(map(int, total)), (shown, total)
-    letters = [line.split(" ")[3] if line.split(" ")[2] == "0" else "" for line in lines]
-    warned = [card.get("class") == "card warned" for card in cards]
-    # no box of S that need no look counts one that is told red
-    assert shown[3] == sum(letter == "S" and red for letter, red in zip(letters, warned)), (shown, total)
-    assert shown[2] == sum("It turns by " in said(card) for card in cards), (shown, total)
+    told = zip(cards, rows, lines, zip(clearances, rooms))
+    missed = [check_card(*each, blocks[512 * i : 512 * i + 512], i % every == 0) for i, each in enumerate(told)]
+    shown = {row.get("id"): [said(cell) for cell in row] for row in root.iter(f"{HTML}tr") if row.get("id")}
+    assert shown["totals"] == proved, (shown, proved)
+    letters = {letter: [str(pairs[f"{letter} {word}"]) for word in ("CLEAR", "TOUCH", "OPEN")] for letter in "SHOF"}
+    assert all(shown[f"letter{letter}"] == [letter, *counts] for letter, counts in letters.items()), (shown, pairs)
+    assert [sum(map(int, letters["S"])), sum(map(int, letters["H"] + letters["O"])), sum(map(int, letters["F"]))] == list(map(int, total[1:4])), (pairs, total)
+    # which jobs need a look: by what is proved
+    named = {said(li.find(f"{HTML}b")): {a.get("href") for a in li.iter(f"{HTML}a")} for li in root.iter(f"{HTML}li") if li.find(f"{HTML}a") is not None}
+    kinds = ["not clear, although the search says S:", "not clear:", "not settled: treat as not clear:", "refused: nothing was looked at:"]
+    kinds.append("proved clear, although the search says H, O or F: the card says why:")
+
+    def kind(line, clearance):
+        word, letter = (clearance.split(" ") + [""])[3], (line.split(" ") + [""])[3]
+        if not word:
+            return 3
+        return {"TOUCH": 0 if letter == "S" else 1, "OPEN": 2, "CLEAR": None if letter == "S" else 4}[word]
+
+    found = [kind(line, clearance) for line, clearance in zip(lines, clearances)]
+    for k, text in enumerate(kinds):
+        these = [f"#block{i + 1}" for i, is_kind in enumerate(found) if is_kind == k]
+        assert named.get(f"{len(these)} {text}", set()) == set(these[:200]), (text, these)
+    assert len(named) == len({k for k in found if k is not None}), named
     assert hashlib.sha256(blocks).hexdigest() in [said(cell) for cell in root.iter(f"{HTML}td")]
     drawings = [svg for svg in root.iter(f"{SVG}svg") if svg.get("class") != "defs"]
     for svg in drawings:
         check_drawing(svg)
     has = [len([svg for svg in card.iter(f"{SVG}svg")]) for card in cards]
-    worked = [red is not None for red in reds]
-    assert len(drawings) == sum(has) == 2 * min(sum(worked), max(500, sum(warned))), (len(drawings), sum(worked))
-    # red cards have theirs; another has one only where every card that needs a look has
-    assert all(n == 2 for n, red in zip(has, warned) if red)
-    listed = {a.get("href") for ul in root.iter(f"{HTML}ul") if ul.get("class") == "looks" for a in ul.iter(f"{HTML}a")}
-    plain = [not red and letter == "S" and "It turns by " not in said(card) for card, red, letter in zip(cards, warned, letters)]
-    assert not any(n for n, is_plain in zip(has, plain) if is_plain) or all(n for n, is_plain, w in zip(has, plain, worked) if w and not is_plain)
-    assert not listed & {f"#block{i + 1}" for i, is_plain in enumerate(plain) if is_plain}
+    worked = [is_missed is not None for is_missed in missed]
+    assert len(drawings) == sum(has) == 2 * min(sum(worked), max(500, sum(map(bool, missed)))), (len(drawings), sum(worked))
+    # S that are not clear have theirs; one that needs no look has one only where every card that needs a look has
+    assert all(n == 2 for n, is_missed in zip(has, missed) if is_missed)
+    assert not any(n for n, k in zip(has, found) if k is None) or all(n for n, k, w in zip(has, found, worked) if w and k is not None)
+    assert all(band(card) for card, n in zip(cards, has) if n)
     ids = [element.get("id") for element in root.iter() if element.get("id")]
     assert len(ids) == len(set(ids))
     for element in root.iter():
@@ -274,13 +376,12 @@ def main(page, batch, sheet):
         if element.get("href"):
             assert element.get("href")[:1] == "#" and element.get("href")[1:] in ids, element.get("href")
         assert not element.tag.endswith("}script")
-    assert not re.search(r"@import|url\((?!#hatch\))|https?://(?!www\.w3\.org/(?:1999/xhtml|2000/svg)\")", raw)
-    rows = [row for table in root.iter(f"{HTML}table") if table.get("class") == "jobs" for row in table.find(f"{HTML}tbody")]
-    assert [[said(row[0]), said(row[1])] for row in rows] == [line.split(" ")[:2] for line in lines]
+    assert not re.search(r"@import|url\((?!#(?:hatch|dots)\))|https?://(?!www\.w3\.org/(?:1999/xhtml|2000/svg)\")", raw)
     for row, line in zip(rows, lines):
         refusal = line.split(" ")[2]
         assert refusal == "0" or re.search(rf"refused by {refusal}: \w", said(row)), (said(row), line)
-    print(f"{page}: {len(cards)} cards, {len(drawings)} drawings, {sum(map(bool, reds))} cards red: as the sheet says; {len(compared)} gaps worked out here too")
+    met = ", ".join(f"{pair} {count}" for pair, count in sorted(pairs.items()))
+    print(f"{page}: {len(cards)} cards, {len(drawings)} drawings: as the programs say ({met or 'none worked'}); {len(compared)} gaps worked out here too")
 
 
 if __name__ == "__main__":

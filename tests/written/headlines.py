@@ -52,7 +52,10 @@ def rows():
 
 
 def module(file):
+    """The crate of a file and the way to its module, which has to be public."""
     crate, kind, *rest = re.sub(r"\.antt$", "", file).split("/")
+    if f"pub mod {rest[0]}\n" not in (names.ROOT / f"crates/{crate}/{kind}/Lib.antt").read_text(encoding="utf-8") + "\n":
+        sys.exit(f"docs/PROMISES.md: crates/{file} is no public module of its crate: crates/{crate}/{kind}/Lib.antt lacks its `pub`")
     return crate, f"Rattle.{crate}.{kind}.{'.'.join(rest)}"
 
 

@@ -28,7 +28,7 @@ ELSEWHERE = ("target/", "query/", "shape/", "/dev/")
 NO_NAMES = {
     "from_cuboid_half_extents", "ofBits", "toBits", "rattle-kit-5b", "logic",
     "requires", "definition",
-    "SHEET.html", "may.batch", "found.batch", "./-x",
+    "SHEET.html", "PAGE.html", "may.batch", "found.batch", "./-x",
 }
 
 

@@ -1,5 +1,5 @@
 mod Refusals
 mod Order
 mod Laws
-mod InDomain
+pub mod InDomain
 pub mod Whole

@@ -5,7 +5,8 @@ use Prim.Native.Nat.{ℕ, _+_, _*_, _^_}
 use lib.Dec.{leb}
 use lib.ListN.{getD}
 use lib.Ieee.{binary32, binary64, ofBits, toBits}
-use Rattle.model.specs.Root.{nearRoot, root}
+use Rattle.model.specs.Root.{root}
+use Rattle.model.proofs.Root.Floor.{nearRoot}
 use Rattle.root_list.specs.Guesses.{guesses}
 
 -- a guess by half of the index, corrected once, gives 11744052
