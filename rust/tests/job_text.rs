@@ -8,10 +8,18 @@ mod front {
     pub mod batch;
     pub mod job_text;
     mod moves;
-    mod reader;
     pub mod route_text;
     mod text;
     mod words;
+
+    // of the front end's reader only what a text comes to: its streams and programs are not wanted here
+    mod reader {
+        pub struct Made {
+            pub text: String,
+            pub wrote: String,
+            pub notes: Vec<super::text::Told>,
+        }
+    }
 }
 
 /// The letters that the sheet has for a text's jobs.
