@@ -43,6 +43,10 @@ answers() {
   fi
 }
 
+# the rules' whole example
+timeout 60 $run "$bin/sheet" < examples/example.batch > "$work/out" 2> "$work/err"; ended=$?
+wrote "the whole example" 0 $'1 7 0 H 3F600000 3E800000 00000000 3F800000 00000000 2 2 2 0 0 0 0\nTOTAL 1 0 1 0 0\n' ""
+
 nothing=$'standard input: no block came\n'
 : > "$work/batch";                                          answers "no input" none "$nothing"
 block S 100 > "$work/batch";                                answers "a short block alone" none "$nothing"

@@ -70,7 +70,8 @@ def written():
         text.append("-- " + (plain if len(plain) <= 150 else plain[:147].rsplit(" ", 1)[0] + " ..") + "\n")
         for file, name in found:
             crate, path = module(file)
-            if (path, name) in seen:
+            # names.py looks for those of `promises`: a crate above that one would be proved last of all, by itself
+            if crate == "promises" or (path, name) in seen:
                 continue
             shown = name if name not in seen.values() else f"{name} as {name}-{crate.replace('_', '-')}"
             seen[path, name] = name

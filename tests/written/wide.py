@@ -11,7 +11,7 @@ here. The output is as `rt fmt` lays it out.
 import re, sys, os
 from pathlib import Path
 
-CRATES = 'model ground domain outline simplex distance separation sweep_toi toi_proxy sweep_numbers work fields sheet_lines sheet_run list_calls replay'.split()
+CRATES = 'model ground domain outline simplex distance separation sweep_toi toi_proxy sweep_numbers work fields sheet_lines sheet list_calls replay'.split()
 # crates of either width that are written by hand
 WRITTEN = ['root']
 # files of model that mention a record with floats, and are written again for f64; the others are shared
@@ -36,8 +36,8 @@ OF_BLOCK = {'work64/proofs/Laws.antt'}
 OF_MODEL = {'sheet_lines64/proofs/Run.antt'}
 # what differs otherwise: file, what stands there once, what stands in its place
 PATCHES = [
-    ('sheet_run64/src/lib.rt', 'b"sheet"', 'b"sheet64"'),
-    ('sheet_run64/src/lib.rt', 'The run of `sheet`', 'The run of `sheet64`'),
+    ('sheet64/src/main.rt', 'b"sheet"', 'b"sheet64"'),
+    ('sheet64/src/main.rt', 'The run of `sheet`', 'The run of `sheet64`'),
     # a block's numbers are taken over from f32
     ('work64/src/lib.rt', 'floats[i] = ground64::from_bits(wire::word(bytes, from + 4 * i));',
      'floats[i] = f32_to_f64_with_nan(ground::from_bits(wire::word(bytes, from + 4 * i)));'),

@@ -364,8 +364,6 @@ use Rattle.exact64.proofs.Exact.{shift-always-wide}
 use Rattle.sheet_lines64.proofs.Run.{run-gives-sheet as run-gives-sheet-sheet-lines64}
 -- ---- That no second result fits
 -- that no second result fits, nor a second content of a list lent to be written: one statement for each public function, of the contract that its ..
-use Rattle.promises.specs.OneResult.{OneResult}
-use Rattle.promises.proofs.EveryFunction.{ground-add}
 -- ---- The whole move
 -- the distance to keep is the larger of the slop and the sum of the radii
 use Rattle.planned.specs.Planned.{Clear}

@@ -7,6 +7,9 @@ use lib.ListN.{replicate}
 use lib.Ieee.{Float, nan, binary32, binary64, ofBits, toBits, add, sub, mul, div, neg, lt, le}
 use Rattle.model.specs.declared.Vector.{Vector}
 use Rattle.model.specs.declared.Sweep.{Sweep}
+use Rattle.model.specs.declared.CheckedPose.{CheckedPose}
+use Rattle.model.specs.declared.CheckedPose.the-variants as CheckedPose
+use Rattle.model.specs.declared.SweepAnswer.the-variants as Swept
 use Rattle.model.specs.declared.Status.the-variants.{Failed}
 use Rattle.model.specs.Root.{root}
 use Rattle.model.specs.Ground.{vector, rotation, pose, abs}
@@ -16,18 +19,19 @@ use Rattle.model.specs.Simplex.{solve}
 use Rattle.model.specs.Distance.{allBelow, replaced, held, vertex, startSimplex, roundsFrom, witnessPoints, measure, proxyDistance}
 use Rattle.model.specs.Sweep.{transformAt, shifted}
 use Rattle.model.specs.SweepToi.{sweepTimeOfImpact}
+use Rattle.model.specs.Corners.{sweep}
 use Rattle.model.specs.Wire.{word}
 use Rattle.model.specs.Block.{sumOfWords, checkedBlock}
 use Rattle.model.specs.Text.{decimalBy, line}
-use Rattle.model.specs.Work.{moveAt, blockAnswer}
+use Rattle.model.specs.Work.{moveAt, sweepFor, blockAnswer}
 use Rattle.model.specs.Sheet.{refusedLine}
 use Rattle.at_fraction.specs.declared.GapAnswer.the-variants as Gap
-use Rattle.at_fraction.specs.Moment.{gap, gapAt}
+use Rattle.at_fraction.specs.Moment.{poseAt, gap, gapAt}
 use Rattle.shapes.specs.declared.Built.the-variants as Built
-use Rattle.shapes.specs.Shapes.{told, left, plateTold, barLeft}
+use Rattle.shapes.specs.Shapes.{told, left, plateTold, plateLeft, barLeft}
 use Rattle.route_legs.specs.declared.RouteAnswer.the-variants.{Refused}
 use Rattle.route_legs.specs.Route.{stop, startOf, legMove, sweepAt, walkFrom, wrong, route}
-use Rattle.list_calls.specs.Entry.{sweepFits, cacheOf, distanceFor, distanceFits, distanceCall, distanceNumber}
+use Rattle.list_calls.specs.Entry.{sweepFits, sweepCall, sweepNumber, cacheOf, distanceFor, distanceFits, distanceCall, distanceNumber}
 use Rattle.foldflake.specs.Entry.{lineTo}
 use Rattle.foldflake.specs.Route.{endNumber}
 use Rattle.foldflake.specs.Moment.{poseFloats, gapCall, gapAfter}
@@ -61,6 +65,15 @@ unfolding moveAt gapAt gap shifted transformAt root supportFrom solve vertex sta
     allBelow replaced badParts abs add sub neg mul div lt le ofBits
 gap-of-one-move = refl
 
+-- from 2 to 3: at 0 it stands at 2
+abbrev xBits : CheckedPose → ℕ
+xBits (CheckedPose.Good p) = bits (p .translation .x)
+xBits (CheckedPose.Refused n) = n
+
+pub pose-at-the-end : xBits (poseAt binary32 (along n2 n3) n0) ≡ 0x4000_0000
+unfolding poseAt transformAt root abs badParts add sub neg mul div lt le ofBits toBits
+pose-at-the-end = refl
+
 pub pose-translation-exchanged : map bits (poseFloats (pose (rotation n1 n0) (vector n2 n3))) ≡ (0x3f80_0000 ∷ 0 ∷ 0x4000_0000 ∷ 0x4040_0000 ∷ [])
 unfolding ofBits toBits
 pose-translation-exchanged = refl
@@ -71,6 +84,12 @@ pub bar-turned-round : map bits (barLeft binary32 (vector n1 n2) (vector n3 n4) 
     ≡ (0x3f80_0000 ∷ 0x4000_0000 ∷ 0x4040_0000 ∷ 0x4080_0000 ∷ 0x40a0_0000 ∷ [])
 unfolding left abs le ofBits toBits
 bar-turned-round = refl
+
+-- x is negated by bit 0 of a corner's number, y by bit 1: no walk round the plate
+pub counter-clockwise : map bits (plateLeft binary32 n1 n2 (replicate 8 n0))
+    ≡ (0x3f80_0000 ∷ 0x4000_0000 ∷ 0xbf80_0000 ∷ 0x4000_0000 ∷ 0x3f80_0000 ∷ 0xc000_0000 ∷ 0xbf80_0000 ∷ 0xc000_0000 ∷ [])
+unfolding left abs neg lt le ofBits toBits
+counter-clockwise = refl
 
 -- there is room for a plate, so it is not answered by 15
 pub refused-build-writes : plateTold binary32 n1 n2 (replicate 8 n0) ≡ Built.Corners 4
@@ -102,6 +121,14 @@ route-failed-told-as-hit = refl
 pub sweep-counts-of-three : map (λ (n : ℕ). sweepFits (replicate 24 n0) (replicate 5 n0) (replicate n 0)) (3 ∷ 7 ∷ []) ≡ (false ∷ true ∷ [])
 sweep-counts-of-three = refl
 
+-- the move of B, of which a centre is no number, is read behind that of A
+abbrev movesApart : List Float
+movesApart = n0 ∷ n0 ∷ n1 ∷ n1 ∷ n0 ∷ n0 ∷ n0 ∷ n0 ∷ n0 ∷ n0 ∷ n1 ∷ n0 ∷ n1 ∷ n0 ∷ n0 ∷ n0 ∷ nan ∷ n0 ∷ n0 ∷ n0 ∷ n1 ∷ n0 ∷ n1 ∷ n0 ∷ []
+
+pub both-by-one-move : sweepFor binary32 there there movesApart .answer ≡ Swept.Refused 6
+unfolding sweepFor sweep sweepTimeOfImpact moveAt badParts abs add mul lt le ofBits
+both-by-one-move = refl
+
 -- a cache's count is a byte
 pub distance-count-256
     : map (λ (n : ℕ). distanceFits (replicate 6 n0) (0 ∷ n ∷ replicate 6 0) (replicate 7 n0)) (255 ∷ 256 ∷ []) ≡ (true ∷ false ∷ [])
@@ -123,3 +150,8 @@ pub distance64-number-of-the-radii
     : distanceNumber (distanceCall binary64 (o ∷ o ∷ []) (o ∷ o ∷ []) upright 1 7 (7 ∷ 1 ∷ replicate 6 0) .answer) ≡ 16
 unfolding distanceFor cacheOf proxyDistance badParts abs solve vertex startSimplex roundsFrom witnessPoints measure allBelow add sub neg mul lt le ofBits
 distance64-number-of-the-radii = refl
+
+-- outline A has no point, and B has one
+pub sweep64-outlines-exchanged : sweepNumber (sweepCall binary64 [] (o ∷ o ∷ []) (replicate 24 o)) ≡ 1
+unfolding sweepFor sweep sweepTimeOfImpact
+sweep64-outlines-exchanged = refl

@@ -50,6 +50,14 @@ pub one-counts-two : solve binary32 (Geometry.vertex 0 -n1 n1 ∷ Geometry.verte
 unfolding solve solveSimplex2 region2 kept add sub neg mul div lt le ofBits
 one-counts-two = refl
 
+-- of three vertices both points are A's sum: 1 times (2, 3), and nothing of B's (4, 5)
+abbrev third : SimplexVertex
+third = record { wa = vector n2 n3; wb = vector n4 n5; w = vector n0 n0; a = n1; «index_a» = 2; «index_b» = 0 }
+
+pub witness-third-of-b : both (witnessPoints binary32 (Geometry.vertex 0 n0 n0 ∷ Geometry.vertex 1 n0 n0 ∷ third ∷ []) 3 .b) ≡ (0x4000_0000 ∷ 0x4040_0000 ∷ [])
+unfolding witnessPoints add mul ofBits toBits
+witness-third-of-b = refl
+
 -- ---- the distance call
 abbrev empty : ℕ → SimplexCache
 empty pair = cache pair 0 (0 ∷ 0 ∷ 0 ∷ []) (0 ∷ 0 ∷ 0 ∷ [])
@@ -88,6 +96,11 @@ faceB = function still still (vector n0 n0) (vector n0 n1) FaceB
 pub evaluate-face-b-turned : bits (evaluate binary32 (n0 ∷ n3 ∷ []) there faceB 0 0 n0) ≡ 0x4040_0000
 unfolding evaluate transformAt root add sub neg mul div lt ofBits toBits
 evaluate-face-b-turned = refl
+
+-- a corner (0, 3) of B above the face of A through (0, 0): from the axis (0, 1) it would be 2
+pub axis-taken-for-a-faces-point : bits (evaluate binary32 there (n0 ∷ n3 ∷ []) (function still still (vector n0 n0) (vector n0 n1) FaceA) 0 0 n0) ≡ 0x4040_0000
+unfolding evaluate transformAt root add sub neg mul div lt ofBits toBits
+axis-taken-for-a-faces-point = refl
 
 -- where A has a face no corner of it is told, not corner 0
 pub face-side-has-a-corner : cornersA binary32 there faceB upright upright FaceA .second ≡ 4294967295

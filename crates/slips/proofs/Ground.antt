@@ -96,6 +96,11 @@ pub distance-to-itself : bits (distance binary32 (vector n3 n4) (vector n0 n0)) 
 unfolding root add sub neg mul ofBits toBits
 distance-to-itself = refl
 
+-- at 0 the first rotation
+pub nlerp-operand-swapped : bits (nlerp binary32 (rotation n1 n0) (rotation n0 n1) n0 .c) ≡ 0x3f80_0000
+unfolding root add sub mul div lt ofBits toBits
+nlerp-operand-swapped = refl
+
 -- of a zero vector nothing is left, although 1 over its length is infinite
 pub normalize-infinite : both (normaliseOrZero binary32 (vector n0 n0)) ≡ (0 ∷ 0 ∷ [])
 unfolding root add mul div lt le ofBits toBits

@@ -22,8 +22,8 @@ use Rattle.any_contact_search.specs.First.{firstFrom, said}
 use Rattle.any_contact_search.specs.Search.{searchedTo}
 use Rattle.report_counts.specs.declared.most.Most.the-variants.{Nowhere, At}
 use Rattle.report_counts.specs.Rows.{hitRow, rowsIn, timesIn, refusalRow}
-use Rattle.report_counts.specs.Largest.{larger, largestFrom, largestIn}
-use Rattle.report_counts.specs.Report.{report, everyAnswer, tallyFrom, bumpedAll, counted}
+use Rattle.report_counts.specs.Largest.{larger, largestFrom, largestIn, moved}
+use Rattle.report_counts.specs.Report.{report, everyAnswer, tallyFrom, bumpedAll, counted, together}
 use Rattle.report_lines.specs.Text.{mostText}
 use Rattle.job_text.specs.Job.{countAt}
 use Rattle.sheet_lines64.specs.Part.{lineFor}
@@ -58,6 +58,11 @@ batch-begins-uncounted = refl
 pub blocks-from-zero : counted (report ([] ∷ [])) atOne .largest .calls ≡ At 3 1 1
 unfolding counted report everyAnswer tallyFrom rowsIn timesIn largestIn largestFrom larger
 blocks-from-zero = refl
+
+-- the second report's batches follow the first's: its one batch is number 2
+pub second-batches-not-moved : together (report ([] ∷ [])) (counted (report ([] ∷ [])) atOne) .largest .calls ≡ At 3 2 1
+unfolding together counted report everyAnswer tallyFrom rowsIn timesIn largestIn largestFrom larger moved
+second-batches-not-moved = refl
 
 -- 1 is in no eighth, and what is no number is not above 1
 pub one-counted-in-seven-eighths : hitRow n1 ≡ 13

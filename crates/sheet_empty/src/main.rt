@@ -1,4 +1,0 @@
-// The sheet of no input.
-fn main() {
-    sheet_run::run();
-}
