@@ -20,10 +20,10 @@ use Rattle.integers.proofs.Signed.{⊠-comm, le-or-lt}
 use Rattle.plane.specs.Plane.{dot, difference}
 use Rattle.whole_move.proofs.Lengths.{products}
 use Rattle.whole_move.proofs.Turns.{square-within}
-use Rattle.pairs.specs.declared.Pair.{Pair}
-use Rattle.pairs.specs.Pairs.{intOf, Is}
-use Rattle.pairs.specs.Pairs as pairs
-use Rattle.corners.specs.Corners.{place, cornerOf}
+use Rattle.board.specs.declared.Pair.{Pair}
+use Rattle.board.specs.Pairs.{intOf, Is}
+use Rattle.board.specs.Pairs as pairs
+use Rattle.board.specs.Corners.{place, cornerOf}
 use Rattle.board.specs.declared.GridBody.{GridBody}
 use Rattle.board.specs.declared.GridJob.{GridJob}
 use Rattle.board.specs.Board.{CloseTo, BodyFits, StandsForBody}
@@ -341,10 +341,6 @@ steady points numbers i g xs ys r h u = (
     y = h .last .y .small (u (2 * (i + 4) + 1) (omega arith) (omega arith));
   },
 )
-
-pub is-not : (b : Bool) → not b ≡ true → b ≡ false
-is-not false e = refl
-is-not true e = absurd (true≢false (sym e))
 
 -- ---- the job
 module _ (pointsA pointsB numbers : List Float) (g : ℕ) (h : Suits pointsA pointsB numbers g) where

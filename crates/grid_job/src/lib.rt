@@ -1,14 +1,14 @@
 // The numbers of a job on a grid of whole numbers. No float operation: patterns are read.
 use board::GridBody;
 use board::GridJob;
+use board::Pair;
+use board::Vector;
+use board::norm;
 use grid::Parts;
 use grid::grid;
 use grid::grid_down;
 use grid::grid_up;
 use outline::point;
-use pairs::Pair;
-use pairs::Vector;
-use pairs::norm;
 ghost use mathlib.Core.Bool.{true, false};
 ghost use mathlib.Core.Path.{_≡_};
 ghost use Prim.Native.Nat.{ℕ, _+_, _*_, _^_, _≤_, _<_};
@@ -16,7 +16,7 @@ ghost use lib.Ieee.{binary32, toBits};
 ghost use lib.ListN.{length};
 ghost use Rattle.model.specs.Support.{point};
 ghost use Rattle.grid.specs.Grid.{unit};
-ghost use Rattle.pairs.specs.Pairs.{sizeOf, Sized};
+ghost use Rattle.board.specs.Pairs.{sizeOf, Sized};
 ghost use Rattle.grid_job.specs.Placing.{Near, NearPair, UpTo, Suits, Ordinary, Fitting, Steady, Less, Offset, Span, Turned, Headed, Asked};
 ghost use Rattle.grid_job.specs.Placing.{AllCornered, PlacedBody, Between, Limits, Joined, keepOf, OnBoard, FractionUp, FractionDown};
 
