@@ -97,6 +97,11 @@ part-square x a h = square-within (record { plus = x; minus = 536870912 }) (ofNa
 pub span-law : (x y a b h : ℕ) → Apart x a → Apart y b → a ≤ b → a ≤ 2 * h → b + h ≤ 805306368 → Span x y (b + h)
 span-law x y a b h hx hy l m small = record { reach = omega (arith, part-square x a hx, part-square y b hy, span-plain a b h l m); small = small }
 
+-- by the squares themselves
+pub near-law : (x y a b r : ℕ) → Apart x a → Apart y b → a * a + b * b ≤ r * r → r ≤ 805306368 → Span x y r
+unfolding _⊠_
+near-law x y a b r hx hy l small = record { reach = omega (arith, part-square x a hx, part-square y b hy, l); small = small }
+
 pub span-law-turned : (x y a b h : ℕ) → Apart x a → Apart y b → b ≤ a → b ≤ 2 * h → a + h ≤ 805306368 → Span x y (a + h)
 span-law-turned x y a b h hx hy l m small = record { reach = omega (arith, part-square x a hx, part-square y b hy, span-plain b a h l m); small = small }
 
