@@ -8,9 +8,9 @@ use Rattle.integers.specs.Signed.{Int, ofNat, _⊟_, _⊠_, _≼_}
 use Rattle.integers.specs.Whole.{Within}
 use Rattle.plane.specs.Plane.{Point, difference, scaled, dot}
 use Rattle.whole_way.specs.Mover.{Mover, share, AwayBetween}
-use Rattle.pairs.specs.declared.Vector.{Vector}
-use Rattle.pairs.specs.Pairs.{pointOf, Sized}
-use Rattle.corners.specs.Corners.{cornerOf, Corners}
+use Rattle.board.specs.declared.Vector.{Vector}
+use Rattle.board.specs.Pairs.{pointOf, Sized}
+use Rattle.board.specs.Corners.{cornerOf, Corners}
 use Rattle.board.specs.declared.GridBody.{GridBody}
 use Rattle.board.specs.declared.GridJob.{GridJob}
 

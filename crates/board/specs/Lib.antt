@@ -1,1 +1,3 @@
+pub mod Pairs
+pub mod Corners
 pub mod Board

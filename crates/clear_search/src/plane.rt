@@ -1,6 +1,6 @@
 // Whole numbers as floats and back, and vectors of floats.
-use pairs::Pair;
-use pairs::Vector;
+use board::Pair;
+use board::Vector;
 ghost use mathlib.Core.Path.{_≡_};
 ghost use lib.ListN.{length};
 

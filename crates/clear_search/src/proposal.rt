@@ -13,9 +13,9 @@ use crate::plane::sum;
 use crate::plane::whole;
 use crate::plane::whole_vector;
 use board::GridJob;
+use board::Grip;
 use board::Proposal;
-use pairs::Vector;
-use touches::Grip;
+use board::Vector;
 ghost use Prim.Native.Nat.{_≤_};
 
 // 2^26: what a lengthener of 1 is written as.

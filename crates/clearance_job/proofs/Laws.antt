@@ -46,10 +46,6 @@ asked-by x y from end part e f h = record {
   ends = rw f at (h .ends);
 }
 
-pub is-not : (b : Bool) → not b ≡ true → b ≡ false
-is-not false e = refl
-is-not true e = absurd (true≢false (sym e))
-
 low-bits : (b : ℕ) → b ≤ 1065353216 → b % 2147483648 ≤ 1065353216
 low-bits b h = omega arith
 

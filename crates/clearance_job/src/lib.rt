@@ -9,7 +9,6 @@ use outline::point;
 ghost use mathlib.Core.Bool.{true, false};
 ghost use mathlib.Core.Path.{_≡_};
 ghost use Prim.Native.Nat.{_+_, _≤_, _<_};
-ghost use Rattle.board.specs.Board.{Fits};
 ghost use Rattle.planned.specs.Planned.{worthOf};
 ghost use Rattle.integers.specs.Signed.{0Int, ofNat, _≼_};
 ghost use Rattle.grid.specs.Grid.{unit};
@@ -127,7 +126,6 @@ fn settle_board(
     bxs: &[u64],
     bys: &[u64],
 ) -> Verdict
-    requires { ⌜ Fits job (now axs) (now ays) (now bxs) (now bys) ⌝ }
     ensures { λ r. ⌜ Heard (Spoken (now (numbers .entry)) from job (now (axs .entry)) (now (ays .entry)) (now (bxs .entry)) (now (bys .entry))) r
         × (Ranged from (point (now (numbers .entry)) 1 .x) → r .settled ≡ true) ⌝ }
 {

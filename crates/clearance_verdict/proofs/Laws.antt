@@ -6,7 +6,7 @@ use native.Mathlib.Omega.{arith}
 use Rattle.whole_way.proofs.Join.{one-more}
 use Rattle.board.specs.declared.GridJob.{GridJob}
 use Rattle.board.specs.Board.{ClearBetween}
-use Rattle.touches.specs.Grip.{TouchesAt}
+use Rattle.holding.specs.Grip.{TouchesAt}
 use Rattle.clearance_verdict.specs.declared.Look.{Look}
 use Rattle.clearance_verdict.specs.declared.Look.the-variants.{At, Nowhere}
 use Rattle.clearance_verdict.specs.Verdict.{Span, ClearUpTo, Found, toldBy, Settled}

@@ -3,7 +3,7 @@ use mathlib.Core.List.{List}
 use Prim.Native.Nat.{ℕ, _+_, _≤_, _<_}
 use Rattle.board.specs.declared.GridJob.{GridJob}
 use Rattle.board.specs.Board.{ClearBetween}
-use Rattle.touches.specs.Grip.{TouchesAt}
+use Rattle.holding.specs.Grip.{TouchesAt}
 use Rattle.clearance_verdict.specs.declared.Answer.{Answer}
 use Rattle.clearance_verdict.specs.declared.Answer.the-variants.{Clear, Touch, Open}
 use Rattle.clearance_verdict.specs.declared.Look.{Look}

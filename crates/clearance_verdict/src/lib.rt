@@ -10,14 +10,14 @@ use clear_search::grip_of;
 use clear_search::nowhere;
 use clear_search::propose;
 use clear_search::stand_at;
-use rides::clear_piece;
-use touches::touches;
+use piece_check::clear_piece;
+use piece_check::touches;
 ghost use mathlib.Core.Bool.{true};
 ghost use mathlib.Core.Path.{_≡_};
 ghost use Prim.Native.Nat.{_+_, _≤_, _<_};
 ghost use lib.ListN.{length};
-ghost use Rattle.board.specs.Board.{Fits, ClearBetween};
-ghost use Rattle.touches.specs.Grip.{TouchesAt};
+ghost use Rattle.board.specs.Board.{ClearBetween};
+ghost use Rattle.holding.specs.Grip.{TouchesAt};
 ghost use Rattle.clearance_verdict.specs.Verdict.{Least, Found, ShortTouch, toldBy, Span, Settled};
 
 // No more pieces are tried.
@@ -66,7 +66,6 @@ fn touch_at(
     bxs: &[u64],
     bys: &[u64],
 ) -> bool
-    requires { ⌜ Fits job (now axs) (now ays) (now bxs) (now bys) ⌝ }
     ensures { λ r. ⌜ (r ≡ true → TouchesAt job k (now (axs .entry)) (now (ays .entry)) (now (bxs .entry)) (now (bys .entry))) ⌝ }
 {
     touches(job, k, grip_of(s), axs, ays, bxs, bys)
@@ -86,7 +85,6 @@ fn look_at(
     fbx: &[f64],
     fby: &[f64],
 ) -> bool
-    requires { ⌜ Fits job (now axs) (now ays) (now bxs) (now bys) ⌝ }
     ensures { λ r. ⌜ (r ≡ true → TouchesAt job k (now (axs .entry)) (now (ays .entry)) (now (bxs .entry)) (now (bys .entry))) ⌝ }
 {
     let s = stand_at(fax, fay, fbx, fby, course, k, near);
@@ -109,7 +107,7 @@ fn look_near(
     fbx: &[f64],
     fby: &[f64],
 ) -> Look
-    requires { ⌜ Fits job (now axs) (now ays) (now bxs) (now bys) × (low ≤ 16777216) ⌝ }
+    requires { ⌜ low ≤ 16777216 ⌝ }
     ensures { λ r. ⌜ Found job u low (now (axs .entry)) (now (ays .entry)) (now (bxs .entry)) (now (bys .entry)) r ⌝ }
 {
     let mut d: u64 = 1;
@@ -157,7 +155,7 @@ fn look_far(
     fbx: &[f64],
     fby: &[f64],
 ) -> Look
-    requires { ⌜ Fits job (now axs) (now ays) (now bxs) (now bys) × (low ≤ 16777216) ⌝ }
+    requires { ⌜ low ≤ 16777216 ⌝ }
     ensures { λ r. ⌜ Found job u low (now (axs .entry)) (now (ays .entry)) (now (bxs .entry)) (now (bys .entry)) r ⌝ }
 {
     let mut i: u64 = 1;
@@ -190,7 +188,7 @@ fn last_look(
     fbx: &[f64],
     fby: &[f64],
 ) -> Look
-    requires { ⌜ Fits job (now axs) (now ays) (now bxs) (now bys) × (low ≤ 16777216) ⌝ }
+    requires { ⌜ low ≤ 16777216 ⌝ }
     ensures { λ r. ⌜ Found job u low (now (axs .entry)) (now (ays .entry)) (now (bxs .entry)) (now (bys .entry)) r ⌝ }
 {
     let first = look_near(
@@ -260,7 +258,6 @@ fn try_piece(
     fbx: &[f64],
     fby: &[f64],
 ) -> bool
-    requires { ⌜ Fits job (now axs) (now ays) (now bxs) (now bys) ⌝ }
     ensures { λ r. ⌜ (r ≡ true → ClearBetween job k0 k1 (now (axs .entry)) (now (ays .entry)) (now (bxs .entry)) (now (bys .entry))) ⌝ }
 {
     let p = propose(fax, fay, fbx, fby, s, t);
@@ -279,7 +276,6 @@ fn short_touch(
     bxs: &[u64],
     bys: &[u64],
 ) -> bool
-    requires { ⌜ Fits job (now axs) (now ays) (now bxs) (now bys) ⌝ }
     ensures { λ r. ⌜ (r ≡ true → ShortTouch job k low (now (axs .entry)) (now (ays .entry)) (now (bxs .entry)) (now (bys .entry))) ⌝ }
 {
     if step > SHORT {
@@ -307,7 +303,7 @@ fn settle(
     fbx: &[f64],
     fby: &[f64],
 ) -> Answer
-    requires { ⌜ Fits job (now axs) (now ays) (now bxs) (now bys) × Span from low high ⌝ }
+    requires { ⌜ Span from low high ⌝ }
     ensures { λ r. ⌜ Settled job from low high (now (axs .entry)) (now (ays .entry)) (now (bxs .entry)) (now (bys .entry)) r ⌝ }
 {
     let mut s = stand_at(fax, fay, fbx, fby, course, from, nowhere());
@@ -377,7 +373,25 @@ fn at_most_64(n: usize) -> usize
     if n < 64 { n } else { 64 }
 }
 
-// The verdict: from `from` to `high`, in 2^24-ths; a touch is told up to `low`.
+fn in_span(from: u64, low: u64, high: u64) -> bool
+    ensures { λ r. ⌜ (r ≡ true → Span from low high) × (Span from low high → r ≡ true) ⌝ }
+{
+    if from >= high {
+        return false;
+    }
+    if high > 16777216 {
+        return false;
+    }
+    if low > high {
+        return false;
+    }
+    if high > low + 1 {
+        return false;
+    }
+    true
+}
+
+// The verdict: from `from` to `high`, in 2^24-ths; a touch is told up to `low`. What is no span of the move is left open.
 pub fn settle_job(
     job: GridJob,
     from: u64,
@@ -388,9 +402,15 @@ pub fn settle_job(
     bxs: &[u64],
     bys: &[u64],
 ) -> Answer
-    requires { ⌜ Fits job (now axs) (now ays) (now bxs) (now bys) × Span from low high ⌝ }
-    ensures { λ r. ⌜ Settled job from low high (now (axs .entry)) (now (ays .entry)) (now (bxs .entry)) (now (bys .entry)) r ⌝ }
+    ensures { λ r. ⌜ (Span from low high → Settled job from low high (now (axs .entry)) (now (ays .entry)) (now (bxs .entry)) (now (bys .entry)) r) ⌝ }
 {
+    let some = in_span(from, low, high);
+    if !some {
+        return Answer::Open {
+            clear_up_to: from,
+            pieces: 0,
+        };
+    }
     let na = at_most_64(axs.len());
     let nb = at_most_64(bxs.len());
     let fax = floats(axs);

@@ -20,10 +20,10 @@ use Rattle.integers.proofs.Signed.{⊠-comm, le-or-lt}
 use Rattle.plane.specs.Plane.{dot, difference}
 use Rattle.whole_move.proofs.Lengths.{products}
 use Rattle.whole_move.proofs.Turns.{square-within}
-use Rattle.pairs.specs.declared.Pair.{Pair}
-use Rattle.pairs.specs.Pairs.{intOf, Is}
-use Rattle.pairs.specs.Pairs as pairs
-use Rattle.corners.specs.Corners.{place, cornerOf}
+use Rattle.board.specs.declared.Pair.{Pair}
+use Rattle.board.specs.Pairs.{intOf, Is}
+use Rattle.board.specs.Pairs as pairs
+use Rattle.board.specs.Corners.{place, cornerOf}
 use Rattle.board.specs.declared.GridBody.{GridBody}
 use Rattle.board.specs.declared.GridJob.{GridJob}
 use Rattle.board.specs.Board.{CloseTo, BodyFits, StandsForBody}
@@ -96,6 +96,11 @@ part-square x a h = square-within (record { plus = x; minus = 536870912 }) (ofNa
 
 pub span-law : (x y a b h : ℕ) → Apart x a → Apart y b → a ≤ b → a ≤ 2 * h → b + h ≤ 805306368 → Span x y (b + h)
 span-law x y a b h hx hy l m small = record { reach = omega (arith, part-square x a hx, part-square y b hy, span-plain a b h l m); small = small }
+
+-- by the squares themselves
+pub near-law : (x y a b r : ℕ) → Apart x a → Apart y b → a * a + b * b ≤ r * r → r ≤ 805306368 → Span x y r
+unfolding _⊠_
+near-law x y a b r hx hy l small = record { reach = omega (arith, part-square x a hx, part-square y b hy, l); small = small }
 
 pub span-law-turned : (x y a b h : ℕ) → Apart x a → Apart y b → b ≤ a → b ≤ 2 * h → a + h ≤ 805306368 → Span x y (a + h)
 span-law-turned x y a b h hx hy l m small = record { reach = omega (arith, part-square x a hx, part-square y b hy, span-plain b a h l m); small = small }
@@ -341,10 +346,6 @@ steady points numbers i g xs ys r h u = (
     y = h .last .y .small (u (2 * (i + 4) + 1) (omega arith) (omega arith));
   },
 )
-
-pub is-not : (b : Bool) → not b ≡ true → b ≡ false
-is-not false e = refl
-is-not true e = absurd (true≢false (sym e))
 
 -- ---- the job
 module _ (pointsA pointsB numbers : List Float) (g : ℕ) (h : Suits pointsA pointsB numbers g) where

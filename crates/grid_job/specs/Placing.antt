@@ -9,11 +9,11 @@ use Rattle.integers.specs.Whole.{Within}
 use Rattle.plane.specs.Plane.{Point, difference, dot}
 use Rattle.model.specs.declared.Vector as model
 use Rattle.model.specs.Support.{point}
-use Rattle.pairs.specs.declared.Pair.{Pair}
-use Rattle.pairs.specs.declared.Vector.{Vector}
-use Rattle.pairs.specs.Pairs.{intOf, pointOf, Sized}
-use Rattle.pairs.specs.Pairs as pairs
-use Rattle.corners.specs.Corners.{place, cornerOf, Corners}
+use Rattle.board.specs.declared.Pair.{Pair}
+use Rattle.board.specs.declared.Vector.{Vector}
+use Rattle.board.specs.Pairs.{intOf, pointOf, Sized}
+use Rattle.board.specs.Pairs as pairs
+use Rattle.board.specs.Corners.{place, cornerOf, Corners}
 use Rattle.board.specs.declared.GridBody.{GridBody}
 use Rattle.board.specs.declared.GridJob.{GridJob}
 use Rattle.board.specs.Board.{Inside, BodyFits, Fits, CloseTo, StandsForBody, StandsFor}

@@ -1,14 +1,14 @@
 // The numbers of a job on a grid of whole numbers. No float operation: patterns are read.
 use board::GridBody;
 use board::GridJob;
+use board::Pair;
+use board::Vector;
+use board::norm;
 use grid::Parts;
 use grid::grid;
 use grid::grid_down;
 use grid::grid_up;
 use outline::point;
-use pairs::Pair;
-use pairs::Vector;
-use pairs::norm;
 ghost use mathlib.Core.Bool.{true, false};
 ghost use mathlib.Core.Path.{_≡_};
 ghost use Prim.Native.Nat.{ℕ, _+_, _*_, _^_, _≤_, _<_};
@@ -16,7 +16,7 @@ ghost use lib.Ieee.{binary32, toBits};
 ghost use lib.ListN.{length};
 ghost use Rattle.model.specs.Support.{point};
 ghost use Rattle.grid.specs.Grid.{unit};
-ghost use Rattle.pairs.specs.Pairs.{sizeOf, Sized};
+ghost use Rattle.board.specs.Pairs.{sizeOf, Sized};
 ghost use Rattle.grid_job.specs.Placing.{Near, NearPair, UpTo, Suits, Ordinary, Fitting, Steady, Less, Offset, Span, Turned, Headed, Asked};
 ghost use Rattle.grid_job.specs.Placing.{AllCornered, PlacedBody, Between, Limits, Joined, keepOf, OnBoard, FractionUp, FractionDown};
 
@@ -104,7 +104,7 @@ fn distance(x: u64) -> u64
 }
 
 // No less than the length of a corner, and at most an eighth more: the larger part and half of the smaller.
-fn span(x: u64, y: u64) -> u64
+fn wide_span(x: u64, y: u64) -> u64
     requires { ⌜ (x ≤ 1073741824) × (y ≤ 1073741824) ⌝ }
     ensures { λ r. ⌜ Span x y r ⌝ }
 {
@@ -115,6 +115,42 @@ fn span(x: u64, y: u64) -> u64
     } else {
         a + (b + 1) / 2
     }
+}
+
+fn square(a: u64) -> u64
+    requires { ⌜ a ≤ 805306368 ⌝ }
+    ensures { λ r. ⌜ (r ≡ a * a) × (r ≤ 648518346341351424) ⌝ }
+{
+    a * a
+}
+
+// From above nearer to the root of n, by Newton's rule. Nothing rests on it: `span` looks at what comes out.
+fn nearer(n: u64, r: u64) -> u64
+    requires { ⌜ r ≤ 805306368 ⌝ }
+    ensures { λ s. ⌜ s ≤ 805306368 ⌝ }
+{
+    if r < 1 {
+        return r;
+    }
+    let q = n / r;
+    if q >= r {
+        return r;
+    }
+    (r + q) / 2 + 1
+}
+
+// No less than the length of a corner, and hardly more.
+fn span(x: u64, y: u64) -> u64
+    requires { ⌜ (x ≤ 1073741824) × (y ≤ 1073741824) ⌝ }
+    ensures { λ r. ⌜ Span x y r ⌝ }
+{
+    let wide = wide_span(x, y);
+    let n = square(distance(x)) + square(distance(y));
+    let near = nearer(n, nearer(n, nearer(n, wide)));
+    if square(near) < n {
+        return wide;
+    }
+    near
 }
 
 // All corners to the lists, and how far the farthest lies.

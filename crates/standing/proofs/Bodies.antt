@@ -21,17 +21,17 @@ use Rattle.whole_move.proofs.Rounded.{Small, long-rounded, short-rounded, contr
 use Rattle.whole_move.proofs.Lengths.{below-root, longer}
 use Rattle.whole_move.proofs.Turns.{square-within}
 use Rattle.whole_way.specs.Mover.{Mover, Piece, pieceFrom, onPiece, resized}
-use Rattle.pairs.specs.declared.Pair.{Pair}
-use Rattle.pairs.specs.declared.Vector.{Vector}
-use Rattle.pairs.specs.Pairs.{intOf, pointOf, sizeOf, Sized}
-use Rattle.corners.specs.Corners.{cornerOf}
+use Rattle.board.specs.declared.Pair.{Pair}
+use Rattle.board.specs.declared.Vector.{Vector}
+use Rattle.board.specs.Pairs.{intOf, pointOf, sizeOf, Sized}
+use Rattle.board.specs.Corners.{cornerOf}
 use Rattle.board.specs.declared.GridBody.{GridBody}
 use Rattle.board.specs.Board.{Inside, CloseTo, StandsForBody}
-use Rattle.apart.specs.declared.Arc.{Arc}
-use Rattle.apart.specs.Form.{ArcSmall}
-use Rattle.turns.specs.Window.{turnOf, Steady}
-use Rattle.arcs.specs.Cut.{Cut, Mid, MidVector, Stretched, IsArc}
-use Rattle.pieces.specs.Seen.{ArcAt, Blurred, Turning, Still, Seen}
+use Rattle.board.specs.declared.Arc.{Arc}
+use Rattle.standing.specs.Form.{ArcSmall}
+use Rattle.standing.specs.Window.{turnOf, Steady}
+use Rattle.standing.specs.Cut.{Cut, Mid, MidVector, Stretched, IsArc}
+use Rattle.standing.specs.Seen.{ArcAt, Blurred, Turning, Still, Seen}
 use Rattle.standing.proofs.Parts.{mid-near, end-near, middle-near}
 use Rattle.standing.proofs.Numbers.{turnLength, windowWidth, lengthOff, farthest, carried, turnBlur, largestPart, turnPart, cornerBlur, margin}
 use Rattle.standing.proofs.Numbers as numbers

@@ -15,14 +15,14 @@ use Rattle.whole_move.specs.Blend.{twice, thrice, line}
 use Rattle.whole_move.specs.Piece.{Controls, turnedBy, control, form0, form1, form2, form3, Away, Near}
 use Rattle.whole_move.proofs.Forms.{enlarged, away-enlarged}
 use Rattle.whole_way.specs.Mover.{Mover, pieceFrom, onPiece, resized}
-use Rattle.pairs.specs.declared.Pair.{Pair}
-use Rattle.pairs.specs.declared.Vector.{Vector}
-use Rattle.pairs.specs.Pairs.{intOf, pointOf}
-use Rattle.corners.specs.Corners.{cornerOf}
+use Rattle.board.specs.declared.Pair.{Pair}
+use Rattle.board.specs.declared.Vector.{Vector}
+use Rattle.board.specs.Pairs.{intOf, pointOf}
+use Rattle.board.specs.Corners.{cornerOf}
 use Rattle.board.specs.Board.{CloseTo}
-use Rattle.apart.specs.declared.Arc.{Arc}
-use Rattle.apart.specs.Form.{gridBody}
-use Rattle.arcs.specs.Cut.{Mid, MidVector}
+use Rattle.board.specs.declared.Arc.{Arc}
+use Rattle.standing.specs.Form.{gridBody}
+use Rattle.standing.specs.Cut.{Mid, MidVector}
 use Rattle.standing.proofs.Parts.{mid-near}
 use Rattle.standing.proofs.Bodies.{enlargedBody}
 

@@ -15,12 +15,12 @@ use Rattle.whole_move.specs.Piece.{Controls, Body, control, Away, Near, Checked
 use Rattle.whole_way.specs.Mover.{Mover, Piece, pieceFrom, onPiece, share, AwayBetween, Settled, resized}
 use Rattle.whole_way.proofs.Join.{settled-between}
 use Rattle.whole_way.proofs.Resized.{between-resized}
-use Rattle.pairs.specs.Pairs.{intOf, pointOf}
+use Rattle.board.specs.Pairs.{intOf, pointOf}
 use Rattle.board.specs.declared.GridJob.{GridJob}
 use Rattle.board.specs.declared.Proposal.{Proposal}
 use Rattle.board.specs.Board.{Fits, StandsFor, ClearBetween}
-use Rattle.apart.specs.Form.{gridBody, origin}
-use Rattle.pieces.specs.Seen.{PieceSeen}
+use Rattle.standing.specs.Form.{gridBody, origin}
+use Rattle.standing.specs.Seen.{PieceSeen}
 use Rattle.standing.proofs.Numbers.{turnLength, windowWidth, margin}
 use Rattle.standing.proofs.Numbers as numbers
 use Rattle.standing.proofs.Bodies.{enlargedBody, planned, shown, Shows, shows}

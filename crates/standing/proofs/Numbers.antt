@@ -7,7 +7,7 @@ use native.Mathlib.Omega.{arith}
 use Rattle.integers.specs.Signed.{Int, 0Int, ofNat, _⊞_, _⊟_, _⊠_, _≼_, _≺_, _≃_}
 use Rattle.whole_move.specs.Blend.{twice}
 use Rattle.whole_move.proofs.Linear.{window-linear}
-use Rattle.pieces.specs.Seen.{Reach}
+use Rattle.standing.specs.Seen.{Reach}
 
 -- of a turn that is off by y in its squared length, the blur included; of a body with corners within R on the grid
 abbrev pub turnLength : ℕ → ℕ

@@ -10,9 +10,9 @@ use Rattle.integers.specs.Polynomial.{var, lit, _:+_, _:-_, _:*_}
 use Rattle.integers.proofs.Ring.{ring}
 use Rattle.integers.proofs.Sized.{within-product}
 use Rattle.whole_move.specs.Blend.{twice, line}
-use Rattle.pairs.specs.declared.Pair.{Pair}
-use Rattle.pairs.specs.Pairs.{intOf}
-use Rattle.arcs.specs.Cut.{Cut, Mid}
+use Rattle.board.specs.declared.Pair.{Pair}
+use Rattle.board.specs.Pairs.{intOf}
+use Rattle.standing.specs.Cut.{Cut, Mid}
 
 natural-within : (n : ℕ) → Within n (ofNat n)
 natural-within n = record { upper = omega arith; lower = omega arith }

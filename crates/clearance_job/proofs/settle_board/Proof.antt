@@ -1,10 +1,10 @@
 -- The part that was asked for, and what the loop says of it. Assumes nothing.
 use mathlib.Core.Path.{refl, ap, sym, _∙_}
 use mathlib.Core.Bool.{true≢false}
-use borrow.Author.Tests.{not-false}
+use borrow.Author.Tests.{not-true, not-false}
 use Rattle.model.specs.declared.Vector.{Vector}
 use Rattle.planned.specs.Planned.{worthOf}
-use Rattle.clearance_job.proofs.Laws.{asked-by, started, is-not, unheard}
+use Rattle.clearance_job.proofs.Laws.{asked-by, started, unheard}
 use borrow.Author.Needs.{needs}
 use Rattle.clearance_job.proofs.settle_board.Statement.{statement}
 use Rattle.clearance_job.proofs.settle_board.Tie as tie
@@ -34,14 +34,11 @@ returns c =
       unheard _ (c .unsettled .result) (c .unsettled .ensures),
       λ h. absurd (true≢false (sym (p .ensures .1 (started (f .numbers .now) (f .from) (v .result) (first .plain .result) (last .plain2 .result)
           (v .ensures) (first .plain .ensures)
-          (last .plain2 .ensures) h)) ∙ is-not (p .result .some) (c .before .if1 .taken))),
+          (last .plain2 .ensures) h)) ∙ not-true (p .result .some) (c .before .if1 .taken))),
     )
 
 settle-job-requires : tie.Need-settle-job-requires
-settle-job-requires c κs = (
-  c .before .before .before .before .before .before .before .before .before .before .before .pre,
-  c .before .before .part-of .ensures .0 (not-false (c .before .before .part-of .result .some) (c .if1 .left)) .span,
-)
+settle-job-requires c κs = search needs
 
 returns-2 : tie.Need-returns-2
 returns-2 c =
@@ -55,7 +52,7 @@ returns-2 c =
           asked = asked-by (first .plain .result) (last .plain2 .result) _ _ (p .result) (first .plain .ensures .0)
               (last .plain2 .ensures .0 ∙ ap (λ (v : Vector). worthOf (v .x)) (v .ensures))
               (p .ensures .0 (not-false (p .result .some) (c .before .if1 .left)));
-          settled = c .settle-job .ensures;
+          settled = c .settle-job .ensures (p .ensures .0 (not-false (p .result .some) (c .before .if1 .left)) .span);
         };
         silent = λ h. absurd (true≢false h);
       },

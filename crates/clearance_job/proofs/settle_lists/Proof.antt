@@ -1,8 +1,8 @@
 -- The job on its board, and the promise from what is said there. Assumes nothing.
 use mathlib.Core.Path.{sym, _∙_}
 use mathlib.Core.Bool.{true≢false}
-use borrow.Author.Tests.{not-false}
-use Rattle.clearance_job.proofs.Laws.{is-not, unheard, counted, promised}
+use borrow.Author.Tests.{not-true, not-false}
+use Rattle.clearance_job.proofs.Laws.{unheard, counted, promised}
 use borrow.Author.Needs.{needs}
 use Rattle.clearance_job.proofs.settle_lists.Statement.{statement}
 use Rattle.clearance_job.proofs.settle_lists.Tie as tie
@@ -29,14 +29,11 @@ returns : tie.Need-returns
 returns c =
     let g = c .before .before .before .before .before .before .before .before .before .before .before .grid-job in (
       unheard _ (c .unsettled .result) (c .unsettled .ensures),
-      λ o h. absurd (true≢false (sym (g .ensures .1 o) ∙ is-not (g .result .found) (c .before .if1 .taken))),
+      λ o h. absurd (true≢false (sym (g .ensures .1 o) ∙ not-true (g .result .found) (c .before .if1 .taken))),
     )
 
 settle-board-requires : tie.Need-settle-board-requires
-settle-board-requires c κs =
-    let b1 = c .before .before .before .before .before in
-    let g = b1 .before .before .before .before .before .before .before .before .before .before .grid-job in
-    g .ensures .0 (not-false (g .result .found) (b1 .if1 .left)) .fits
+settle-board-requires c κs = search needs
 
 same-length-5 : tie.Need-same-length-5
 same-length-5 c = search needs

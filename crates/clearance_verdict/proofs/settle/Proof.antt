@@ -24,7 +24,7 @@ stand-at-requires : tie.Need-stand-at-requires Inv-loop μ-loop
 stand-at-requires c κs = search needs
 
 touch-at-requires : tie.Need-touch-at-requires Inv-loop μ-loop
-touch-at-requires c κs = c .before .before .before .before .before .before .before .before .before .before .pre .0
+touch-at-requires c κs = search needs
 
 returns : tie.Need-returns Inv-loop μ-loop
 returns c = record {
@@ -34,8 +34,8 @@ returns c = record {
     order = omega arith;
     before = omega (
       arith,
-      c .before .before .before .before .before .before .before .before .before .before .before .before .pre .1 .some,
-      c .before .before .before .before .before .before .before .before .before .before .before .before .pre .1 .under,
+      c .before .before .before .before .before .before .before .before .before .before .before .before .pre .some,
+      c .before .before .before .before .before .before .before .before .before .before .before .before .pre .under,
     );
     touching =
         c .before .touch-at .ensures (c .if1 .taken);
@@ -44,7 +44,7 @@ returns c = record {
 }
 
 sub-h : tie.Need-sub-h Inv-loop μ-loop
-sub-h c = omega (arith, c .before .before .before .before .before .before .before .before .before .before .before .before .pre .1 .some)
+sub-h c = omega (arith, c .before .before .before .before .before .before .before .before .before .before .before .before .pre .some)
 
 loop-holds : tie.Need-loop-holds Inv-loop μ-loop
 loop-holds c = at-start (c .before .before .before .before .before .before .before .before .before .before .before .before .args .job)
@@ -55,7 +55,7 @@ loop-holds c = at-start (c .before .before .before .before .before .before .befo
     (c .before .before .before .before .before .before .before .before .before .before .before .before .args .from)
     (c .before .before .before .before .before .before .before .before .before .before .before .before .args .low)
     (c .before .before .before .before .before .before .before .before .before .before .before .before .args .high)
-    (c .before .before .before .before .before .before .before .before .before .before .before .before .pre .1)
+    (c .before .before .before .before .before .before .before .before .before .before .before .before .pre)
 
 sub-least : tie.Need-sub-least Inv-loop μ-loop
 sub-least c = search needs
@@ -68,7 +68,7 @@ add-to c = omega (
   arith,
   c .least .ensures .right,
   c .before .before .loop .inv .below,
-  c .before .before .before .before .before .before .before .before .before .before .before .before .before .before .before .pre .1 .whole,
+  c .before .before .before .before .before .before .before .before .before .before .before .before .before .before .before .pre .whole,
 )
 
 stand-at-requires-2 : tie.Need-stand-at-requires-2 Inv-loop μ-loop
@@ -78,8 +78,7 @@ add-tries : tie.Need-add-tries Inv-loop μ-loop
 add-tries c = search needs
 
 try-piece-requires : tie.Need-try-piece-requires Inv-loop μ-loop
-try-piece-requires c κs =
-    c .before .before .before .before .before .before .before .before .before .before .before .before .before .before .before .before .pre .0
+try-piece-requires c κs = search needs
 
 returns-2 : tie.Need-returns-2 Inv-loop μ-loop
 returns-2 c =
@@ -113,15 +112,14 @@ loop-again c =
       after = omega (arith, l .inv .after);
       below = c .if3 .left;
       some = omega (arith, s .least .ensures .some (l .inv .some) (omega (arith, l .inv .below)));
-      small = omega (arith, s .least .ensures .right, start .pre .1 .whole);
+      small = omega (arith, s .least .ensures .right, start .pre .whole);
       few = omega (arith, s .before .loop-test .taken);
       clear = λ m. joined (f .job) (f .axs .now) (f .ays .now) (f .bxs .now) (f .bys .now) (f .from) (l .u) (l .u + s .least .result) (l .inv .after)
           (l .inv .clear) (c .before .before .try-piece .ensures (c .before .if2 .taken));
     }
 
 short-touch-requires : tie.Need-short-touch-requires Inv-loop μ-loop
-short-touch-requires c κs =
-    c .before .before .before .before .before .before .before .before .before .before .before .before .before .before .before .before .before .before .pre .0
+short-touch-requires c κs = search needs
 
 returns-3 : tie.Need-returns-3 Inv-loop μ-loop
 returns-3 c = record {
@@ -142,7 +140,7 @@ last-look-requires : tie.Need-last-look-requires Inv-loop μ-loop
 last-look-requires c κs =
     let b1 = c .before .before .before .before .before .before .before .before .before .before in
     let start = b1 .before .before .before .before .before .before .before .before .before .before .before in
-    (start .pre .0, omega (arith, start .pre .1 .over, start .pre .1 .whole))
+    omega (arith, start .pre .over, start .pre .whole)
 
 told-requires : tie.Need-told-requires Inv-loop μ-loop
 told-requires c κs = search needs
@@ -153,7 +151,7 @@ returns-4 c =
     let start = l .before .before .before .before .before .before .before .before .before .before .before .before .before in
     let f = start .args in
     rw (c .told .ensures) (told-settled (f .job) (f .axs .now) (f .ays .now) (f .bxs .now) (f .bys .now) (f .from) (f .low) (f .high) (l .loop .u) _
-    (c .before .last-look .result) (l .loop .inv .after) (omega (arith, l .loop .inv .below, start .pre .1 .under)) (omega arith)
+    (c .before .last-look .result) (l .loop .inv .after) (omega (arith, l .loop .inv .below, start .pre .under)) (omega arith)
     (omega (arith, c .before .before .before .before .before .before .before .before .before .loop-test .taken))
     (l .loop .inv .clear) (c .before .last-look .ensures))
 
@@ -172,7 +170,7 @@ loop-again-2 c =
       after = l .inv .after;
       below = l .inv .below;
       some = omega (arith, c .if5 .left);
-      small = omega (arith, s .least .ensures .right, start .pre .1 .whole);
+      small = omega (arith, s .least .ensures .right, start .pre .whole);
       few = omega (arith, s .before .loop-test .taken);
       clear = l .inv .clear;
     }
@@ -183,7 +181,7 @@ returns-5 c = record {
   before = omega (
     arith,
     c .before .loop .inv .below,
-    c .before .before .before .before .before .before .before .before .before .before .before .before .before .before .pre .1 .under,
+    c .before .before .before .before .before .before .before .before .before .before .before .before .before .before .pre .under,
   );
   clear =
       c .before .loop .inv .clear;

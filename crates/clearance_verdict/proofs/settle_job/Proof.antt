@@ -1,9 +1,17 @@
--- The lists of floats are as long as the outlines, up to 64. Assumes nothing.
-use mathlib.Core.Path.{sym}
+-- The lists of floats are as long as the outlines, up to 64; where there is no span nothing is said. Assumes nothing.
+use mathlib.Core.Path.{sym, _∙_}
+use mathlib.Core.Bool.{true≢false}
+use borrow.Author.Tests.{not-true, not-false}
 use lib.Seq.{length-take-le}
 use borrow.Author.Needs.{needs}
 use Rattle.clearance_verdict.proofs.settle_job.Statement.{statement}
 use Rattle.clearance_verdict.proofs.settle_job.Tie as tie
+
+in-span-requires : tie.Need-in-span-requires
+in-span-requires c κs = search needs
+
+returns : tie.Need-returns
+returns c = λ h. absurd (true≢false (sym (c .before .in-span .ensures .1 h) ∙ not-true (c .before .in-span .result) (c .if1 .taken)))
 
 at-most-64-requires : tie.Need-at-most-64-requires
 at-most-64-requires c κs = search needs
@@ -51,15 +59,19 @@ slice-aggregate-settle-4 : tie.Need-slice-aggregate-settle-4
 slice-aggregate-settle-4 c = sym (length-take-le _ _ (search needs))
 
 settle-requires : tie.Need-settle-requires
-settle-requires c κs = search needs
+settle-requires c κs =
+    let b = c .before .before .before .before .before .before .before .before .before .before .before in
+    b .before .in-span .ensures .0 (not-false (b .before .in-span .result) (b .if1 .left))
 
-returns : tie.Need-returns
-returns c = search needs
+returns-2 : tie.Need-returns-2
+returns-2 c = λ h. c .settle .ensures
 
 pub settle-job-spec : {M : Type 1} → statement M
 settle-job-spec =
     tie.close
     (tie.spec
+    in-span-requires
+    returns
     at-most-64-requires
     at-most-64-requires-2
     floats-requires
@@ -76,4 +88,4 @@ settle-job-spec =
     array-share-prefix-fby
     slice-aggregate-settle-4
     settle-requires
-    returns)
+    returns-2)

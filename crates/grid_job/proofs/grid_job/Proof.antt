@@ -2,8 +2,8 @@
 use native.Mathlib.Omega.{arith}
 use mathlib.Core.Path.{sym, _∙_}
 use mathlib.Core.Bool.{true≢false}
-use borrow.Author.Tests.{not-false}
-use Rattle.grid_job.proofs.Laws.{is-not, steady, asked-a, asked-b, limits-law, on-board}
+use borrow.Author.Tests.{not-true, not-false}
+use Rattle.grid_job.proofs.Laws.{steady, asked-a, asked-b, limits-law, on-board}
 use borrow.Author.Needs.{needs}
 use Rattle.grid_job.proofs.grid_job.Statement.{statement}
 use Rattle.grid_job.proofs.grid_job.Tie as tie
@@ -48,7 +48,7 @@ returns-6 : tie.Need-returns-6
 returns-6 c =
     let e = c .before .before .before .exponent in (
       λ h. absurd (true≢false (sym h ∙ c .none6 .ensures)),
-      λ o. absurd (true≢false (sym (e .ensures .1 (o .ordinary)) ∙ is-not (e .result .found) (c .before .if6 .taken))),
+      λ o. absurd (true≢false (sym (e .ensures .1 (o .ordinary)) ∙ not-true (e .result .found) (c .before .if6 .taken))),
     )
 
 body-of-requires : tie.Need-body-of-requires

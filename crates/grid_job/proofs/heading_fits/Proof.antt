@@ -1,8 +1,7 @@
 -- Both ways, part by part. Assumes nothing.
 use mathlib.Core.Path.{sym, _∙_}
 use mathlib.Core.Bool.{true≢false}
-use borrow.Author.Tests.{not-false}
-use Rattle.grid_job.proofs.Laws.{is-not}
+use borrow.Author.Tests.{not-true, not-false}
 use borrow.Author.Needs.{needs}
 use Rattle.grid_job.proofs.heading_fits.Statement.{statement}
 use Rattle.grid_job.proofs.heading_fits.Tie as tie
@@ -13,7 +12,7 @@ at-most-1-requires c κs = search needs
 returns : tie.Need-returns
 returns c = (
   λ h. absurd (true≢false (sym h)),
-  λ h. absurd (true≢false (sym (c .before .at-most-1 .ensures .1 (h .x)) ∙ is-not (c .before .at-most-1 .result) (c .if1 .taken))),
+  λ h. absurd (true≢false (sym (c .before .at-most-1 .ensures .1 (h .x)) ∙ not-true (c .before .at-most-1 .result) (c .if1 .taken))),
 )
 
 at-most-1-requires-2 : tie.Need-at-most-1-requires-2

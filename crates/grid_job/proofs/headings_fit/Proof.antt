@@ -1,8 +1,7 @@
 -- Both ways, part by part. Assumes nothing.
 use mathlib.Core.Path.{sym, _∙_}
 use mathlib.Core.Bool.{true≢false}
-use borrow.Author.Tests.{not-false}
-use Rattle.grid_job.proofs.Laws.{is-not}
+use borrow.Author.Tests.{not-true, not-false}
 use borrow.Author.Needs.{needs}
 use Rattle.grid_job.proofs.headings_fit.Statement.{statement}
 use Rattle.grid_job.proofs.headings_fit.Tie as tie
@@ -13,7 +12,7 @@ heading-fits-requires c κs = search needs
 returns : tie.Need-returns
 returns c = (
   λ h. absurd (true≢false (sym h)),
-  λ h. absurd (true≢false (sym (c .before .heading-fits .ensures .1 (h .0)) ∙ is-not (c .before .heading-fits .result) (c .if1 .taken))),
+  λ h. absurd (true≢false (sym (c .before .heading-fits .ensures .1 (h .0)) ∙ not-true (c .before .heading-fits .result) (c .if1 .taken))),
 )
 
 heading-fits-requires-2 : tie.Need-heading-fits-requires-2

@@ -2,8 +2,7 @@
 use native.Mathlib.Omega.{arith}
 use mathlib.Core.Path.{refl, sym, _∙_}
 use mathlib.Core.Bool.{true≢false}
-use borrow.Author.Tests.{not-false}
-use Rattle.grid_job.proofs.Laws.{is-not}
+use borrow.Author.Tests.{not-true, not-false}
 use borrow.Author.Needs.{needs}
 use Rattle.grid_job.proofs.job_of.Statement.{statement}
 use Rattle.grid_job.proofs.job_of.Tie as tie
@@ -17,7 +16,7 @@ none-requires c κs = search needs
 returns : tie.Need-returns
 returns c = (
   λ h. absurd (true≢false (sym h ∙ c .none .ensures)),
-  λ a b. absurd (true≢false (sym (c .before .before .headings-fit .ensures .1 a) ∙ is-not (c .before .before .headings-fit .result) (c .before .if1 .taken))),
+  λ a b. absurd (true≢false (sym (c .before .before .headings-fit .ensures .1 a) ∙ not-true (c .before .before .headings-fit .result) (c .before .if1 .taken))),
 )
 
 headings-fit-requires-2 : tie.Need-headings-fit-requires-2
@@ -29,7 +28,7 @@ none-requires-2 c κs = search needs
 returns-2 : tie.Need-returns-2
 returns-2 c = (
   λ h. absurd (true≢false (sym h ∙ c .none2 .ensures)),
-  λ a b. absurd (true≢false (sym (c .before .before .headings-fit2 .ensures .1 b) ∙ is-not (c .before .before .headings-fit2 .result) (c .before .if2 .taken))),
+  λ a b. absurd (true≢false (sym (c .before .before .headings-fit2 .ensures .1 b) ∙ not-true (c .before .before .headings-fit2 .result) (c .before .if2 .taken))),
 )
 
 between-requires : tie.Need-between-requires

@@ -1,0 +1,3 @@
+mod Forms
+mod Window
+mod Axis

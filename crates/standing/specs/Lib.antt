@@ -1,0 +1,4 @@
+pub mod Form
+pub mod Window
+pub mod Cut
+pub mod Seen

@@ -1,6 +1,0 @@
-mod Resized
-mod Parts
-mod Window
-mod Held
-mod Together
-mod Laws
