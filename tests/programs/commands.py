@@ -34,7 +34,7 @@ esac
 """
 
 
-def blocks(text):
+def blocks(page, text):
     """The blocks of code of a page: the line of its opening, the words behind it, its lines, and whether nothing stands between it and the block before."""
     found, open_at, words, inside, last_end = [], None, [], [], None
     for number, line in enumerate(text.split("\n"), 1):
@@ -47,7 +47,7 @@ def blocks(text):
         else:
             open_at, words, inside = number, line[3:].split(), []
     if open_at:
-        raise ValueError(f"line {open_at}: a block without its end")
+        raise ValueError(f"{page}:{open_at}: a block without its end")
     return found
 
 
@@ -68,7 +68,7 @@ def first(lines):
 
 def commands(page, text):
     """The blocks of commands of a page: line, word, status, lines, and what they are to print, or None. Faults are raised."""
-    out, found = [], blocks(text)
+    out, found = [], blocks(page, text)
     for i, (line, words, lines, _) in enumerate(found):
         if words[:1] == ["output"] and not (i and found[i][3] and found[i - 1][1][:2] == ["sh", "run"]):
             raise ValueError(f"{page}:{line}: what is printed stands behind no block that is run")
