@@ -4,10 +4,10 @@ status 1 where one differs, each told with its page and line.
 
 A block of commands opens with ```sh and a word that says by whom it is run:
 
-    run, run status=1   by this script, in bash: it has to end with 0, or that status. A block ```output right behind it is what it prints on standard
-                        output; a line `..` there stands for any lines, or none.
+    run, run status=1   by this script, in bash: it has to end with 0, or that status. A block ```output, with no words between, is what it prints on
+                        standard output; a line `..` there stands for any lines, or none.
     by-hand             by nobody here, since it proves everything anew, or needs the published text or a quiet machine: told by name
-    by=SCRIPT           by another script of the repository: told by name
+    by=SCRIPT           by another script of the repository, which also compares what stands behind it: told by name
 
 A block of commands without such a word is a fault, and so is a page without an end of a block. The blocks of a page are run in their order in one folder, made
 for it: ./foldflake, a copy of examples/, and in target/bin the proved programs, which the kit's emulator runs where the machine is not x86-64. `rt check`
@@ -35,15 +35,15 @@ esac
 
 
 def blocks(page, text):
-    """The blocks of code of a page: the line of its opening, the words behind it, its lines, and whether nothing stands between it and the block before."""
-    found, open_at, words, inside, last_end = [], None, [], [], None
+    """The blocks of code of a page: the line of its opening, the words behind it, its lines, and whether no words stand between it and the block before."""
+    found, open_at, words, inside, follows = [], None, [], [], False
     for number, line in enumerate(text.split("\n"), 1):
         if not line.startswith("```"):
-            if open_at:
-                inside.append(line)
+            inside.append(line)
+            follows = follows and (open_at is not None or not line.strip())
         elif open_at:
-            found.append((open_at, words, inside, last_end is not None and last_end == open_at - 1))
-            last_end, open_at = number, None
+            found.append((open_at, words, inside, follows))
+            open_at, follows = None, True
         else:
             open_at, words, inside = number, line[3:].split(), []
     if open_at:
@@ -70,7 +70,7 @@ def commands(page, text):
     """The blocks of commands of a page: line, word, status, lines, and what they are to print, or None. Faults are raised."""
     out, found = [], blocks(page, text)
     for i, (line, words, lines, _) in enumerate(found):
-        if words[:1] == ["output"] and not (i and found[i][3] and found[i - 1][1][:2] == ["sh", "run"]):
+        if words[:1] == ["output"] and not (i and found[i][3] and re.match(r"sh (run|by=)", " ".join(found[i - 1][1]))):
             raise ValueError(f"{page}:{line}: what is printed stands behind no block that is run")
         if words[:1] != ["sh"]:
             continue
@@ -154,7 +154,7 @@ def main():
     for page, its in ((page, its) for page, its in found if its):
         for (_, who, _, _, stands), (well, told) in zip(its, run_page(page, its, programs, run)):
             print(told if well else f"WRONG: {told}", flush=True)
-            ran, left, compared, wrong = ran + (who == "run"), left + (who != "run"), compared + (stands is not None), wrong + (not well)
+            ran, left, compared, wrong = ran + (who == "run"), left + (who != "run"), compared + (who == "run" and stands is not None), wrong + (not well)
     print(f"{ran} blocks of commands run, {compared} of them compared with what stands there, {left} not run: " + (f"{wrong} wrong" if wrong else "all as told"))
     sys.exit(1 if wrong else 0)
 
