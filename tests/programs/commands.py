@@ -38,9 +38,10 @@ def blocks(page, text):
     """The blocks of code of a page: the line of its opening, the words behind it, its lines, and whether no words stand between it and the block before."""
     found, open_at, words, inside, follows = [], None, [], [], False
     for number, line in enumerate(text.split("\n"), 1):
-        if not line.startswith("```"):
+        if not line.startswith("```") and open_at:
             inside.append(line)
-            follows = follows and (open_at is not None or not line.strip())
+        elif not line.startswith("```"):
+            follows = follows and not line.strip()
         elif open_at:
             found.append((open_at, words, inside, follows))
             open_at, follows = None, True
