@@ -26,7 +26,8 @@ OWN = str(pathlib.Path(__file__).resolve().relative_to(ROOT))
 HISTORY = "docs/LANDINGS.md"
 FRONT = "README.md"
 FRONT_LINES = 130
-PROMISES = ("docs/PROMISES.md", "docs/SQUARED-PAPER.md")
+PROMISES = "docs/PROMISES.md"
+THEOREMS = (PROMISES, "docs/SQUARED-PAPER.md")
 TOUR = "docs/ARCHITECTURE.md"
 # what a path may start with that the repository does not hold, since a run makes it or the published text has it
 ELSEWHERE = ("target/", "query/", "shape/", "/dev/")
@@ -188,7 +189,7 @@ def row_files(cell, before, by_file):
 
 
 def promise_faults(lines, by_file, by_crate):
-    """Of the tables of docs/PROMISES.md: names that nothing declares, or not where their row says."""
+    """Of the tables that have theorems: names that nothing declares, or not where their row says."""
     everywhere, every_function = set().union(*by_file.values()), set().union(*by_crate.values())
     head, crates, files = None, [], []
     for number, line in lines:
@@ -273,7 +274,7 @@ def main():
             for word in (w.strip(",;:") for w in span.split()):
                 names += 1
                 faults.append((page, line + 1, word, name_fault(word, tree, by_crate)))
-        if page in PROMISES:
+        if page in THEOREMS:
             faults += [(page, *fault) for fault in promise_faults(enumerate(text.split("\n"), 1), declared(), by_crate)]
         if page == TOUR:
             faults += [(page, *fault) for fault in tour_faults(page)]
