@@ -70,6 +70,19 @@ program report < examples/shift.batch > "$work/expected"
 input=examples/shift.batch ends "report -" 0 "" ff report -; prints "$work/expected" "report -"
 ends "report, a file missing" 2 "what \`report\` printed is not whole" ff report examples/shift.batch "$work/none"; nothing "report"
 
+# jobs as text where a batch is wanted
+cp "$work/clear.batch" "$work/page.html"
+wants_a_batch="jobs as text, and no batch: \`check\` takes them as they are, \`text\` makes a batch of them"
+for verb in sheet sheet64 clearance any-contact all-clear unpack csv json report; do
+  ends "$verb of a text" 2 "$wants_a_batch" ff $verb examples/shift.txt; nothing "$verb of a text"
+done
+input=examples/shift.txt ends "csv of a text, -" 2 "$wants_a_batch" ff csv -
+ends "page of a text" 2 "$wants_a_batch" ff page examples/shift.txt "$work/page.html"
+ends "convert of a text" 2 "$wants_a_batch" ff convert examples/shift.txt "$work/page.html"
+cmp -s "$work/clear.batch" "$work/page.html" || wrong "a text replaced a file"
+echo 'no job of any kind' > "$work/words"
+passes sheet sheet "$work/words" 0
+
 # no block: nothing is judged clear
 : > "$work/empty"
 for verb in clearance all-clear check; do ends "$verb of nothing" 2 "*" ff $verb "$work/empty"; done
