@@ -62,9 +62,9 @@ def fits(printed, stands):
 
 
 def first(lines):
-    """A block's command, for a line that tells of it: the first that runs something of the repository, or the first."""
+    """A block's command, for a line that tells of it: the first that is a verb, or the first."""
     said = [re.sub(r"\s+#.*", "", line) for line in lines if line.strip() and not line.startswith("set ")]
-    return next((line for line in said if "./foldflake" in line or "target/bin" in line), said[0] if said else "")
+    return next((line for line in said if "./foldflake" in line), said[0] if said else "")
 
 
 def commands(page, text):
