@@ -6,13 +6,14 @@
 
    and where `./foldflake install DIR` put everything into DIR:
 
-     PKG_CONFIG_PATH=DIR/lib/pkgconfig cc -std=c11 -o program program.c $(pkg-config --cflags --libs foldflake)
+     cc -std=c11 -o program program.c $(PKG_CONFIG_PATH=DIR/lib/pkgconfig pkg-config --cflags --libs foldflake)
 
-   With g++ -std=c++17 likewise. Nothing else is linked. A machine that is not x86-64 needs a compiler that writes for it, as x86_64-linux-gnu-gcc.
+   That takes DIR/lib/libfoldflake.so, where there is one: LD_LIBRARY_PATH=DIR/lib has it found when the program runs. With g++ -std=c++17 likewise. Nothing
+   else is linked. A machine that is not x86-64 needs a compiler that writes for it, as x86_64-linux-gnu-gcc.
 
    Threads. The library keeps nothing from one call to the next and has no data that is written: a call reads the lists that it is handed, writes those that
-   the text below says it writes, and besides uses its stack alone. It takes no lock, asks for no memory, sets no errno. So calls may run in any number of
-   threads at once, while a list that one call writes (out, counts, cache, where, pieces) is used by no other call or thread. Lists that are only read may be
+   the text below says it writes, and besides uses its stack alone, less than 16 KiB of it. It takes no lock, asks for no memory, sets no errno. So calls may
+   run in any number of threads at once, while a list that one call writes (out, counts, cache, where, pieces) is used by no other call or thread. Lists that are only read may be
    shared. A cache belongs to one thread at a time.
 
    Lists. Each list is a pointer to its first element and then how many elements it has. An outline is a list of numbers, x y x y .., so its length

@@ -31,6 +31,11 @@
 pub mod wide;
 mod width;
 
+/// The page for programmers, whose examples are run as doc tests.
+#[cfg(doctest)]
+#[doc = include_str!("../../docs/LIBRARY.md")]
+pub struct Page;
+
 use std::fmt;
 
 mod entry {
