@@ -13,8 +13,8 @@
 
    Threads. The library keeps nothing from one call to the next and has no data that is written: a call reads the lists that it is handed, writes those that
    the text below says it writes, and besides uses its stack alone, less than 16 KiB of it. It takes no lock, asks for no memory, sets no errno. So calls may
-   run in any number of threads at once, while a list that one call writes (out, counts, cache, where, pieces) is used by no other call or thread. Lists that are only read may be
-   shared. A cache belongs to one thread at a time.
+   run in any number of threads at once, while a list that one call writes (out, counts, cache, where, pieces) is used by no other call or thread. Lists that
+   are only read may be shared. A cache belongs to one thread at a time.
 
    Lists. Each list is a pointer to its first element and then how many elements it has. An outline is a list of numbers, x y x y .., so its length
    counts numbers and not points: a square has 8.
