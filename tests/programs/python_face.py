@@ -19,8 +19,9 @@ import sys
 import threading
 
 ROOT = pathlib.Path(__file__).resolve().parents[2]
-sys.path.insert(0, str(ROOT / "python"))
+sys.path[:0] = [str(ROOT / "python"), str(ROOT / "tests/cases")]
 import foldflake as ff  # noqa: E402
+import forms  # noqa: E402
 
 wrong = 0
 
@@ -148,6 +149,23 @@ def read_and_written(folder):
         except ff.Refusal as refused:
             expect(f"{number} {len(a)} {form}", refused.number, refusal)
     print(f"blocks: {count} read, and written as they were and in the other form")
+
+
+def every_byte():
+    """Each byte of a block, in either form, disturbed under a check that fits and under one that does not: refused as tests/cases/forms.py has it."""
+    count = 0
+    example = (ROOT / "examples/example.batch").read_bytes()
+    for block in (example, forms.in_form(example, 2)):
+        for place in range(512):
+            for value in (0, 1, 2, 16, 17, 255):
+                other = forms.with_byte(block, place, value)
+                for given in (other, forms.sealed(other)):
+                    count += 1
+                    found = answer_of(lambda: ff.Job.read(given))
+                    expect(f"byte {place} as {value}", found.number if isinstance(found, ff.Refusal) else 0, forms.refusal(given))
+                    if isinstance(found, ff.Job):
+                        expect(f"byte {place} as {value}: written", found.block(), given)
+    print(f"refusals of blocks: {count}, each byte disturbed")
 
 
 def answer_of(call):
@@ -357,7 +375,9 @@ def main(words):
     written()
     doc_tests(kind == "calls")
     read_and_written(folder)
-    if kind == "calls":
+    if kind == "blocks":
+        every_byte()
+    else:
         worked(folder)
         routes(folder)
         by_hand()
