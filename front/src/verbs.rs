@@ -8,7 +8,7 @@ use std::path::{Path, PathBuf};
 use std::sync::Arc;
 
 /// The version, as Cargo.toml has it.
-const VERSION: &str = "0.1.0";
+const VERSION: &str = "1.0.0";
 
 const HELP: &str = "\
 usage: foldflake VERB ..

@@ -225,7 +225,13 @@ ends "install" 0 "takes them away" ff install "$work/there"
 ends "the installed one" 0 "" env -u PROGRAMS "$work/there/bin/foldflake" sheet examples/shift.batch; prints "$work/expected" "the installed one"
 ends "its version" 0 "" env -u PROGRAMS "$work/there/bin/foldflake" --version; grep -q '^kit ' "$work/printed" || wrong "the installed version"
 case "$(uname -m)" in
-x86_64) [ -f "$work/there/lib/libfoldflake.a" ] && [ -f "$work/there/lib/pkgconfig/foldflake.pc" ] || wrong "install: no library" ;;
+x86_64)
+  [ -f "$work/there/lib/libfoldflake.a" ] && [ -f "$work/there/lib/pkgconfig/foldflake.pc" ] || wrong "install: no library"
+  [ "$(sed -n 's/^Version: /foldflake /p' "$work/there/lib/pkgconfig/foldflake.pc")" = "$(head -n 1 "$work/printed")" ] || wrong "install: another version"
+  if [ -f "$work/there/lib/libfoldflake.so" ] && command -v python3 > /dev/null; then
+    ends "the installed module" 0 "" env -u FOLDFLAKE_LIB PYTHONPATH="$work/there/lib/python" PYTHONDONTWRITEBYTECODE=1 \
+      python3 -c 'import foldflake; print("foldflake", foldflake.__version__); assert foldflake.root(4.0) == 2.0'
+  fi ;;
 *) grep -q '^skipped: .*libfoldflake.a' "$work/told" || [ ! -e "$work/there/lib" ] || wrong "install: a library for another machine" ;;
 esac
 echo mine > "$work/there/share/mine"
