@@ -14,20 +14,26 @@ static int status(const char *line) {
   return refusal == 0 ? letter : 0;
 }
 
+/* Says that a call did not answer what this program is about. */
+static int unexpected(const char *call, uint32_t answer) {
+  fprintf(stderr, "%s: answer %u: %s\n", call, (unsigned)answer, foldflake_refusal(answer));
+  return 0;
+}
+
 static int small_calls(void) {
   const float square[8] = {-1, -1, 1, -1, 1, 1, -1, 1};
   const float apart[6] = {1, 0, 4, 0, 0, 0};
   uint32_t cache[8] = {0};
   float measured[7];
   uint32_t answer = foldflake_distance(square, 8, square, 8, apart, 6, 0, 41, cache, 8, measured, 7);
-  if (FOLDFLAKE_ENDING(answer) != FOLDFLAKE_DISTANCE_SETTLED) return 0;
+  if (FOLDFLAKE_ENDING(answer) != FOLDFLAKE_DISTANCE_SETTLED) return unexpected("distance", FOLDFLAKE_ENDING(answer));
   fprintf(stderr, "distance: rounds %u, distance %g\n", FOLDFLAKE_ROUNDS(answer), measured[6]);
 
   const float moves[24] = {0, 0, 1, 0.01f, 0, 0, 0, 0, 4, 0, 1, 0, 1, 0, 0, 0, 4, 0, 4, 0, 1, 0, 1, 0};
   float contact[5];
   uint32_t counts[7];
   answer = foldflake_sweep(square, 8, square, 8, moves, 24, contact, 5, counts, 7);
-  if (answer != FOLDFLAKE_SWEEP_HIT) return 0;
+  if (answer != FOLDFLAKE_SWEEP_HIT) return unexpected("sweep", answer);
   fprintf(stderr, "sweep: fraction %g, calls %u, corners of A %d %d, of B %d %d\n", contact[0], counts[0], (int)counts[3], (int)counts[4], (int)counts[5],
           (int)counts[6]);
 
@@ -36,7 +42,7 @@ static int small_calls(void) {
   float fractions[2];
   uint32_t pieces[1];
   answer = foldflake_clearance(square, 8, square, 8, turns, 24, 0, fractions, 2, pieces, 1);
-  if (answer != FOLDFLAKE_CLEARANCE_TOUCH) return 0;
+  if (answer != FOLDFLAKE_CLEARANCE_TOUCH) return unexpected("clearance", answer);
   fprintf(stderr, "clearance: clear up to %.8g, within by %.8g, pieces %u\n", fractions[0], fractions[1], pieces[0]);
   return 1;
 }

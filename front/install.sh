@@ -3,6 +3,7 @@
 #   DIR/bin/foldflake                    the front end
 #   DIR/libexec/foldflake/               the proved programs, and what they were built from
 #   DIR/include/foldflake.h, DIR/lib/libfoldflake.a, DIR/lib/libfoldflake.so, DIR/lib/pkgconfig/foldflake.pc    on x86-64
+#   DIR/lib/python/foldflake.py          the same; it finds the shared library above its folder
 #   DIR/share/man/man1/foldflake.1
 #   DIR/share/foldflake/installed        the list of all that, by which uninstall goes
 
@@ -46,12 +47,14 @@ install() {
     else
       echo "skipped: lib/libfoldflake.so: no ${CC:-cc} here" >&2
     fi
+    version=$(sed -n 's/^version = "\(.*\)"/\1/p' front/Cargo.toml)
     printf 'prefix=%s\n\nName: foldflake\nDescription: Time of impact of two convex outlines along planned moves, proved\nVersion: %s\n' "$place" \
-      "$(sed -n 's/^version = "\(.*\)"/\1/p' front/Cargo.toml)" > "$work/pc"
+      "$version" > "$work/pc"
     printf 'Cflags: -I${prefix}/include\nLibs: -L${prefix}/lib -lfoldflake\n' >> "$work/pc"
     put 644 "$work/pc" lib/pkgconfig/foldflake.pc
+    put 644 python/foldflake.py lib/python/foldflake.py
   else
-    echo "skipped: the header, libfoldflake.a, libfoldflake.so and foldflake.pc: the library is for x86-64, and this machine is $(uname -m)" >&2
+    echo "skipped: the header, libfoldflake.a, libfoldflake.so, foldflake.pc and foldflake.py: the library is for x86-64, and this machine is $(uname -m)" >&2
   fi
   mkdir -p "$place/share/foldflake" || exit 2
   echo share/foldflake/installed >> "$work/list"

@@ -1,4 +1,20 @@
-/* The entry points of libfoldflake.a, for C and C++ on x86-64 Linux.
+/* The entry points of libfoldflake.a, for C and C++ on x86-64 Linux; compiled as C99, C11 and C++17. docs/LIBRARY.md has them for Rust and Python too.
+
+   Compile and link, in the repository, after `rt staticlib foldflake`:
+
+     cc -std=c11 -Iinclude -o program program.c target/staticlib/libfoldflake.a
+
+   and where `./foldflake install DIR` put everything into DIR:
+
+     cc -std=c11 -o program program.c $(PKG_CONFIG_PATH=DIR/lib/pkgconfig pkg-config --cflags --libs foldflake)
+
+   That takes DIR/lib/libfoldflake.so, where there is one: LD_LIBRARY_PATH=DIR/lib has it found when the program runs. With g++ -std=c++17 likewise. Nothing
+   else is linked. A machine that is not x86-64 needs a compiler that writes for it, as x86_64-linux-gnu-gcc.
+
+   Threads. The library keeps nothing from one call to the next and has no data that is written: a call reads the lists that it is handed, writes those that
+   the text below says it writes, and besides uses its stack alone, less than 16 KiB of it. It takes no lock, asks for no memory, sets no errno. So calls may
+   run in any number of threads at once, while a list that one call writes (out, counts, cache, where, pieces) is used by no other call or thread. Lists that
+   are only read may be shared. A cache belongs to one thread at a time.
 
    Lists. Each list is a pointer to its first element and then how many elements it has. An outline is a list of numbers, x y x y .., so its length
    counts numbers and not points: a square has 8.
@@ -12,8 +28,8 @@
 
    A list that is written may not overlap another. That apart, every call has an answer, whatever the lists hold.
 
-   Answers. A number below 16 is a refusal, as README.md lists them, and of a route 16 and 17 too; each function has its own names for the others. The
-   builders answer from 32 on, as functions to come do, so that refusals may go up to 31.
+   Answers. A number below 16 is a refusal, and of a route 16 and 17 too: docs/BATCH.md lists them, and foldflake_refusal has their texts. Each function has
+   its own names for the other numbers. The builders answer from 32 on, as functions to come do, so that refusals may go up to 31.
 
    Floating point. The proofs are for the default environment: rounding to nearest, subnormal numbers kept (no flush-to-zero, no
    denormals-are-zero). A caller that changed it, as fesetround or a compiler's fast-math start-up code does, restores it around a call. */
@@ -27,11 +43,17 @@
 extern "C" {
 #endif
 
+/* The version of this header and of the library beside it. */
+#define FOLDFLAKE_VERSION_MAJOR 1
+#define FOLDFLAKE_VERSION_MINOR 0
+#define FOLDFLAKE_VERSION_PATCH 0
+#define FOLDFLAKE_VERSION "1.0.0"
+
 /* A list has not the length that the function asks for: of foldflake_sweep and foldflake_distance, of a pose, a move, and what they are told into; of
    foldflake_route out, where, waypoints and lengths. */
 enum { FOLDFLAKE_WRONG_LENGTH = 255 };
 
-/* What foldflake_sweep answers. SEPARATED does not clear a move that turns, and FAILED is no verdict: see README.md, "What a setter must know". */
+/* What foldflake_sweep answers. SEPARATED does not clear a move that turns, and FAILED is no verdict: see docs/SETTER.md. */
 enum { FOLDFLAKE_SWEEP_OVERLAPPED = 16, FOLDFLAKE_SWEEP_HIT = 17, FOLDFLAKE_SWEEP_SEPARATED = 18, FOLDFLAKE_SWEEP_FAILED = 19 };
 
 /* What foldflake_sweep tells in place of a corner where there is none. */
@@ -41,6 +63,32 @@ enum { FOLDFLAKE_SWEEP_OVERLAPPED = 16, FOLDFLAKE_SWEEP_HIT = 17, FOLDFLAKE_SWEE
 enum { FOLDFLAKE_DISTANCE_TOUCHING = 16, FOLDFLAKE_DISTANCE_SETTLED = 17, FOLDFLAKE_DISTANCE_ROUND_LIMIT = 18 };
 #define FOLDFLAKE_ENDING(answer) ((answer) % 256u)
 #define FOLDFLAKE_ROUNDS(answer) ((answer) / 256u)
+
+/* The text of a refusal, never a null pointer. Of foldflake_distance it is foldflake_refusal(FOLDFLAKE_ENDING(answer)). A route and a sweep both have answers
+   of 16 and 17: only of a route are these refusals. */
+static inline const char *foldflake_refusal(uint32_t number) {
+  switch (number) {
+  case 1: return "outline A is empty, of odd length, or above 64 points";
+  case 2: return "outline B is empty, of odd length, or above 64 points";
+  case 3: return "a point's part or a half size is not finite or above 1048576 in size, or a half size is below 0";
+  case 4: return "a radius is not finite, below 0 or above 1048576";
+  case 5: return "a rotation is not a cosine and a sine";
+  case 6: return "a translation or a centre is not finite or above 1048576 in size";
+  case 7: return "a fraction is not in 0 to 1, or a look starts behind the max fraction";
+  case 8: return "the slop is not above 0, above 1048576, or not a number";
+  case 9: return "fewer than 512 bytes are left";
+  case 10: return "the check is wrong";
+  case 11: return "the job is 0, a count is outside 1 to 16, or a byte that must be zero is not";
+  case 12: return "the cache is of another pair";
+  case 13: return "the form is neither 0 nor 2";
+  case 14: return "the line is no job, or none of a route";
+  case 15: return "the lent list has no room for all corners";
+  case 16: return "the route has fewer than 2 or more than 33 waypoints";
+  case 17: return "the route has no still outline or more than 32";
+  case FOLDFLAKE_WRONG_LENGTH: return "a list has not the length that is asked for";
+  default: return "no refusal has this number";
+  }
+}
 
 /* What the four builders of outlines answer where the corners were written. */
 enum { FOLDFLAKE_BUILT = 32 };

@@ -5,7 +5,7 @@ use super::files::{Place, PAGE};
 use super::job_text::{self, Jobs};
 use super::page::{write, Drawings, Source, Totals};
 use super::programs::{of, Fault, Programs};
-use super::reader::{bytes_of, called, is_stream};
+use super::reader::{bytes_of, called, is_stream, no_text};
 use std::ffi::OsString;
 use std::io::BufWriter;
 use std::path::{Path, PathBuf};
@@ -35,6 +35,7 @@ struct Asked {
 pub fn run(words: Vec<OsString>) -> Result<u8, Fault> {
     let Asked { drawings, text, batch, sheet } = arguments(words)?;
     let bytes = Arc::new(bytes_of(&batch)?);
+    no_text(&batch, &bytes)?;
     let jobs = text.as_deref().map(|text| text_of(text, &batch, &bytes)).transpose()?;
     let mut read = vec![(batch.as_path(), "batch")];
     read.extend(text.as_deref().map(|text| (text, "text")));

@@ -70,6 +70,25 @@ pub fn bytes_of(name: &Path) -> Result<Vec<u8>, Fault> {
     Ok(bytes)
 }
 
+/// The first bytes of a regular file. Of anything else none: it could not be read a second time.
+pub fn start_of(name: &Path) -> Vec<u8> {
+    let mut bytes = Vec::new();
+    if std::fs::metadata(name).is_ok_and(|about| about.is_file()) {
+        // what fails here fails again, and is told, where the file is read
+        let _ = std::fs::File::open(name).and_then(|file| file.take(1 << 16).read_to_end(&mut bytes));
+    }
+    bytes
+}
+
+/// Fails where a batch is asked for and these are jobs as text: every block has a zero byte, and every text of jobs a line `job`.
+pub fn no_text(name: &Path, bytes: &[u8]) -> Result<(), Fault> {
+    let is_job = |line: &str| line.split_once(':').is_some_and(|(name, _)| name.trim() == "job");
+    match !bytes.contains(&0) && String::from_utf8_lossy(bytes).lines().any(is_job) {
+        true => Err(Fault::Said(format!("{}: jobs as text, and no batch: `check` takes them as they are, `text` makes a batch of them", called(name)))),
+        false => Ok(()),
+    }
+}
+
 /// Fails where standard input was closed.
 pub fn input_is_open() -> Result<(), Fault> {
     match closed(0) {

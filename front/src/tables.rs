@@ -36,6 +36,7 @@ struct Row {
 fn rows(words: Vec<OsString>) -> Result<(String, Vec<Row>), Fault> {
     let [name] = super::verbs::names::<1>(words, "a batch is named")?;
     let bytes = Arc::new(bytes_of(&name)?);
+    reader::no_text(&name, &bytes)?;
     let all = Programs::found()?.answers(&bytes, &[])?;
     let row = |(i, (part, answers)): (usize, (Part, &super::answers::Answers))| {
         let sheet = read(answers.sheet.clone());

@@ -8,7 +8,7 @@ use std::path::{Path, PathBuf};
 use std::sync::Arc;
 
 /// The version, as Cargo.toml has it.
-const VERSION: &str = "0.1.0";
+const VERSION: &str = "1.0.0";
 
 const HELP: &str = "\
 usage: foldflake VERB ..
@@ -207,6 +207,7 @@ fn passed(verb: &str, words: Vec<OsString>) -> Result<u8, Fault> {
                 false => Input::Bytes(Arc::new(bytes)),
             }
         }
+        "BATCH" => batch_input(&name)?,
         _ => input(&name)?,
     };
     let ended = Programs::found()?.run(program, &[], input, true, &mut |part| put(part))?;
@@ -218,6 +219,12 @@ fn input(name: &Path) -> Result<Input, Fault> {
         true => reader::input_is_open().map(|()| Input::Standard),
         false => Ok(Input::File(name.to_path_buf())),
     }
+}
+
+/// What a program reads that wants a batch.
+fn batch_input(name: &Path) -> Result<Input, Fault> {
+    reader::no_text(name, &reader::start_of(name))?;
+    input(name)
 }
 
 /// Whether a route is one that a person wrote: it does not begin as `route` reads it, and has names with a colon.
@@ -260,7 +267,10 @@ fn report(words: Vec<OsString>) -> Result<u8, Fault> {
         [] => return Err(Fault::Usage("batches are named".to_string())),
         [one] if one == "-" => (Vec::new(), input(Path::new("-"))?),
         all if all.iter().any(|name| name == "-") => return Err(Fault::Usage("standard input is reported alone".to_string())),
-        _ => (words, Input::Nothing),
+        all => {
+            all.iter().map(Path::new).try_for_each(|name| reader::no_text(name, &reader::start_of(name)))?;
+            (words, Input::Nothing)
+        }
     };
     let ended = Programs::found()?.run("report", &arguments, input, true, &mut |part| put(part))?;
     judged("report", Whole::Last("STEPS "), &ended)
@@ -269,7 +279,8 @@ fn report(words: Vec<OsString>) -> Result<u8, Fault> {
 /// `convert` and `salvage`, which write a file.
 fn to_file(verb: &str, words: Vec<OsString>) -> Result<u8, Fault> {
     let [from, to] = names::<2>(words, "what is read and what is written are named")?;
-    let input = input(&from)?;
+    // any bytes can be walked for blocks
+    let input = if verb == "salvage" { input(&from)? } else { batch_input(&from)? };
     if std::fs::canonicalize(&from).is_ok_and(|from| std::fs::canonicalize(&to).is_ok_and(|to| from == to)) {
         return Err(Fault::Said(format!("{}: it is read, and would be replaced", to.display())));
     }

@@ -1,7 +1,7 @@
 //! A safe face of `libfoldflake.a`, the proved entry points of Foldflake: whether two convex outlines, seen from above, meet along one planned
 //! move each, at what fraction of the move, and where; and how far apart two outlines are.
 //!
-//! Every call has an answer, whatever it is given: what lies outside the domain gets a [`Refusal`]. An outline is a flat list of numbers,
+//! Every call has an answer, whatever it is given, and none panics: what lies outside the domain gets a [`Refusal`], an error with a number and a text. An outline is a flat list of numbers,
 //! `x y x y ..`, of 1 to 64 points, in any order, although another order can give slightly other numbers. [`plate`] and [`bar`] build the commonest
 //! outlines. A rotation is a cosine and a sine.
 //!
@@ -21,11 +21,20 @@
 //! # Ok::<(), foldflake::Refusal>(())
 //! ```
 //!
-//! The proofs are for rounding to nearest with subnormal numbers kept: the floating-point environment has to be Rust's default.
+//! The proofs are for rounding to nearest with subnormal numbers kept: the floating-point environment has to be Rust's default. Calls keep nothing from one to
+//! the next, and may run in any number of threads at once.
+//!
+//! Programs link `libfoldflake.a`, which is for x86-64 Linux: `rt staticlib foldflake` in the repository writes it, and FOLDFLAKE_LIB names the folder that
+//! has it, where that is not `target/staticlib`. `cargo doc` and `cargo check` do without it.
 #![deny(missing_docs)]
 
 pub mod wide;
 mod width;
+
+/// The page for programmers, whose examples are run as doc tests.
+#[cfg(doctest)]
+#[doc = include_str!("../../docs/LIBRARY.md")]
+pub struct Page;
 
 use std::fmt;
 
@@ -112,9 +121,11 @@ mod entry {
 /// | 11 | a block's job is 0, a count is outside 1 to 16, or a byte that must be zero is not |
 /// | 12 | the cache is of another pair: it has corner pairs, and not under the caller's number |
 /// | 13 | a block's form is neither 0 nor 2; given before 10 |
+/// | 14 | a line is no job, or none of a route (of the programs `pack` and `route` only) |
 /// | 15 | the lent list has no room for all corners |
 /// | 16 | a route has fewer than 2 or more than 33 waypoints |
 /// | 17 | a route has no still outline or more than 32 |
+/// | 255 | a list has not the length that the entry point asks for; no call of this crate hands over such a list |
 ///
 /// ```
 /// use foldflake::{distance, Cache, Refusal};
@@ -128,28 +139,42 @@ pub struct Refusal(
     pub u32,
 );
 
-impl fmt::Display for Refusal {
-    fn fmt(&self, f: &mut fmt::Formatter<'_>) -> fmt::Result {
-        let why = match self.0 {
+impl Refusal {
+    /// The text of the number, as `foldflake_refusal` has it in C.
+    ///
+    /// ```
+    /// use foldflake::Refusal;
+    /// assert_eq!(Refusal(10).text(), "the check is wrong");
+    /// assert_eq!(Refusal(99).text(), "no refusal has this number");
+    /// ```
+    pub fn text(&self) -> &'static str {
+        match self.0 {
             1 => "outline A is empty, of odd length, or above 64 points",
             2 => "outline B is empty, of odd length, or above 64 points",
             3 => "a point's part or a half size is not finite or above 1048576 in size, or a half size is below 0",
             4 => "a radius is not finite, below 0 or above 1048576",
             5 => "a rotation is not a cosine and a sine",
             6 => "a translation or a centre is not finite or above 1048576 in size",
-            7 => "the fraction is not in 0 to 1",
+            7 => "a fraction is not in 0 to 1, or a look starts behind the max fraction",
             8 => "the slop is not above 0, above 1048576, or not a number",
             9 => "fewer than 512 bytes are left",
             10 => "the check is wrong",
             11 => "the job is 0, a count is outside 1 to 16, or a byte that must be zero is not",
             12 => "the cache is of another pair",
             13 => "the form is neither 0 nor 2",
+            14 => "the line is no job, or none of a route",
             15 => "the lent list has no room for all corners",
             16 => "the route has fewer than 2 or more than 33 waypoints",
             17 => "the route has no still outline or more than 32",
-            _ => "no reason is known",
-        };
-        write!(f, "refused by {}: {why}", self.0)
+            255 => "a list has not the length that is asked for",
+            _ => "no refusal has this number",
+        }
+    }
+}
+
+impl fmt::Display for Refusal {
+    fn fmt(&self, f: &mut fmt::Formatter<'_>) -> fmt::Result {
+        write!(f, "refused by {}: {}", self.0, self.text())
     }
 }
 
@@ -367,10 +392,9 @@ pub fn line(number: u64, block: &[u8; 512]) -> Option<String> {
     let mut out = [0u8; 240];
     // Safety: both lists have the lengths handed over, and `out` is ours alone.
     let n = unsafe { entry::foldflake_line(number, block.as_ptr(), block.len(), out.as_mut_ptr(), out.len()) };
-    if n == 0 {
-        return None;
-    }
-    Some(String::from_utf8_lossy(&out[..n]).into_owned())
+    // a length that `out` does not have would be no line
+    let text = out.get(..n).filter(|text| !text.is_empty())?;
+    Some(String::from_utf8_lossy(text).into_owned())
 }
 
 /// When, along two moves, two outlines come within the target distance (see [`Sweep`]). Only the part of the moves up to `max_fraction` is planned.
@@ -668,7 +692,8 @@ pub fn placed_bar(a: [f32; 2], b: [f32; 2], rotation: [f32; 2], translation: [f3
 /// What a builder answered, with the numbers at the list's front that it wrote.
 fn built(answer: u32, list: &[f32], numbers: usize) -> Result<&[f32], Refusal> {
     match answer {
-        32 => Ok(&list[..numbers]),
+        // a list that has no room was refused
+        32 => list.get(..numbers).ok_or(Refusal(15)),
         number => Err(Refusal(number)),
     }
 }
@@ -706,16 +731,66 @@ pub enum Route {
     Failed(Stop, Contact),
 }
 
-/// The waypoints' numbers, the outlines' points one behind another, and how many numbers each outline has.
+/// Why a route was refused, and at which leg and outline: none where the route as a whole was, by 16 or 17.
+///
+/// ```
+/// use foldflake::{route, Refusal, Waypoint};
+/// let ways = [Waypoint { center: [0.0, 0.0], rotation: [1.0, 0.0] }, Waypoint { center: [9.0, 0.0], rotation: [1.0, 0.0] }];
+/// let refused = route(&[-1.0, 0.0, 1.0, 0.0], &ways, &[&[5.0, 3.0], &[f32::NAN, 0.0]], 0.01).unwrap_err();
+/// assert_eq!(refused.refusal, Refusal(3));
+/// assert_eq!(refused.at.map(|stop| (stop.leg, stop.outline)), Some((1, 2)));
+/// assert!(refused.to_string().starts_with("leg 1, outline 2: refused by 3: a point's part "));
+/// let refused = route(&[-1.0, 0.0, 1.0, 0.0], &ways, &[], 0.01).unwrap_err();
+/// assert_eq!(refused.to_string(), "refused by 17: the route has no still outline or more than 32");
+/// ```
+#[derive(Clone, Copy, Debug, PartialEq, Eq)]
+pub struct RouteRefusal<P> {
+    /// The number.
+    pub refusal: Refusal,
+    /// The sweep or the pair that was refused.
+    pub at: Option<P>,
+}
+
+impl fmt::Display for RouteRefusal<Stop> {
+    fn fmt(&self, f: &mut fmt::Formatter<'_>) -> fmt::Result {
+        route_refused(f, self.refusal, self.at.map(|stop| (stop.leg, stop.outline)))
+    }
+}
+
+impl fmt::Display for RouteRefusal<Pair> {
+    fn fmt(&self, f: &mut fmt::Formatter<'_>) -> fmt::Result {
+        route_refused(f, self.refusal, self.at.map(|pair| (pair.leg, pair.outline)))
+    }
+}
+
+fn route_refused(f: &mut fmt::Formatter<'_>, refusal: Refusal, at: Option<(u32, u32)>) -> fmt::Result {
+    if let Some((leg, outline)) = at {
+        write!(f, "leg {leg}, outline {outline}: ")?;
+    }
+    write!(f, "{refusal}")
+}
+
+impl std::error::Error for RouteRefusal<Stop> {}
+
+impl std::error::Error for RouteRefusal<Pair> {}
+
+/// The number alone.
+impl<P> From<RouteRefusal<P>> for Refusal {
+    fn from(refused: RouteRefusal<P>) -> Refusal {
+        refused.refusal
+    }
+}
+
+/// The waypoints' numbers, the outlines' points one behind another, and how many numbers each outline has. Of what is refused for its length one more than is
+/// allowed is handed on, so that no list grows with it.
 fn route_lists(waypoints: &[Waypoint], stills: &[&[f32]]) -> (Vec<f32>, Vec<f32>, Vec<u32>) {
-    let ways = waypoints.iter().flat_map(|w| [w.center[0], w.center[1], w.rotation[0], w.rotation[1]]).collect();
-    // of an outline that has more than 128 numbers, and is refused for that, 129 are handed on
-    let kept = || stills.iter().map(|s| &s[..s.len().min(129)]);
+    let ways = waypoints.iter().take(34).flat_map(|w| [w.center[0], w.center[1], w.rotation[0], w.rotation[1]]).collect();
+    let kept = || stills.iter().take(33).map(|s| s.get(..129).unwrap_or(s));
     (ways, kept().flatten().copied().collect(), kept().map(|s| s.len() as u32).collect())
 }
 
-/// The route of a cart past still outlines, leg by leg and past the outlines in order on each leg; or the number of the refusal, with the sweep that was
-/// refused, if it was one.
+/// The route of a cart past still outlines, leg by leg and past the outlines in order on each leg; or the refusal, with the sweep that was refused, if it was
+/// one.
 ///
 /// ```
 /// use foldflake::{route, Route, Waypoint};
@@ -726,7 +801,7 @@ fn route_lists(waypoints: &[Waypoint], stills: &[&[f32]]) -> (Vec<f32>, Vec<f32>
 ///     other => panic!("{other:?}"),
 /// }
 /// ```
-pub fn route(cart: &[f32], waypoints: &[Waypoint], stills: &[&[f32]], slop: f32) -> Result<Route, (Refusal, Option<Stop>)> {
+pub fn route(cart: &[f32], waypoints: &[Waypoint], stills: &[&[f32]], slop: f32) -> Result<Route, RouteRefusal<Stop>> {
     let (ways, points, lengths) = route_lists(waypoints, stills);
     let (mut out, mut place) = ([0f32; 5], [0u32; 3]);
     // Safety: each list has the length handed over, and the two that are written are ours alone.
@@ -754,7 +829,7 @@ pub fn route(cart: &[f32], waypoints: &[Waypoint], stills: &[&[f32]], slop: f32)
         33 => Ok(Route::Overlapped(stop)),
         34 => Ok(Route::Hit(stop, contact)),
         35 => Ok(Route::Failed(stop, contact)),
-        number => Err((Refusal(number), Some(stop).filter(|s| s.leg > 0))),
+        number => Err(RouteRefusal { refusal: Refusal(number), at: Some(stop).filter(|s| s.leg > 0) }),
     }
 }
 
@@ -797,8 +872,8 @@ pub enum RouteClearance {
     },
 }
 
-/// The same route looked at as a whole: what is told of a leg holds at every moment of it, also of a cart that turns. Or the number of the refusal, with
-/// the pair that was refused, if it was one.
+/// The same route looked at as a whole: what is told of a leg holds at every moment of it, also of a cart that turns. Or the refusal, with the pair that
+/// was refused, if it was one.
 ///
 /// ```
 /// use foldflake::{route, route_clearance, Route, RouteClearance, Waypoint};
@@ -816,7 +891,7 @@ pub enum RouteClearance {
 /// }
 /// assert!(matches!(route_clearance(&cart, &turns, &[&post.map(|x| 2.0 * x)], 0.005), Ok(RouteClearance::Clear { .. })));
 /// ```
-pub fn route_clearance(cart: &[f32], waypoints: &[Waypoint], stills: &[&[f32]], slop: f32) -> Result<RouteClearance, (Refusal, Option<Pair>)> {
+pub fn route_clearance(cart: &[f32], waypoints: &[Waypoint], stills: &[&[f32]], slop: f32) -> Result<RouteClearance, RouteRefusal<Pair>> {
     let (ways, points, lengths) = route_lists(waypoints, stills);
     let (mut out, mut place) = ([0f32; 2], [0u32; 3]);
     // Safety: each list has the length handed over, and the two that are written are ours alone.
@@ -843,6 +918,6 @@ pub fn route_clearance(cart: &[f32], waypoints: &[Waypoint], stills: &[&[f32]], 
         32 => Ok(RouteClearance::Clear { pieces }),
         33 => Ok(RouteClearance::Touch { pair, clear_up_to, within_by }),
         34 => Ok(RouteClearance::Open { pair, clear_up_to }),
-        number => Err((Refusal(number), Some(pair).filter(|p| p.leg > 0))),
+        number => Err(RouteRefusal { refusal: Refusal(number), at: Some(pair).filter(|p| p.leg > 0) }),
     }
 }

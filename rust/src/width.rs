@@ -80,23 +80,19 @@ macro_rules! width {
 width!(f32, foldflake_root, foldflake_sweep, foldflake_distance);
 width!(f64, foldflake_root64, foldflake_sweep64, foldflake_distance64);
 
-impl<T: Copy + Default> Move<T> {
+impl<T: Copy> Move<T> {
     /// The ten numbers of the move, in the order of a block.
     pub(crate) fn numbers(&self) -> [T; 10] {
-        let mut numbers = [T::default(); 10];
-        let pairs = [self.local_center, self.first, self.last, self.first_rotation, self.last_rotation];
-        numbers.chunks_mut(2).zip(&pairs).for_each(|(place, pair)| place.copy_from_slice(pair));
-        numbers
+        let Move { local_center: [a, b], first: [c, d], last: [e, f], first_rotation: [g, h], last_rotation: [i, j] } = *self;
+        [a, b, c, d, e, f, g, h, i, j]
     }
 }
 
 /// The 24 numbers that a sweep takes beside its outlines.
-pub fn numbers<T: Copy + Default>(radius_a: T, move_a: &Move<T>, radius_b: T, move_b: &Move<T>, max_fraction: T, linear_slop: T) -> [T; 24] {
-    let mut numbers = [T::default(); 24];
-    numbers[..4].copy_from_slice(&[radius_a, radius_b, max_fraction, linear_slop]);
-    numbers[4..14].copy_from_slice(&move_a.numbers());
-    numbers[14..].copy_from_slice(&move_b.numbers());
-    numbers
+pub fn numbers<T: Copy>(radius_a: T, move_a: &Move<T>, radius_b: T, move_b: &Move<T>, max_fraction: T, linear_slop: T) -> [T; 24] {
+    let [a, b, c, d, e, f, g, h, i, j] = move_a.numbers();
+    let [k, l, m, n, o, p, q, r, s, t] = move_b.numbers();
+    [radius_a, radius_b, max_fraction, linear_slop, a, b, c, d, e, f, g, h, i, j, k, l, m, n, o, p, q, r, s, t]
 }
 
 #[allow(clippy::too_many_arguments)]

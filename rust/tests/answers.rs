@@ -1,7 +1,7 @@
-//! The safe face against answers worked out by hand or listed in README.md.
+//! The safe face against answers worked out by hand or listed in the pages.
 use foldflake::{
     bar, clearance, distance, gap, line, placed_bar, placed_plate, plate, pose, root, route, route_clearance, sweep, Cache, Clearance, Ending, Move, Pair, Pose,
-    Refusal, Route, RouteClearance, Stop, Sweep, Waypoint,
+    Refusal, Route, RouteClearance, RouteRefusal, Stop, Sweep, Waypoint,
 };
 
 const SQUARE: [f32; 8] = [-1.0, -1.0, 1.0, -1.0, 1.0, 1.0, -1.0, 1.0];
@@ -24,7 +24,7 @@ fn root_is_the_processors() {
     }
 }
 
-/// README's example: job 7, a point goes from (4, 0) to a point at (0, 0).
+/// The example of docs/BATCH.md: job 7, a point goes from (4, 0) to a point at (0, 0).
 fn example_block() -> [u8; 512] {
     let mut words = [0u32; 128];
     words[0] = 7;
@@ -374,8 +374,9 @@ fn every_answer_of_a_route() {
         other => panic!("{other:?}"),
     };
     assert_eq!((stop, contact.point[0].to_bits()), (Stop { leg: 1, outline: 1, distance_calls: 20 }, 0xC012_DB86));
-    let at_2 = |number| Err((Refusal(number), Some(Stop { leg: 1, outline: 2, distance_calls: 1 })));
-    let at_1 = |number| Err((Refusal(number), Some(Stop { leg: 1, outline: 1, distance_calls: 0 })));
+    let refused = |number, at| Err(RouteRefusal { refusal: Refusal(number), at });
+    let at_2 = |number| refused(number, Some(Stop { leg: 1, outline: 2, distance_calls: 1 }));
+    let at_1 = |number| refused(number, Some(Stop { leg: 1, outline: 1, distance_calls: 0 }));
     assert_eq!(route(&[], &there, &[far], 0.01), at_1(1));
     assert_eq!(route(&POINT, &there, &[far, &[]], 0.01), at_2(2));
     assert_eq!(route(&POINT, &there, &[far, &[0.0; 130]], 0.01), at_2(2));
@@ -383,11 +384,11 @@ fn every_answer_of_a_route() {
     assert_eq!(route(&POINT, &[at(0.0, 0.0), Waypoint { center: [9.0, 0.0], rotation: [0.0, 0.0] }], &[far], 0.01), at_1(5));
     assert_eq!(route(&POINT, &[at(0.0, 0.0), at(f32::INFINITY, 0.0)], &[far], 0.01), at_1(6));
     assert_eq!(route(&POINT, &there, &[far], 0.0), at_1(8));
-    assert_eq!(route(&POINT, &there[..1], &[], 0.01), Err((Refusal(16), None)));
-    assert_eq!(route(&POINT, &[at(0.0, 0.0); 34], &[far], 0.01), Err((Refusal(16), None)));
+    assert_eq!(route(&POINT, &there[..1], &[], 0.01), refused(16, None));
+    assert_eq!(route(&POINT, &[at(0.0, 0.0); 34], &[far], 0.01), refused(16, None));
     assert!(matches!(route(&POINT, &[at(0.0, 0.0); 33], &[far; 32], 0.01), Ok(Route::Clear(_))));
-    assert_eq!(route(&[], &there, &[], 0.01), Err((Refusal(17), None)));
-    assert_eq!(route(&[], &there, &[far; 33], 0.01), Err((Refusal(17), None)));
+    assert_eq!(route(&[], &there, &[], 0.01), refused(17, None));
+    assert_eq!(route(&[], &there, &[far; 33], 0.01), refused(17, None));
 }
 
 #[test]
@@ -410,7 +411,7 @@ fn every_answer_of_a_whole_route() {
     let beside: &[f32] = &[1.41, -4.0, 1.41, 4.0];
     let open = route_clearance(&SQUARE, &half, &[far, beside], 0.001);
     assert!(matches!(open, Ok(RouteClearance::Open { pair: Pair { leg: 1, outline: 2, .. }, clear_up_to }) if clear_up_to < 0.5), "{open:?}");
-    let refused = |told: Result<RouteClearance, (Refusal, Option<Pair>)>| told.map_err(|(number, pair)| (number.0, pair.map(|p| (p.leg, p.outline))));
+    let refused = |told: Result<RouteClearance, RouteRefusal<Pair>>| told.map_err(|r| (r.refusal.0, r.at.map(|p| (p.leg, p.outline))));
     assert_eq!(refused(route_clearance(&[], &there, &[far], 0.01)), Err((1, Some((1, 1)))));
     assert_eq!(refused(route_clearance(&POINT, &there, &[far, &[]], 0.01)), Err((2, Some((1, 2)))));
     assert_eq!(refused(route_clearance(&POINT, &there, &[far, &[f32::NAN, 0.0]], 0.01)), Err((3, Some((1, 2)))));
@@ -443,7 +444,7 @@ fn every_answer_of_a_look_at_the_whole_move() {
     // a look at a part of the way: up to the touch and after it
     assert!(matches!(beside(6.0, 0.0, clear_up_to, 0.005), Ok(Clearance::Clear { .. })));
     assert!(matches!(beside(6.0, 0.9, 1.0, 0.005), Ok(Clearance::Clear { .. })));
-    assert!(matches!(beside(6.0, 0.5, 1.0, 0.005), Ok(Clearance::Touch { clear_up_to: 0.5, within_by: 0.5, pieces: 0 })));
+    assert_eq!(beside(6.0, 0.5, 1.0, 0.005), Ok(Clearance::Touch { clear_up_to: 0.5, within_by: 0.5, pieces: 0 }));
     // a single moment, the last one too
     assert!(matches!(beside(6.0, 0.0, 0.0, 0.005), Ok(Clearance::Clear { .. })));
     assert!(matches!(beside(6.0, 1.0, 1.0, 0.005), Ok(Clearance::Clear { .. })));

@@ -19,7 +19,7 @@ cp examples/shift.batch "$work/batch"
 for _ in $(seq 1000); do cat "$work/batch"; done > "$work/long"
 bad=0
 
-# README's line: the sheet is whole.
+# docs/PROGRAMS.md's line: the sheet is whole.
 finished() { awk 'END { exit !($1 == "TOTAL" && $2 == NR - 1) }' "$1"; }
 
 expect() { # expect FAULT STATUS TEXT: of the last run, which left its status in `ended` and its words in the work folder

@@ -10,6 +10,24 @@ proved sheet sheet64; linked
 has() { case " $kinds " in *" $1 "*) ;; *) return 1 ;; esac; }
 if has rust; then cargo test --offline --quiet --manifest-path rust/Cargo.toml --target-dir target/rust; fi
 work="$(mktemp -d)"; trap 'rm -r "$work"' EXIT
+# the header's version is one; where C++ was built it prints what C prints, of the refusals' texts and of a batch
+if has c; then
+  $run target/link/refusals-c > "$work/texts" || { echo "the header's version is not one"; exit 1; }
+  echo "refusals in C: $(wc -l < "$work/texts") numbers"
+  # the program of docs/LIBRARY.md: the turn is not clear, and it prints what stands there
+  if $run target/link/turn-c > "$work/turned"; then echo "docs/LIBRARY.md: the turn is clear"; exit 1; fi
+  awk '$0 == "```output" { on = 1; next } /^```/ { on = 0 } on' docs/LIBRARY.md | cmp - "$work/turned" || { echo "docs/LIBRARY.md: C prints $(cat "$work/turned")"; exit 1; }
+  echo "docs/LIBRARY.md: C prints $(cat "$work/turned")"
+  if [ -x target/link/sheet-cxx ]; then
+    for each in "refusals none" "sheet every-answer" "wide every-answer"; do
+      set -- $each
+      if [ "$2" = none ]; then : > "$work/batch"; else cp "examples/$2.batch" "$work/batch"; fi
+      for kind in c cxx; do $run "target/link/$1-$kind" < "$work/batch" > "$work/$kind" 2>&1; done
+      cmp "$work/c" "$work/cxx" || { echo "$1: C and C++ differ"; exit 1; }
+    done
+    echo "C++17: refusals, sheet and wide print what C prints"
+  fi
+fi
 same() { # same NAME: the three sheets of the batch in the work folder, in f32 and in f64
   $run "$bin/sheet" < "$work/batch" > "$work/sheet"
   for kind in $kinds; do

@@ -1,5 +1,5 @@
 #!/usr/bin/env bash
-# page.sh: makes the page of every examples/*.batch, of cut ones, of no input, of README's swing with its turn cut by `jobtext`, and of 5,000 random moves, and
+# page.sh: makes the page of every examples/*.batch, of cut ones, of no input, of the sample shift's swing with its turn cut by `jobtext`, and of 5,000 random moves, and
 # has tests/programs/page.py compare each with what `sheet`, `clearance` and `rooms` print of the same batch. Then what `page`, `jobtext` and `routetext` tell
 # where something fails, with their exit status: a page is whole or not there. Last it has tests/programs/page-picture.sh make the picture of README. Exit
 # status 1 where anything differs. Needs cargo or rustc, and Python 3.

@@ -70,6 +70,19 @@ program report < examples/shift.batch > "$work/expected"
 input=examples/shift.batch ends "report -" 0 "" ff report -; prints "$work/expected" "report -"
 ends "report, a file missing" 2 "what \`report\` printed is not whole" ff report examples/shift.batch "$work/none"; nothing "report"
 
+# jobs as text where a batch is wanted
+cp "$work/clear.batch" "$work/page.html"
+wants_a_batch="jobs as text, and no batch: \`check\` takes them as they are, \`text\` makes a batch of them"
+for verb in sheet sheet64 clearance any-contact all-clear unpack csv json report; do
+  ends "$verb of a text" 2 "$wants_a_batch" ff $verb examples/shift.txt; nothing "$verb of a text"
+done
+input=examples/shift.txt ends "csv of a text, -" 2 "$wants_a_batch" ff csv -
+ends "page of a text" 2 "$wants_a_batch" ff page examples/shift.txt "$work/page.html"
+ends "convert of a text" 2 "$wants_a_batch" ff convert examples/shift.txt "$work/page.html"
+cmp -s "$work/clear.batch" "$work/page.html" || wrong "a text replaced a file"
+echo 'no job of any kind' > "$work/words"
+passes sheet sheet "$work/words" 0
+
 # no block: nothing is judged clear
 : > "$work/empty"
 for verb in clearance all-clear check; do ends "$verb of nothing" 2 "*" ff $verb "$work/empty"; done
@@ -212,7 +225,13 @@ ends "install" 0 "takes them away" ff install "$work/there"
 ends "the installed one" 0 "" env -u PROGRAMS "$work/there/bin/foldflake" sheet examples/shift.batch; prints "$work/expected" "the installed one"
 ends "its version" 0 "" env -u PROGRAMS "$work/there/bin/foldflake" --version; grep -q '^kit ' "$work/printed" || wrong "the installed version"
 case "$(uname -m)" in
-x86_64) [ -f "$work/there/lib/libfoldflake.a" ] && [ -f "$work/there/lib/pkgconfig/foldflake.pc" ] || wrong "install: no library" ;;
+x86_64)
+  [ -f "$work/there/lib/libfoldflake.a" ] && [ -f "$work/there/lib/pkgconfig/foldflake.pc" ] || wrong "install: no library"
+  [ "$(sed -n 's/^Version: /foldflake /p' "$work/there/lib/pkgconfig/foldflake.pc")" = "$(head -n 1 "$work/printed")" ] || wrong "install: another version"
+  if [ -f "$work/there/lib/libfoldflake.so" ] && command -v python3 > /dev/null; then
+    ends "the installed module" 0 "" env -u FOLDFLAKE_LIB PYTHONPATH="$work/there/lib/python" PYTHONDONTWRITEBYTECODE=1 \
+      python3 -c 'import foldflake; print("foldflake", foldflake.__version__); assert foldflake.root(4.0) == 2.0'
+  fi ;;
 *) grep -q '^skipped: .*libfoldflake.a' "$work/told" || [ ! -e "$work/there/lib" ] || wrong "install: a library for another machine" ;;
 esac
 echo mine > "$work/there/share/mine"

@@ -4,9 +4,13 @@
 - A link leads to a file of the repository, and what follows # to a heading of that page.
 - A path in backticks is a file, a folder or a pattern of some. It may leave out `crates/`, or all but the file's name. CRATE/EDIT is a must-fail edit.
 - A name in backticks, be it of a crate, a function, a must-fail edit or a definition, stands somewhere in the repository outside the pages.
-- In docs/PROMISES.md: what a table has in its column `name` is declared in one of the .antt files that its row names; a function of the other table is
-  one of its row's crate, and a definition there is declared in some file of specs or proofs.
+- In docs/PROMISES.md and docs/SQUARED-PAPER.md: what a table has in its column `name` is declared in one of the .antt files that its row names; a function of
+  the other table is one of its row's crate, and a definition there is declared in some file of specs or proofs.
 - The list at the top of docs/ARCHITECTURE.md has each crate of crates.txt, and besides crates folders alone.
+- The names of jobs and routes as text, which front/ takes, stand in docs/PLANNER.md and docs/ROUTES.md, and so does each verb in docs/PROGRAMS.md.
+- README.md has at most 130 lines and links to every page of docs/.
+
+The commands of the pages are run by tests/programs/commands.py.
 
 docs/LANDINGS.md tells what was: of it only the links are looked at.
 """
@@ -20,7 +24,10 @@ import sys
 ROOT = pathlib.Path(__file__).resolve().parents[2]
 OWN = str(pathlib.Path(__file__).resolve().relative_to(ROOT))
 HISTORY = "docs/LANDINGS.md"
+FRONT = "README.md"
+FRONT_LINES = 130
 PROMISES = "docs/PROMISES.md"
+THEOREMS = (PROMISES, "docs/SQUARED-PAPER.md")
 TOUR = "docs/ARCHITECTURE.md"
 # what a path may start with that the repository does not hold, since a run makes it or the published text has it
 ELSEWHERE = ("target/", "query/", "shape/", "/dev/")
@@ -28,7 +35,7 @@ ELSEWHERE = ("target/", "query/", "shape/", "/dev/")
 NO_NAMES = {
     "from_cuboid_half_extents", "ofBits", "toBits", "rattle-kit-5b", "logic",
     "requires", "definition",
-    "SHEET.html", "PAGE.html", "may.batch", "found.batch", "./-x",
+    "SHEET.html", "PAGE.html", "may.batch", "found.batch", "./-x", "mine.html", "shift.html", "shift-2.batch",
 }
 
 
@@ -182,7 +189,7 @@ def row_files(cell, before, by_file):
 
 
 def promise_faults(lines, by_file, by_crate):
-    """Of the tables of docs/PROMISES.md: names that nothing declares, or not where their row says."""
+    """Of the tables that have theorems: names that nothing declares, or not where their row says."""
     everywhere, every_function = set().union(*by_file.values()), set().union(*by_crate.values())
     head, crates, files = None, [], []
     for number, line in lines:
@@ -223,6 +230,30 @@ def tour_faults(page):
     yield from ((1, crate, "a crate that the list does not have") for crate in crates if not re.search(rf"\b{crate}\b", listed))
 
 
+def listed_faults():
+    """Names that the front end takes, verbs, and pages, which no page lists."""
+    def text(page):
+        return (ROOT / page).read_text(encoding="utf-8")
+    for page, source in (("docs/PLANNER.md", "front/src/job_text.rs"), ("docs/ROUTES.md", "front/src/route_text.rs")):
+        names = re.findall(r'"([^"]+)"', re.search(r"const NAMES: .*?= \[(.*?)\];", text(source), re.S).group(1))
+        for name in names:
+            named = name if name[0] != "b" or name == "b" else "a" + name[1:]  # what A has B has
+            named = {"b": "a", "radius b": "radius a"}.get(named, named)
+            if not re.search(rf"`{named}(?::[^`]*)?`", text(page)):
+                yield page, 1, name, f"a name that {source} takes is not on the page"
+    usage = re.search(r'const HELP: &str = "\\\n(.*?)\n";', text("front/src/verbs.rs"), re.S).group(1)
+    verbs = re.findall(r"(?:^  |, )([a-z][a-z0-9-]*)(?= [A-Z[]|, )", usage.split("\n\n`foldflake")[0], re.M)
+    for verb in verbs:
+        if not re.search(rf"`{verb}`", text("docs/PROGRAMS.md")):
+            yield "docs/PROGRAMS.md", 1, verb, "a verb that the page does not name"
+    lines = text(FRONT).count("\n")
+    if lines > FRONT_LINES:
+        yield FRONT, lines, FRONT, f"{lines} lines: at most {FRONT_LINES}"
+    for page in PAGES:
+        if page != FRONT and f"]({page})" not in text(FRONT):
+            yield FRONT, 1, page, "a page to which it does not link"
+
+
 def prose(page):
     """A page without its blocks of code, of which empty lines are left."""
     text = (ROOT / page).read_text(encoding="utf-8")
@@ -243,10 +274,11 @@ def main():
             for word in (w.strip(",;:") for w in span.split()):
                 names += 1
                 faults.append((page, line + 1, word, name_fault(word, tree, by_crate)))
-        if page == PROMISES:
+        if page in THEOREMS:
             faults += [(page, *fault) for fault in promise_faults(enumerate(text.split("\n"), 1), declared(), by_crate)]
         if page == TOUR:
             faults += [(page, *fault) for fault in tour_faults(page)]
+    faults += listed_faults()
     wrong = sorted({fault for fault in faults if fault[3]})
     for page, number, word, fault in wrong:
         print(f"{page}:{number}: `{word}`: {fault}")
