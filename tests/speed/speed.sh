@@ -39,12 +39,15 @@ if ! command -v "$cxx" > /dev/null; then
 elif ! rt staticlib foldflake > "$out/staticlib.said" 2>&1; then
   echo "skipped: calls through the C library: libfoldflake.a is not built, $out/staticlib.said says why"
 else
-  calls="$out/box2d"; build() { "$cxx" -O2 -std=c++17 -Iinclude "$@" tests/speed/box2d.cpp target/staticlib/libfoldflake.a -o "$calls"; }
+  calls="$out/box2d"; build() { "$cxx" -O2 -std=c++17 -Iinclude tests/speed/box2d.cpp target/staticlib/libfoldflake.a "$@" -o "$calls"; }
   if ! build ${BOX2D:+-I"$BOX2D/usr/include"} ${BOX2D:+"$BOX2D/usr/lib/x86_64-linux-gnu/libbox2d.so"} $([ -n "${BOX2D:-}" ] || echo -lbox2d) 2> "$out/box2d.said"; then
     echo "skipped: Box2D: no libbox2d-dev for x86-64 here"
     build -DNO_BOX2D
   fi
-  [ -z "${BOX2D:-}" ] || export LD_LIBRARY_PATH="$BOX2D/usr/lib/x86_64-linux-gnu" QEMU_SET_ENV="LD_LIBRARY_PATH=$BOX2D/usr/lib/x86_64-linux-gnu"
+  if [ -n "${BOX2D:-}" ]; then
+    there="LD_LIBRARY_PATH=$(cd "$BOX2D" && pwd)/usr/lib/x86_64-linux-gnu"
+    if [ "$machine" = x86_64 ]; then export "$there"; else export QEMU_SET_ENV="$there"; fi
+  fi
 fi
 trial=""
 if [ -n "$prototype" ]; then trial="$out/prototype"; "$cc" -O2 -ffp-contract=off -w -static -o "$trial" "$prototype/main.c" -lm; fi
