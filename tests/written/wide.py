@@ -37,7 +37,7 @@ OF_MODEL = {'sheet_lines64/proofs/Run.antt'}
 # what differs otherwise: file, what stands there once, what stands in its place
 PATCHES = [
     ('sheet64/src/main.rt', 'b"sheet"', 'b"sheet64"'),
-    ('sheet64/src/main.rt', 'The run of `sheet`', 'The run of `sheet64`'),
+    ('sheet64/src/main.rt', 'Prints the sheet of the batch on standard input,', 'Prints the sheet, worked in f64, of the batch on standard input,'),
     # a block's numbers are taken over from f32
     ('work64/src/lib.rt', 'floats[i] = ground64::from_bits(wire::word(bytes, from + 4 * i));',
      'floats[i] = f32_to_f64_with_nan(ground::from_bits(wire::word(bytes, from + 4 * i)));'),

@@ -1,12 +1,14 @@
 -- What the loops over a block meet at the place they have reached. Assumes nothing.
-use mathlib.Core.Path.{_≡_, refl, sym, _∙_}
-use Prim.Native.Nat.{ℕ, zero, suc, _+_, _-_, _*_, _≤_, _<_}
+use mathlib.Core.Path.{_≡_, refl, sym, ap, _∙_}
+use Prim.Native.Nat.{ℕ, zero, suc, _+_, _-_, _*_, _%_, _^_, _≤_, _<_}
 use native.Mathlib.Omega.{arith}
-use native.Mathlib.Nat.{mul-le-mul}
+use native.Mathlib.Nat.{mul-le-mul, mod-add-mod}
 use native.Mathlib.Numerals.{add-one}
 use mathlib.Core.Bool.{Bool, true, false, _&&_, _||_, not, cond}
 use mathlib.Core.List.{List}
 use lib.Dec.{eqb, ltb}
+use lib.ListN.{take, drop, getD}
+use lib.Seq.{getD-take, getD-drop}
 use borrow.Author.Tests.{ltb-false, ne-eqb}
 use Rattle.model.specs.declared.Block.{Block}
 use Rattle.model.specs.declared.CheckedBlock.the-variants.{Good, Refused}
@@ -22,6 +24,20 @@ sum-step b i = rw add-one
 pub weighed-step : (b : List ℕ) (i : ℕ) → weighedWords b i + word b (4 * i) * (i + 1) ≡ weighedWords b (i + 1)
 unfolding weighedWords
 weighed-step b i = rw add-one
+
+-- the sum so far may have wrapped
+pub wrapped-step : (b : List ℕ) (i : ℕ) → (sumOfWords b i % 2 ^ 32 + word b (4 * i)) % 2 ^ 32 ≡ sumOfWords b (i + 1) % 2 ^ 32
+wrapped-step b i = mod-add-mod (sumOfWords b i) (2 ^ 32) (word b (4 * i)) ∙ ap (λ (n : ℕ). n % 2 ^ 32) (sum-step b i)
+
+-- the word of a part is that of the whole from its start on
+pub word-of-part : (b : List ℕ) (k : ℕ) → word (take (k + 4 - k) (drop k b)) 0 ≡ word b k
+unfolding word
+word-of-part b k =
+    let e : k + 0 ≡ k = omega arith in
+    rw (at 0 (omega arith), at 1 (omega arith), at 2 (omega arith), at 3 (omega arith), e)
+  where
+    at : (i : ℕ) → i < k + 4 - k → getD (take (k + 4 - k) (drop k b)) i 0 ≡ getD b (k + i) 0
+    at i l = getD-take (k + 4 - k) (drop k b) i 0 l ∙ getD-drop k b i 0
 
 pub weighed-limit : (w weight : ℕ) → w ≤ 4294967296 → weight ≤ 128 → w * weight ≤ 549755813888
 weighed-limit w weight h k = mul-le-mul h k

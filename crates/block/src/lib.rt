@@ -6,16 +6,17 @@ ghost use mathlib.Core.Path.{_≡_};
 ghost use Prim.Native.Nat.{_+_, _*_, _≤_, _%_, _^_};
 ghost use Rattle.model.specs.Block.{blockOf, knownForm, sumOfWords, weighedWords, sumBefore, checkHolds, allZero, badCount, zerosHold, badFields, checkedBlock};
 ghost use Rattle.model.specs.Blocks.{isGood};
-ghost use Rattle.model.specs.Wire.{byte};
+ghost use lib.ListN.{length};
+ghost use Rattle.model.specs.Wire.{byte, word};
 
-// The words before the check, added.
-fn plain_sum(bytes: &[u8]) -> u64
-    ensures { λ r. ⌜ r ≡ sumOfWords (now (bytes .entry)) 127 ⌝ }
+// The words before the check, added modulo 2^32.
+fn plain_sum(bytes: &[u8]) -> u32
+    ensures { λ r. ⌜ r ≡ sumOfWords (now (bytes .entry)) 127 % 2 ^ 32 ⌝ }
 {
-    let mut sum: u64 = 0;
+    let mut sum: u32 = 0;
     let mut i: usize = 0;
     while i < 127 {
-        sum += wire::word(bytes, 4 * i) as u64;
+        sum = std::num::wrapping_add_u32(sum, wire::word(bytes, 4 * i));
         i += 1;
     }
     sum
@@ -47,7 +48,7 @@ pub fn sum_before(bytes: &[u8], form: u8) -> u32
     ensures { λ r. ⌜ r ≡ sumBefore form (now (bytes .entry)) % 2 ^ 32 ⌝ }
 {
     if form == 0 {
-        return (plain_sum(bytes) % 0x1_0000_0000) as u32;
+        return plain_sum(bytes);
     }
     (weighed_sum(bytes) % 0x1_0000_0000) as u32
 }
@@ -68,8 +69,8 @@ fn check_holds(bytes: &[u8]) -> bool
     std::num::wrapping_add_u32(sum, wire::word(bytes, 508)) == 0xffff_ffff
 }
 
-// Whether n words from a place on are 0, and so all their bytes.
-fn all_zero(bytes: &[u8], from: usize, n: usize) -> bool
+// Whether n words from a place on are 0, and so all their bytes, where bytes may be missing.
+fn all_zero_short(bytes: &[u8], from: usize, n: usize) -> bool
     requires { ⌜ from + 4 * n ≤ 512 ⌝ }
     ensures { λ r. ⌜ r ≡ allZero (now (bytes .entry)) from (4 * n) ⌝ }
 {
@@ -77,6 +78,32 @@ fn all_zero(bytes: &[u8], from: usize, n: usize) -> bool
     let mut i: usize = 0;
     while i < n {
         zero = zero & (wire::word(bytes, from + 4 * i) == 0);
+        i += 1;
+    }
+    zero
+}
+
+// The word of four bytes that are there.
+fn word_in(bytes: &[u8], k: usize) -> u32
+    requires { ⌜ k + 4 ≤ length (now bytes) ⌝ }
+    ensures { λ r. ⌜ r ≡ word (now (bytes .entry)) k ⌝ }
+{
+    let end = k + 4;
+    wire::word(&bytes[k..end], 0)
+}
+
+// The same of a block that is whole, with no test of each word's place, so that several words are looked at as one.
+fn all_zero(bytes: &[u8], from: usize, n: usize) -> bool
+    requires { ⌜ from + 4 * n ≤ 512 ⌝ }
+    ensures { λ r. ⌜ r ≡ allZero (now (bytes .entry)) from (4 * n) ⌝ }
+{
+    if bytes.len() < 512 {
+        return all_zero_short(bytes, from, n);
+    }
+    let mut zero = true;
+    let mut i: usize = 0;
+    while i < n {
+        zero = zero & (word_in(bytes, from + 4 * i) == 0);
         i += 1;
     }
     zero

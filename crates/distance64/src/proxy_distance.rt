@@ -39,6 +39,7 @@ ghost use mathlib.Core.Path.{_≡_};
 ghost use Prim.Native.Nat.{_≤_, _<_};
 ghost use lib.Ieee.{binary64};
 ghost use Rattle.model64.specs.Ground as Ground;
+ghost use Rattle.model64.specs.Simplex.{slot};
 ghost use Rattle.model64.specs.Distance as Model;
 
 const MAX_ITERATIONS: u32 = 20;
@@ -150,13 +151,24 @@ fn held(simplex: [SimplexVertex; 3], count: usize, index_a: u32, index_b: u32) -
     requires { ⌜ count ≤ 3 ⌝ }
     ensures { λ r. ⌜ r ≡ Model.held simplex count «index_a» «index_b» ⌝ }
 {
-    let mut found = false;
-    let mut i: usize = 0;
-    while i < count {
-        found = found | (simplex[i].index_a == index_a) & (simplex[i].index_b == index_b);
-        i += 1;
+    let v1 = simplex[0];
+    let v2 = simplex[1];
+    let v3 = simplex[2];
+    (count > 0) & (v1.index_a == index_a) & (v1.index_b == index_b)
+        | (count > 1) & (v2.index_a == index_a) & (v2.index_b == index_b)
+        | (count > 2) & (v3.index_a == index_a) & (v3.index_b == index_b)
+}
+
+// The weight in the slot behind one or two that are kept.
+fn weight_behind(simplex: [SimplexVertex; 3], kept: usize) -> f64
+    requires { ⌜ (1 ≤ kept) × (kept ≤ 2) ⌝ }
+    ensures { λ r. ⌜ r ≡ slot simplex kept .a ⌝ }
+{
+    if kept == 1 {
+        simplex[1].a
+    } else {
+        simplex[2].a
     }
-    found
 }
 
 // The rounds, from the cache to one of the three endings.
@@ -186,10 +198,15 @@ fn rounds(pos12: Pose, points_a: &[f64], points_b: &[f64], cache: SimplexCache) 
         let index_a = support_index(points_a, d);
         let index_b = support_index(points_b, inv_rotate_vec(pos12.rotation, neg(d)));
         let again = held(simplex, count, index_a, index_b);
-        // the new vertex leaves its slot's weight
+        // the new vertex leaves its slot's weight; two places that are known keep the slots out of memory
         simplex = solved.simplex;
-        let a = simplex[kept].a;
-        simplex[kept] = vertex(pos12, points_a, points_b, index_a, index_b, a);
+        let a = weight_behind(simplex, kept);
+        let new = vertex(pos12, points_a, points_b, index_a, index_b, a);
+        if kept == 1 {
+            simplex[1] = new;
+        } else {
+            simplex[2] = new;
+        }
         direction = d;
         iterations += 1;
         if again {

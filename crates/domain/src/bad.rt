@@ -18,21 +18,20 @@ pub fn bad_outline(points: &[f32]) -> bool
 fn bad_part(x: f32) -> bool
     ensures { λ r. ⌜ r ≡ Domain.badPart binary32 x ⌝ }
 {
-    !(abs(x) <= 1048576.0)
+    !((x >= -1048576.0) & (x <= 1048576.0))
 }
 
-// Whether a list has such a part.
+// Whether a list has such a part. All are looked at, so that several are looked at as one.
 pub fn bad_parts(points: &[f32]) -> bool
     ensures { λ r. ⌜ r ≡ Domain.badParts binary32 (now (points .entry)) ⌝ }
 {
+    let mut bad = false;
     let mut i: usize = 0;
     while i < points.len() {
-        if bad_part(points[i]) {
-            return true;
-        }
+        bad = bad | bad_part(points[i]);
         i += 1;
     }
-    false
+    bad
 }
 
 // Whether a vector has such a part.

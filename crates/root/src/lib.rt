@@ -50,7 +50,7 @@ fn pattern(b: u64) -> u64
 }
 
 // The root: of 0, -0, infinity and NaN itself, and NaN of any number below 0.
-pub fn root(x: f32) -> f32
+fn root_of_any(x: f32) -> f32
     ensures { λ r. ⌜ Rooted binary32 x r ⌝ }
 {
     if x != x {
@@ -67,4 +67,17 @@ pub fn root(x: f32) -> f32
         return x;
     }
     0.0 / 0.0
+}
+
+// The same. Numbers above zero come first, since nearly all are.
+pub fn root(x: f32) -> f32
+    ensures { λ r. ⌜ Rooted binary32 x r ⌝ }
+{
+    if x > 0.0 {
+        let b: u32 = f32::to_bits(x);
+        if b < 0x7f80_0000 {
+            return f32::from_bits(pattern(b as u64) as u32);
+        }
+    }
+    root_of_any(x)
 }

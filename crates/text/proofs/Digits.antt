@@ -26,6 +26,10 @@ digits-by (suc j) (suc k) n within below above =
     let ih : digits 10 (suc k) (n / 10) ≡ decimalBy (suc j) (n / 10) = digits-by j k (n / 10) (omega arith) (omega arith) (λ h. omega arith) in
     simp (le-ltb n 10 large, lt-ltb (n % 10) 10 digit) (ap (λ (l : List ℕ). l ++ ((48 + n % 10) ∷ [])) ih)
 
+pub one-digit : (n : ℕ) → n < 10 → decimal n ≡ (48 + n) ∷ []
+unfolding decimalBy
+one-digit n small = simp (lt-ltb n 10 small)
+
 pub fewest-digits : (k n : ℕ) → Fewest 10 1 n k → k ≤ 20 → digits 10 k n ≡ decimal n
 fewest-digits zero n few within = absurd (omega (arith, few .0))
 fewest-digits (suc k) n few within =

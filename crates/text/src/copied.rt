@@ -32,11 +32,25 @@ pub fn copy(out: &mut [u8], at: usize, text: &[u8]) -> usize
     to
 }
 
-// A number in decimal digits, and a byte after it.
+// A digit, and a byte after it.
+fn copy_digit(out: &mut [u8], at: usize, d: u64, end: u8) -> usize
+    requires { ⌜ (at + 2 ≤ length (now out)) × (d < 10) ⌝ }
+    ensures { λ r. ⌜ Put (now (out .entry)) at (number d end) (now (out .exit)) r ⌝ }
+{
+    out[at] = 48 + d as u8;
+    let last = at + 1;
+    out[last] = end;
+    last + 1
+}
+
+// A number in decimal digits, and a byte after it. Most have one digit.
 pub fn copy_number(out: &mut [u8], at: usize, n: u64, end: u8) -> usize
     requires { ⌜ at + 21 ≤ length (now out) ⌝ }
     ensures { λ r. ⌜ Put (now (out .entry)) at (number n end) (now (out .exit)) r ⌝ }
 {
+    if n < 10 {
+        return copy_digit(out, at, n, end);
+    }
     let mut digits = [0u8; 20];
     let k = io::decimal(n, &mut digits);
     let e = copy(out, at, &digits[..k]);

@@ -1,15 +1,18 @@
 -- Written by tests/written/wide.py from sheet, in f64.
--- `sheet` is safe and ends: the reads that are left fall. Nothing has to hold from one read to the next. Assumes nothing.
+-- `sheet` is safe and ends: the reads that are left fall. Of one read the next needs nothing but the two lent buffers, as long as they were.
+-- Assumes nothing.
 use borrow.Author.Needs.{needs}
 use Prim.Native.Nat.{_-_}
+use mathlib.Core.Path.{_≡_}
+use lib.ListN.{length}
 use Rattle.sheet64.proofs.main.Statement.{statement}
 use Rattle.sheet64.proofs.main.Tie as tie
 
 abbrev Inv-loop : tie.InvT-loop
-Inv-loop t₀ reads₀ t reads = Unit {0}
+Inv-loop t₀ buffer₀ text₀ reads₀ t buffer text reads = (65536 ≡ length buffer) × (65536 ≡ length text)
 
 abbrev μ-loop : tie.MeasureT-loop
-μ-loop t₀ reads₀ t reads = 18446744073709551615 - reads
+μ-loop t₀ buffer₀ text₀ reads₀ t buffer text reads = 18446744073709551615 - reads
 
 slice-aggregate-no-argument : tie.Need-slice-aggregate-no-argument Inv-loop μ-loop
 slice-aggregate-no-argument c = search needs
@@ -20,8 +23,20 @@ no-argument-requires c κs = search needs
 returns : tie.Need-returns Inv-loop μ-loop
 returns c = search needs
 
+large-buffer-requires : tie.Need-large-buffer-requires Inv-loop μ-loop
+large-buffer-requires c κs = search needs
+
+large-buffer-requires-2 : tie.Need-large-buffer-requires-2 Inv-loop μ-loop
+large-buffer-requires-2 c κs = search needs
+
 loop-holds : tie.Need-loop-holds Inv-loop μ-loop
 loop-holds c = search needs
+
+slice-aggregate-next-part : tie.Need-slice-aggregate-next-part Inv-loop μ-loop
+slice-aggregate-next-part c = search needs
+
+slice-aggregate-next-part-2 : tie.Need-slice-aggregate-next-part-2 Inv-loop μ-loop
+slice-aggregate-next-part-2 c = search needs
 
 next-part-requires : tie.Need-next-part-requires Inv-loop μ-loop
 next-part-requires c κs = search needs
@@ -50,7 +65,11 @@ main-spec =
     slice-aggregate-no-argument
     no-argument-requires
     returns
+    large-buffer-requires
+    large-buffer-requires-2
     loop-holds
+    slice-aggregate-next-part
+    slice-aggregate-next-part-2
     next-part-requires
     returns-2
     add-reads

@@ -2,19 +2,19 @@
 use borrow.Author.Needs.{needs}
 use Prim.Native.Nat.{_≤_, _-_}
 use mathlib.Core.Path.{_≡_, refl, ap, _∙_}
-use native.Mathlib.Nat.{le-antisymm}
+use native.Mathlib.Nat.{le-trans}
 use lib.ListN.{length, take}
 use lib.Ieee.{binary32, ofBits}
 use Rattle.model.specs.Work.{floatsAt}
-use Rattle.work.proofs.Laws.{floats-set}
+use Rattle.work.proofs.Laws.{floats-set, floats-first}
 use Rattle.work.proofs.floats_at.Statement.{statement}
 use Rattle.work.proofs.floats_at.Tie as tie
 
 abbrev Inv-loop : tie.InvT-loop
-Inv-loop bytes from n floats₀ i₀ floats i = (i ≤ n) × (length floats ≡ 32) × (take i floats ≡ floatsAt bytes from i)
+Inv-loop bytes from floats₀ i₀ floats i = (i ≤ 32) × (length floats ≡ 32) × (take i floats ≡ floatsAt bytes from i)
 
 abbrev μ-loop : tie.MeasureT-loop
-μ-loop bytes from n floats₀ i₀ floats i = n - i
+μ-loop bytes from floats₀ i₀ floats i = 32 - i
 
 loop-holds : tie.Need-loop-holds Inv-loop μ-loop
 unfolding floatsAt
@@ -52,7 +52,9 @@ loop-again c = (
 )
 
 returns : tie.Need-returns Inv-loop μ-loop
-returns c = (c .before .loop .inv .1, rw (le-antisymm (c .loop-test .left) (c .before .loop .inv .0)) (c .before .loop .inv .2))
+returns c =
+    let l = c .before .loop in
+    (l .inv .1, λ n h. floats-first _ _ _ _ (l .inv .2) n (le-trans h (c .loop-test .left)))
 
 pub floats-at-spec : {M : Type 1} → statement M
 floats-at-spec =

@@ -1,13 +1,10 @@
--- `bad::bad_part` meets its contract, by what `abs` ensures. Assumes nothing.
-use borrow.Author.Needs.{needs}
+-- `bad::bad_part` meets its contract: within the limit on either side is within it in size. Assumes nothing.
+use Rattle.domain.proofs.Laws.{part-within}
 use Rattle.domain.proofs.bad.bad_part.Statement.{statement}
 use Rattle.domain.proofs.bad.bad_part.Tie as tie
 
-abs-requires : tie.Need-abs-requires
-abs-requires c κs = search needs
-
 returns : tie.Need-returns
-returns c = simp (c .abs .ensures)
+returns c = part-within _
 
 pub bad-part-spec : {M : Type 1} → statement M
-bad-part-spec = tie.close (tie.spec abs-requires returns)
+bad-part-spec = tie.close (tie.spec returns)

@@ -1,0 +1,2 @@
+-- Written by tests/written/wide.py from ground, in f64.
+mod One
