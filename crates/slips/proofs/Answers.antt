@@ -30,7 +30,8 @@ use Rattle.at_fraction.specs.Moment.{poseAt, gap, gapAt}
 use Rattle.shapes.specs.declared.Built.the-variants as Built
 use Rattle.shapes.specs.Shapes.{told, left, plateTold, plateLeft, barLeft}
 use Rattle.route_legs.specs.declared.RouteAnswer.the-variants.{Refused}
-use Rattle.route_legs.specs.Route.{stop, startOf, legMove, sweepAt, walkFrom, wrong, route}
+use Rattle.route_legs.specs.Route.{stop, stopAt, startOf, legMove, sweepAt, walkFrom, wrong, route}
+use Rattle.route_clearance_legs.specs.Looks.{end, endAt}
 use Rattle.list_calls.specs.Entry.{sweepFits, sweepCall, sweepNumber, cacheOf, distanceFor, distanceFits, distanceCall, distanceNumber}
 use Rattle.foldflake.specs.Entry.{lineTo}
 use Rattle.foldflake.specs.Route.{endNumber}
@@ -106,6 +107,13 @@ calls-of-the-last-sweep = refl
 pub last-outline-of-the-leg : route binary32 there (replicate 8 n0) (nan ∷ n0 ∷ []) (0 ∷ 2 ∷ []) n1 ≡ Refused (stop 1 1 0) 2
 unfolding route walkFrom sweepAt legMove startOf sweepTimeOfImpact
 last-outline-of-the-leg = refl
+
+-- of three outlines sweep 5, from 0, is that of the second leg past the third; by the search and as a whole
+pub outlines-before-legs : stopAt 3 5 0 ≡ stop 2 3 0
+outlines-before-legs = refl
+
+pub leg-and-outline-exchanged : endAt 3 5 0 ≡ end 2 3 0
+leg-and-outline-exchanged = refl
 
 -- 33 waypoints pass, 34 do not
 pub passed-33-legs : map (λ (n : ℕ). wrong binary32 there (replicate n n0) there (2 ∷ []) n1) (132 ∷ 136 ∷ []) ≡ (0 ∷ 16 ∷ [])
