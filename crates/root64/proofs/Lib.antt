@@ -1,3 +1,4 @@
+mod Above
 mod Neighbours
 mod Pairs
 mod Single

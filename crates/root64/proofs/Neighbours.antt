@@ -158,3 +158,12 @@ three n t d one two e b x y = sym (go (decLe d (2 * t + 1)) (decLe d (4 * t + 5)
         let s = sq-suc (t + 1 + 1) in
         let k = p in
         near-is n (t + 1 + 1 + 1) (omega arith) (omega arith) ∙ omega arith
+
+-- ---- what the code adds up fits a word
+pub fit : (t : ℕ) → t < 18014398509481984
+    → (t + 1 < 18446744073709551616) × (2 * t < 18446744073709551616) × (2 * t + 1 < 18446744073709551616) × (4 * t < 18446744073709551616)
+    × (4 * t + 5 < 18446744073709551616)
+fit t h = (omega arith, omega arith, omega arith, omega arith, omega arith)
+
+pub few : (t d : ℕ) → t < 18014398509481984 → d < 6 * t → d < 18446744073709551615
+few t d h l = omega arith

@@ -1,48 +1,43 @@
+-- `root` meets its contract: a number above zero with an exponent by its guess, any other by what `root_of_any` ensures. Assumes nothing.
+use mathlib.Core.Path.{sym, ap, _∙_, subst}
+use native.Mathlib.Omega.{arith}
 use borrow.Author.Needs.{needs}
+use lib.Dec.{T}
+use lib.Ieee.{binary64, ofBits, fits}
+use Rattle.model.specs.Root.{root}
+use Rattle.model.proofs.Root.Nearest.{rooted}
+use Rattle.model.proofs.Bits.{below-infinity}
+use Rattle.model.proofs.Root.Tests.{read-back}
+use Rattle.root64.proofs.Above.{above-not-nan}
 use Rattle.root64.proofs.root.Statement.{statement}
 use Rattle.root64.proofs.root.Tie as tie
-use Rattle.root64.proofs.root.Reads as reads
-use Rattle.root64.proofs.root.Lts as lts
-use Rattle.root64.proofs.guess.Reads as guess-reads
-use Rattle.root64.proofs.guessed.Reads as guessed-reads
-use Rattle.root64.proofs.root_of_any.Reads as root-of-any-reads
 
--- src/lib.rt:200:22
+-- what owning a float tells: the format holds it
+held : (c : tie.Start) → T (fits binary64 (c .args .x))
+held c = subst T (sym (c .good .0 .1)) tt
+
 float-to-bits-b : tie.Need-float-to-bits-b
-float-to-bits-b c = ?
+float-to-bits-b c = above-not-nan (ofBits binary64 0) (c .before .args .x) (c .if1 .taken)
 
--- src/lib.rt:202:32
 guess-requires : tie.Need-guess-requires
-guess-requires c κs = ?
+guess-requires c κs = c .if3 .taken
 
--- src/lib.rt:202:17
 guessed-requires : tie.Need-guessed-requires
-guessed-requires c κs = ?
+guessed-requires c κs = (c .before .before .if2 .taken, c .before .if3 .taken)
 
--- src/lib.rt:204:24
 float-from-bits-result : tie.Need-float-from-bits-result
-float-from-bits-result c = ?
+float-from-bits-result c = below-infinity binary64 (c .before .guessed .result) (c .before .guessed .ensures (c .if4 .taken) .0)
 
--- src/lib.rt:204:17
 returns : tie.Need-returns
-returns c = ?
+returns c =
+    let start = c .before .before .before .before .before .before in
+    rooted binary64 (start .args .x) _ (held start) (c .before .guessed .ensures (c .if4 .taken) .1 ∙ ap (root binary64) (read-back binary64 (start .args .x) (held start)))
 
--- src/lib.rt:208:5
 root-of-any-requires : tie.Need-root-of-any-requires
 root-of-any-requires c κs = search needs
 
--- src/lib.rt:196:1
 returns-2 : tie.Need-returns-2
 returns-2 c = search needs
 
 pub root-spec : {M : Type 1} → statement M
-root-spec =
-    tie.close
-    (tie.spec
-    float-to-bits-b
-    guess-requires
-    guessed-requires
-    float-from-bits-result
-    returns
-    root-of-any-requires
-    returns-2)
+root-spec = tie.close (tie.spec float-to-bits-b guess-requires guessed-requires float-from-bits-result returns root-of-any-requires returns-2)

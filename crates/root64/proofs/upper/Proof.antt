@@ -43,8 +43,10 @@ add-result-2 c = record { fits = below-word _ (bounds (c .args .x) (c .args .y) 
 returns : tie.Need-returns
 returns c =
     let x = c .args .x in
-    let y = c .args .y in
-    upper-word (x * y) (x / 4294967296 * (y / 4294967296)) (x / 4294967296 * (y % 4294967296)) (x % 4294967296 * (y / 4294967296)) (x % 4294967296 * (y % 4294967296)) (by-halves x y)
+    let y = c .args .y in (
+      upper-word (x * y) (x / 4294967296 * (y / 4294967296)) (x / 4294967296 * (y % 4294967296)) (x % 4294967296 * (y / 4294967296)) (x % 4294967296 * (y % 4294967296)) (by-halves x y),
+      bounds x y (c .pre .0) (c .pre .1) .1,
+    )
 
 pub upper-spec : {M : Type 1} → statement M
 upper-spec = tie.close (tie.spec mul-a mul-a-2 add-a mul-b add-b mul-result add-result add-result-2 returns)
