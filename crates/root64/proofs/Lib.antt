@@ -1,4 +1,3 @@
-mod Above
 mod Neighbours
 mod Pairs
 mod Single
