@@ -5,11 +5,10 @@ use Prim.Native.Nat.{_≤_, _+_, _*_, _/_, _-_, _%_}
 use native.Mathlib.Omega.{arith}
 use mathlib.Core.Path.{_≡_, refl, sym, _∙_}
 use mathlib.Core.Logic.{⊎-elim}
-use borrow.Author.Needs.{needs}
 use lib.Ieee.{binary64}
 use lib.ListN.{length, drop}
 use Rattle.model64.specs.Ground as Ground
-use Rattle.model64.specs.Support.{supportFrom}
+use Rattle.model64.specs.Support.{point, supportFrom}
 use Rattle.model64.specs.Second.{secondFrom}
 use Rattle.model64.proofs.Support.{support-stop}
 use Rattle.model64.proofs.Second.{second-stop}
@@ -17,25 +16,24 @@ use Rattle.outline64.proofs.support_pair.Statement.{statement}
 use Rattle.outline64.proofs.support_pair.Tie as tie
 
 abbrev Inv-loop : tie.InvT-loop
-Inv-loop points direction origin count _ _ best i = (i ≤ count + 1)
+Inv-loop points direction count origin _ _ best i = (i ≤ count)
     × (supportFrom binary64 direction origin (drop (2 * i) points) i (best .first) (best .value) ≡ supportFrom binary64 direction origin (drop 2 points) 1 0
     (Ground.zero binary64))
     × (secondFrom binary64 direction origin (drop (2 * i) points) i (best .second) (best .value) ≡ secondFrom binary64 direction origin (drop 2 points) 1 0
     (Ground.zero binary64))
 
 abbrev μ-loop : tie.MeasureT-loop
-μ-loop _ _ _ count _ _ _ i = count - i
+μ-loop _ _ count _ _ _ _ i = count - i
 
 -- what is found when no corner is left
-whole : (c : tie.Joined1 Inv-loop μ-loop) →
-    let a = c .before .before .before .before .before .args in
-    let o = c .before .before .before .point .result in
-    (c .if1 .best .first ≡ supportFrom binary64 (a .direction) o (drop 2 (a .points .now)) 1 0 (Ground.zero binary64))
-    × (c .if1 .best .second ≡ secondFrom binary64 (a .direction) o (drop 2 (a .points .now)) 1 0 (Ground.zero binary64))
+whole : (c : tie.Joined2 Inv-loop μ-loop) →
+    let a = c .before .before .before .before .before .before .before .args in
+    (c .if2 .best .first ≡ supportFrom binary64 (a .direction) (point (a .points .now) 0) (drop 2 (a .points .now)) 1 0 (Ground.zero binary64))
+    × (c .if2 .best .second ≡ secondFrom binary64 (a .direction) (point (a .points .now) 0) (drop 2 (a .points .now)) 1 0 (Ground.zero binary64))
 whole c =
     let l = c .before .before .loop in
-    let a = c .before .before .before .before .before .args in
-    let o = c .before .before .before .point .result in
+    let a = c .before .before .before .before .before .before .before .args in
+    let o = point (a .points .now) 0 in
     ⊎-elim
     (λ w.
     let t = w .1 .result in
@@ -52,10 +50,23 @@ whole c =
       sym (support-stop binary64 (a .direction) o (a .points .now) (l .i) (b .first) (b .value) none) ∙ l .inv .1,
       sym (second-stop binary64 (a .direction) o (a .points .now) (l .i) (b .second) (b .value) none) ∙ l .inv .2,
     ))
-    (c .if1 .came)
+    (c .if2 .came)
 
-point-requires : tie.Need-point-requires Inv-loop μ-loop
-point-requires c κs = search needs
+returns : tie.Need-returns Inv-loop μ-loop
+returns c =
+    let a = c .before .before .args in
+    let o = point (a .points .now) 0 in
+    let none : length (a .points .now) / 2 ≤ 1 = omega (arith, c .if1 .taken) in
+    rw (
+      support-stop binary64 (a .direction) o (a .points .now) 1 0 (Ground.zero binary64) none,
+      second-stop binary64 (a .direction) o (a .points .now) 1 0 (Ground.zero binary64) none,
+    )
+
+shared-slice-read-t11 : tie.Need-shared-slice-read-t11 Inv-loop μ-loop
+shared-slice-read-t11 c = omega arith
+
+shared-slice-read-t13 : tie.Need-shared-slice-read-t13 Inv-loop μ-loop
+shared-slice-read-t13 c = omega arith
 
 loop-holds : tie.Need-loop-holds Inv-loop μ-loop
 loop-holds c = (omega arith, refl, refl)
@@ -89,17 +100,16 @@ loop-again c =
 taken-requires-3 : tie.Need-taken-requires-3 Inv-loop μ-loop
 taken-requires-3 c κs = omega arith
 
-cast-t12 : tie.Need-cast-t12 Inv-loop μ-loop
-cast-t12 c = omega arith
+cast-t16 : tie.Need-cast-t16 Inv-loop μ-loop
+cast-t16 c = omega arith
 
-cast-t14 : tie.Need-cast-t14 Inv-loop μ-loop
-cast-t14 c = omega arith
+cast-t18 : tie.Need-cast-t18 Inv-loop μ-loop
+cast-t18 c = omega arith
 
-returns : tie.Need-returns Inv-loop μ-loop
-returns c =
-    let o = c .before .before .before .before .before .point in
+returns-2 : tie.Need-returns-2 Inv-loop μ-loop
+returns-2 c =
     let b = whole (c .before .before) in
-    rw (← o .ensures, ← b .0, ← b .1)
+    rw (← b .0, ← b .1)
 
 pub support-pair-spec : {M : Type 1} → statement M
 support-pair-spec =
@@ -107,7 +117,9 @@ support-pair-spec =
     (tie.spec
     Inv-loop
     μ-loop
-    point-requires
+    returns
+    shared-slice-read-t11
+    shared-slice-read-t13
     loop-holds
     add-loop
     taken-requires
@@ -117,6 +129,6 @@ support-pair-spec =
     loop-less
     loop-again
     taken-requires-3
-    cast-t12
-    cast-t14
-    returns)
+    cast-t16
+    cast-t18
+    returns-2)
