@@ -37,6 +37,7 @@ use simplex::witness_points;
 ghost use mathlib.Core.Path.{_≡_};
 ghost use Prim.Native.Nat.{_≤_, _<_};
 ghost use lib.Ieee.{binary32};
+ghost use lib.ListN.{set};
 ghost use Rattle.model.specs.Ground as Ground;
 ghost use Rattle.model.specs.Simplex.{slot};
 ghost use Rattle.model.specs.Distance as Model;
@@ -170,6 +171,31 @@ fn weight_behind(simplex: [SimplexVertex; 3], kept: usize) -> f32
     }
 }
 
+// The kept vertices, one or two, with the new one behind them. It leaves its slot's weight; two places that are known keep the slots out of memory.
+fn grown(
+    pos12: Pose,
+    points_a: &[f32],
+    points_b: &[f32],
+    simplex: [SimplexVertex; 3],
+    kept: usize,
+    index_a: u32,
+    index_b: u32,
+) -> [SimplexVertex; 3]
+    requires { ⌜ (1 ≤ kept) × (kept ≤ 2) ⌝ }
+    ensures { λ r. ⌜ r ≡ set simplex kept (Model.vertex binary32 (now («points_a» .entry)) (now («points_b» .entry)) pos12 «index_a» «index_b»
+        (slot simplex kept .a)) ⌝ }
+{
+    let mut slots = simplex;
+    let a = weight_behind(slots, kept);
+    let new = vertex(pos12, points_a, points_b, index_a, index_b, a);
+    if kept == 1 {
+        slots[1] = new;
+    } else {
+        slots[2] = new;
+    }
+    slots
+}
+
 // The rounds, from the cache to one of the three endings.
 fn rounds(pos12: Pose, points_a: &[f32], points_b: &[f32], cache: SimplexCache) -> Rounds
     ensures { λ r. ⌜ r ≡ Model.rounds binary32 (now («points_a» .entry)) (now («points_b» .entry)) pos12 cache ⌝ }
@@ -197,26 +223,21 @@ fn rounds(pos12: Pose, points_a: &[f32], points_b: &[f32], cache: SimplexCache) 
         let index_a = support_index(points_a, d);
         let index_b = support_index(points_b, inv_rotate_vec(pos12.rotation, neg(d)));
         let again = held(simplex, count, index_a, index_b);
-        // the new vertex leaves its slot's weight; two places that are known keep the slots out of memory
-        simplex = solved.simplex;
-        let a = weight_behind(simplex, kept);
-        let new = vertex(pos12, points_a, points_b, index_a, index_b, a);
-        if kept == 1 {
-            simplex[1] = new;
-        } else {
-            simplex[2] = new;
-        }
-        direction = d;
-        iterations += 1;
+        // grown in each branch by itself: of a call that settles nobody reads the new vertex, and none need be made
+        let slots = solved.simplex;
         if again {
+            let simplex = grown(pos12, points_a, points_b, slots, kept, index_a, index_b);
             return Rounds {
                 ending: Ending::Settled,
                 simplex,
                 count: kept,
-                direction,
-                iterations,
+                direction: d,
+                iterations: iterations + 1,
             };
         }
+        simplex = grown(pos12, points_a, points_b, slots, kept, index_a, index_b);
+        direction = d;
+        iterations += 1;
         count = kept + 1;
     }
     Rounds {
