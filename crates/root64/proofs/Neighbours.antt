@@ -42,7 +42,8 @@ pub by-halves : (x y : ℕ) → x * y ≡ h x * h y * 18446744073709551616 + (h 
 by-halves x y =
     let e : h x * 4294967296 + l x ≡ x = div-add-mod' x 4294967296 in
     let f : h y * 4294967296 + l y ≡ y = div-add-mod' y 4294967296 in
-    let p : x * y ≡ (h x * 4294967296 + l x) * (h y * 4294967296 + l y) = ap (λ (z : ℕ). z * y) (sym e) ∙ ap (λ (z : ℕ). (h x * 4294967296 + l x) * z) (sym f) in
+    let p : x * y ≡ (h x * 4294967296 + l x) * (h y * 4294967296 + l y) =
+    ap (λ (z : ℕ). z * y) (sym e) ∙ ap (λ (z : ℕ). (h x * 4294967296 + l x) * z) (sym f) in
     let q = halves (h x * 4294967296) (l x) (h y * 4294967296) (l y) in
     let a : h x * 4294967296 * (h y * 4294967296) ≡ h x * h y * 18446744073709551616 = mul-mul-mul-comm (h x) 4294967296 (h y) 4294967296 in
     let b : h x * 4294967296 * l y ≡ h x * l y * 4294967296 = mul-right-comm (h x) 4294967296 (l y) in
@@ -108,7 +109,8 @@ past m p u v low borrow w d M e f g b s i j k o = go (decLe v low)
     same : (w v low : ℕ) → (w + v) % 18446744073709551616 ≡ low → w < 18446744073709551616 → v ≤ low → w + v ≡ low + 0 * 18446744073709551616
     same w v low x y z = omega arith
 
-    round : (w v low : ℕ) → (w + v) % 18446744073709551616 ≡ low → w < 18446744073709551616 → v < 18446744073709551616 → low < v → w + v ≡ low + 1 * 18446744073709551616
+    round : (w v low : ℕ) → (w + v) % 18446744073709551616 ≡ low → w < 18446744073709551616 → v < 18446744073709551616 → low < v
+        → w + v ≡ low + 1 * 18446744073709551616
     round w v low x y t z = omega arith
 
     sum : (n p a u v low borrow w c d : ℕ) → n ≡ a * 18446744073709551616 + low → u * 18446744073709551616 + v ≡ p → u + borrow ≡ a → borrow ≡ c
@@ -119,11 +121,14 @@ past m p u v low borrow w d M e f g b s i j k o = go (decLe v low)
     n-words = words ∙ ap (λ (x : ℕ). m / 4096 * 18446744073709551616 + x) (sym e)
 
     p-words : u * 18446744073709551616 + v ≡ p
-    p-words = ap (λ (x : ℕ). x * 18446744073709551616 + v) g ∙ ap (λ (x : ℕ). p / 18446744073709551616 * 18446744073709551616 + x) f ∙ div-add-mod' p 18446744073709551616
+    p-words =
+        ap (λ (x : ℕ). x * 18446744073709551616 + v) g ∙ ap (λ (x : ℕ). p / 18446744073709551616 * 18446744073709551616 + x) f
+        ∙ div-add-mod' p 18446744073709551616
 
     go : Dec (v ≤ low) → m * 4503599627370496 ≡ p + d + 1
     go (yes x) = sum _ p (m / 4096) u v low borrow w 0 d n-words p-words s (b .1 x) (same w v low i j x) (plain w d k o)
-    go (no x) = sum _ p (m / 4096) u v low borrow w 1 d n-words p-words s (b .0 (lt-of-not-le x)) (round w v low i j (small v p f) (lt-of-not-le x)) (plain w d k o)
+    go (no x) =
+        sum _ p (m / 4096) u v low borrow w 1 d n-words p-words s (b .0 (lt-of-not-le x)) (round w v low i j (small v p f) (lt-of-not-le x)) (plain w d k o)
       where
         small : (v p : ℕ) → v ≡ p % 18446744073709551616 → v < 18446744073709551616
         small v p x = omega arith

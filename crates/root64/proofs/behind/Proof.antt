@@ -91,7 +91,8 @@ returns-3 c =
     let h = start .pre in
     let n : m * 4503599627370496 ≡ t * (t + 1) + d .result + 1 =
     past m (t * (t + 1)) (upper .result) (low-side .lower .result) _ (borrow .result) (w .result) (d .result) (h .0) refl (low-side .lower .ensures)
-    (upper .ensures .0) (borrow .ensures .0, borrow .ensures .1) (c .before .before .before .before .before .if1 .left) (w .ensures) (w .ok) (d .ensures) (few t (d .result) (h .1) left) in
+    (upper .ensures .0) (borrow .ensures .0, borrow .ensures .1) (c .before .before .before .before .before .if1 .left)
+    (w .ensures) (w .ok) (d .ensures) (few t (d .result) (h .1) left) in
     let one = c .before .below2 .ensures in
     let two = c .below3 .ensures in
     λ _. three _ t (d .result) _ _ n left (one .0, one .1) (two .0, two .1)
