@@ -1,9 +1,9 @@
 // The line of a block: of one that is worked by its floats, of one that is refused by its number.
-use block_floats::floats_at;
 use crate::fractions::put_gaps;
 use crate::put::put;
 use crate::put::put_number;
 use crate::put::put_two;
+use block_floats::floats_at;
 use model::Sweep;
 ghost use mathlib.Core.Path.{_≡_};
 ghost use Prim.Native.Nat.{_+_, _≤_};
