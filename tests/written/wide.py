@@ -40,8 +40,9 @@ PATCHES = [
     ('sheet64/src/main.rt', 'Prints the sheet of the batch on standard input,', 'Prints the sheet, worked in f64, of the batch on standard input,'),
     # a block's numbers are taken over from f32
     ('work64/src/lib.rt', 'floats[i] = ground64::from_bits(wire::word(bytes, from + 4 * i));',
-     'floats[i] = f32_to_f64_with_nan(ground::from_bits(wire::word(bytes, from + 4 * i)));'),
-    ('work64/src/lib.rt', 'use model64::Swept;', 'use model64::Swept;\nuse std::num::f32_to_f64_with_nan;'),
+     'floats[i] = taken_over(wire::word(bytes, from + 4 * i));'),
+    ('work64/src/lib.rt', 'use model::Block;', 'mod taken;\n\nuse model::Block;'),
+    ('work64/src/lib.rt', 'use model64::Swept;', 'use model64::Swept;\nuse taken::taken_over;'),
     # a point record has sixteen bytes
     ('toi_proxy64/proofs/point_list/point_at/Proof.antt', 'is 8 i past', 'is 16 i past'),
     ('toi_proxy64/proofs/point_list/point_at/Proof.antt', '(lit ! tt) (scaled-fits i (length ys) 8', '(lit ! tt) (scaled-fits i (length ys) 16'),
@@ -78,7 +79,7 @@ PATCHES = [
 ]
 
 HAND = {
-    'work64': ['proofs/floats_at/'],
+    'work64': ['src/taken.rt', 'proofs/floats_at/', 'proofs/taken/'],
     'replay64': ['src/main.rt', 'src/table.rt', 'proofs/pool/numbers/'],
 }
 

@@ -1,12 +1,11 @@
 // From a block to the verdict on its whole move: its checks, its floats, and the call that they ask for.
+use block_floats::floats_at;
 use clearance_call::Cleared;
 use clearance_call::clearance;
 use model::Block;
 use model::CheckedBlock;
 ghost use mathlib.Core.Path.{_≡_};
 ghost use Prim.Native.Nat.{_≤_};
-ghost use lib.ListN.{take, length};
-ghost use Rattle.model.specs.Work as Work;
 ghost use Rattle.model.specs.Block.{mostPoints, checkedBlock};
 ghost use Rattle.clearance_block.specs.Answer.{refusedBlock, Looked, AnswerBy, AnswerOf};
 
@@ -14,20 +13,6 @@ ghost use Rattle.clearance_block.specs.Answer.{refusedBlock, Looked, Ans
 pub struct BlockCleared {
     pub job: u32,
     pub answer: Cleared,
-}
-
-// The first n floats from a place on, at the start of room for sixteen points.
-fn floats_at(part: &[u8], from: usize, n: usize) -> [f32; 32]
-    requires { ⌜ (from ≤ 512) × (n ≤ 32) ⌝ }
-    ensures { λ r. ⌜ (length r ≡ 32) × (take n r ≡ Work.floatsAt (now (part .entry)) from n) ⌝ }
-{
-    let mut floats = [0.0f32; 32];
-    let mut i: usize = 0;
-    while i < n {
-        floats[i] = ground::from_bits(wire::word(part, from + 4 * i));
-        i += 1;
-    }
-    floats
 }
 
 // The look that a block asks for, from the start of its move on.

@@ -36,8 +36,9 @@ use outline64::support_index;
 use simplex64::solve;
 use simplex64::witness_points;
 ghost use mathlib.Core.Path.{_≡_};
-ghost use Prim.Native.Nat.{_≤_, _<_};
+ghost use Prim.Native.Nat.{_/_, _≤_, _<_};
 ghost use lib.Ieee.{binary64};
+ghost use lib.ListN.{length, set};
 ghost use Rattle.model64.specs.Ground as Ground;
 ghost use Rattle.model64.specs.Simplex.{slot};
 ghost use Rattle.model64.specs.Distance as Model;
@@ -118,31 +119,33 @@ fn from_cache(cache: SimplexCache, na: usize, nb: usize) -> bool
     some & cache_is_valid(cache, na, nb)
 }
 
-// The three slots of the start.
-fn start(pos12: Pose, points_a: &[f64], points_b: &[f64], cache: SimplexCache) -> [SimplexVertex; 3]
-    ensures { λ r. ⌜ r ≡ Model.startSimplex binary64 (now («points_a» .entry)) (now («points_b» .entry)) pos12 cache ⌝ }
+// What the rounds start with: three slots, and how many of them count.
+struct Slots {
+    simplex: [SimplexVertex; 3],
+    count: usize,
+}
+
+// The start, told by one look at the cache.
+fn start(pos12: Pose, points_a: &[f64], points_b: &[f64], cache: SimplexCache) -> Slots
+    ensures { λ r. ⌜ r .simplex ≡ Model.startSimplex binary64 (now («points_a» .entry)) (now («points_b» .entry)) pos12 cache ⌝ }
+    ensures { λ r. ⌜ r .count ≡ Model.startCount cache (length (now («points_a» .entry)) / 2) (length (now («points_b» .entry)) / 2) ⌝ }
 {
     if from_cache(cache, points_a.len() / 2, points_b.len() / 2) {
         let v1 = cached(pos12, points_a, points_b, cache, 0);
         let v2 = cached(pos12, points_a, points_b, cache, 1);
         let v3 = cached(pos12, points_a, points_b, cache, 2);
-        [v1, v2, v3]
+        Slots {
+            simplex: [v1, v2, v3],
+            count: cache.count as usize,
+        }
     } else {
         let v1 = vertex(pos12, points_a, points_b, 0, 0, 1.0);
         let v2 = blank();
         let v3 = blank();
-        [v1, v2, v3]
-    }
-}
-
-// How many of them count.
-fn start_count(cache: SimplexCache, na: usize, nb: usize) -> usize
-    ensures { λ r. ⌜ r ≡ Model.startCount cache na nb ⌝ }
-{
-    if from_cache(cache, na, nb) {
-        cache.count as usize
-    } else {
-        1
+        Slots {
+            simplex: [v1, v2, v3],
+            count: 1,
+        }
     }
 }
 
@@ -171,12 +174,38 @@ fn weight_behind(simplex: [SimplexVertex; 3], kept: usize) -> f64
     }
 }
 
+// The kept vertices, one or two, with the new one behind them. It leaves its slot's weight; two places that are known keep the slots out of memory.
+fn grown(
+    pos12: Pose,
+    points_a: &[f64],
+    points_b: &[f64],
+    simplex: [SimplexVertex; 3],
+    kept: usize,
+    index_a: u32,
+    index_b: u32,
+) -> [SimplexVertex; 3]
+    requires { ⌜ (1 ≤ kept) × (kept ≤ 2) ⌝ }
+    ensures { λ r. ⌜ r ≡ set simplex kept (Model.vertex binary64 (now («points_a» .entry)) (now («points_b» .entry)) pos12 «index_a» «index_b»
+        (slot simplex kept .a)) ⌝ }
+{
+    let mut slots = simplex;
+    let a = weight_behind(slots, kept);
+    let new = vertex(pos12, points_a, points_b, index_a, index_b, a);
+    if kept == 1 {
+        slots[1] = new;
+    } else {
+        slots[2] = new;
+    }
+    slots
+}
+
 // The rounds, from the cache to one of the three endings.
 fn rounds(pos12: Pose, points_a: &[f64], points_b: &[f64], cache: SimplexCache) -> Rounds
     ensures { λ r. ⌜ r ≡ Model.rounds binary64 (now («points_a» .entry)) (now («points_b» .entry)) pos12 cache ⌝ }
 {
-    let mut simplex = start(pos12, points_a, points_b, cache);
-    let mut count = start_count(cache, points_a.len() / 2, points_b.len() / 2);
+    let begin = start(pos12, points_a, points_b, cache);
+    let mut simplex = begin.simplex;
+    let mut count = begin.count;
     let mut direction = zero();
     let mut iterations: u32 = 0;
     while iterations < MAX_ITERATIONS {
@@ -198,26 +227,21 @@ fn rounds(pos12: Pose, points_a: &[f64], points_b: &[f64], cache: SimplexCache) 
         let index_a = support_index(points_a, d);
         let index_b = support_index(points_b, inv_rotate_vec(pos12.rotation, neg(d)));
         let again = held(simplex, count, index_a, index_b);
-        // the new vertex leaves its slot's weight; two places that are known keep the slots out of memory
-        simplex = solved.simplex;
-        let a = weight_behind(simplex, kept);
-        let new = vertex(pos12, points_a, points_b, index_a, index_b, a);
-        if kept == 1 {
-            simplex[1] = new;
-        } else {
-            simplex[2] = new;
-        }
-        direction = d;
-        iterations += 1;
+        // grown in each branch by itself: of a call that settles nobody reads the new vertex, and none need be made
+        let slots = solved.simplex;
         if again {
+            let simplex = grown(pos12, points_a, points_b, slots, kept, index_a, index_b);
             return Rounds {
                 ending: Ending::Settled,
                 simplex,
                 count: kept,
-                direction,
-                iterations,
+                direction: d,
+                iterations: iterations + 1,
             };
         }
+        simplex = grown(pos12, points_a, points_b, slots, kept, index_a, index_b);
+        direction = d;
+        iterations += 1;
         count = kept + 1;
     }
     Rounds {

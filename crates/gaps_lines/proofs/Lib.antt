@@ -1,4 +1,3 @@
-mod Floats
 pub mod Pieces
 mod Parts
 pub mod Run

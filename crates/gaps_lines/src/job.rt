@@ -3,11 +3,12 @@ use crate::fractions::put_gaps;
 use crate::put::put;
 use crate::put::put_number;
 use crate::put::put_two;
+use block_floats::floats_at;
 use model::Sweep;
 ghost use mathlib.Core.Path.{_≡_};
 ghost use Prim.Native.Nat.{_+_, _≤_};
 ghost use lib.Ieee.{binary32};
-ghost use lib.ListN.{length, take};
+ghost use lib.ListN.{length};
 ghost use Rattle.model.specs.Block.{mostPoints};
 ghost use Rattle.model.specs.Sheet.{refusedLine};
 ghost use Rattle.model.specs.Wire.{byte};
@@ -15,20 +16,6 @@ ghost use Rattle.model.specs.Work as Work;
 ghost use Rattle.text.specs.Put.{Put};
 ghost use Rattle.gaps_lines.specs.Gaps.{longestLine, workedLine};
 ghost use Rattle.gaps_lines.specs.Pieces.{gapsRoom, blockText};
-
-// The first n floats from a place on, at the start of room for sixteen points.
-fn floats_at(bytes: &[u8], from: usize, n: usize) -> [f32; 32]
-    requires { ⌜ (from ≤ 512) × (n ≤ 32) ⌝ }
-    ensures { λ r. ⌜ (length r ≡ 32) × (take n r ≡ Work.floatsAt (now (bytes .entry)) from n) ⌝ }
-{
-    let mut floats = [0.0f32; 32];
-    let mut i: usize = 0;
-    while i < n {
-        floats[i] = ground::from_bits(wire::word(bytes, from + 4 * i));
-        i += 1;
-    }
-    floats
-}
 
 // The move of the ten floats from a place on.
 fn move_from(bytes: &[u8], from: usize) -> Sweep

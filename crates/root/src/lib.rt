@@ -32,25 +32,47 @@ fn scaled(m: u64, p: u64) -> u64
     requires { ⌜ (8388608 ≤ m) × (m < 16777216) × (126 ≤ p) × (p ≤ 402) ⌝ }
     ensures { λ r. ⌜ (r < 2139095040) × (ofBits binary32 r ≡ Root.rootUnits binary32 (m * 2 ^ p)) ⌝ }
 {
-    (p - 23) / 2 * 8388608 + near(m * 8388608 * (2 - p % 2))
+    (p - 23) / 2 * 8388608 + near((m * 16777216) >> (p % 2))
 }
 
-// The pattern of the root of the value above zero whose pattern is b.
-fn pattern(b: u64) -> u64
+// A value in units of the smallest value squared: m * 2^p, m of 24 digits.
+struct Units {
+    m: u64,
+    p: u64,
+}
+
+// The value above zero whose pattern is b.
+fn units_of(b: u64) -> Units
     requires { ⌜ (0 < b) × (b < 2139095040) ⌝ }
-    ensures { λ r. ⌜ (r < 2139095040) × (ofBits binary32 r ≡ Root.root binary32 (ofBits binary32 b)) ⌝ }
+    ensures { λ r. ⌜ (8388608 ≤ r .m) × (r .m < 16777216) × (126 ≤ r .p) × (r .p ≤ 402)
+        × (Root.rootUnits binary32 (r .m * 2 ^ r .p) ≡ Root.root binary32 (ofBits binary32 b)) ⌝ }
 {
     let e = b / 8388608;
     if e == 0 {
         let z = (u64::leading_zeros(b) as u64) - 40;
-        scaled(b << z, 149 - z)
+        Units {
+            m: b << z,
+            p: 149 - z,
+        }
     } else {
-        scaled(8388608 + b % 8388608, 148 + e)
+        Units {
+            m: 8388608 + b % 8388608,
+            p: 148 + e,
+        }
     }
 }
 
+// The pattern of its root.
+fn pattern(b: u64) -> u64
+    requires { ⌜ (0 < b) × (b < 2139095040) ⌝ }
+    ensures { λ r. ⌜ (r < 2139095040) × (ofBits binary32 r ≡ Root.root binary32 (ofBits binary32 b)) ⌝ }
+{
+    let v = units_of(b);
+    scaled(v.m, v.p)
+}
+
 // The root: of 0, -0, infinity and NaN itself, and NaN of any number below 0.
-fn root_of_any(x: f32) -> f32
+pub fn root(x: f32) -> f32
     ensures { λ r. ⌜ Rooted binary32 x r ⌝ }
 {
     if x != x {
@@ -67,17 +89,4 @@ fn root_of_any(x: f32) -> f32
         return x;
     }
     0.0 / 0.0
-}
-
-// The same. Numbers above zero come first, since nearly all are.
-pub fn root(x: f32) -> f32
-    ensures { λ r. ⌜ Rooted binary32 x r ⌝ }
-{
-    if x > 0.0 {
-        let b: u32 = f32::to_bits(x);
-        if b < 0x7f80_0000 {
-            return f32::from_bits(pattern(b as u64) as u32);
-        }
-    }
-    root_of_any(x)
 }

@@ -1,3 +1,3 @@
-mod Halves
+mod Neighbours
 mod Pairs
 mod Single

@@ -1,15 +1,16 @@
--- The decimal digits of `io` are those of the sheet, and at most twenty. Assumes nothing.
+-- The decimal digits of `io` are those of the sheet, and at most twenty; hexadecimal digits in two halves. Assumes nothing.
 use mathlib.Core.Path.{_≡_, refl, sym, ap, _∙_}
 use mathlib.Core.Bool.{Bool, true, false, cond}
-use mathlib.Core.List.{List, [], _∷_, _++_}
+use mathlib.Core.List.{List, [], _∷_, _++_, append-assoc, append-nil}
 use Prim.Native.Nat.{ℕ, zero, suc, _+_, _*_, _-_, _/_, _%_, _^_, _≤_, _<_}
 use native.Mathlib.Omega.{arith}
-use native.Mathlib.Nat.{one-le-pow, pow-le-pow-right}
+use native.Mathlib.Nat.{mul-assoc, pow-suc, one-le-pow, pow-le-pow-right}
 use borrow.Author.Tests.{lt-ltb, le-ltb, leb-true, leb-false}
 use lib.Dec.{ltb, leb}
-use lib.ListN.{length, length-append}
+use lib.ListN.{length, take, length-append}
+use Rattle.text.specs.Put.{hex, wideHex}
 use Rattle.io.specs.Digits.{digits, glyph, Fewest}
-use Rattle.model.specs.Text.{decimalBy, decimal}
+use Rattle.model.specs.Text.{decimalBy, decimal, capital, hexBy}
 
 -- k + 1 digits, the fewest, of a number that may have j + 1
 digits-by : (j k n : ℕ) → k ≤ j → n < 10 ^ suc k → (0 < k → 10 ^ k ≤ n) → digits 10 (suc k) n ≡ decimalBy (suc j) n
@@ -45,3 +46,25 @@ at-most-twenty k n few fits = go (leb k 20) refl
         let long : 20 < k = leb-false k 20 e in
         let large : 10 ^ 20 ≤ 10 ^ (k - 1) = pow-le-pow-right {n = 10} (omega arith) {i = 20} {j = k - 1} (omega arith) in
         absurd (omega (arith, few .2 (omega arith)))
+
+-- the last digits of n, which are l's, and j before them, which are h's
+parts : (j k n h l : ℕ) → n ≡ h * 16 ^ k + l → l < 16 ^ k → hexBy (k + j) n ≡ hexBy j h ++ hexBy k l
+unfolding hexBy
+parts j zero n h l e below =
+    let same : n ≡ h = omega (arith, e, below) in
+    let count : 0 + j ≡ j = omega arith in
+    ap (λ (m : ℕ). hexBy m n) count ∙ ap (hexBy j) same ∙ sym (append-nil (hexBy j h))
+parts j (suc k) n h l e below =
+    let count : suc k + j ≡ suc (k + j) = omega arith in
+    let more : h * 16 ^ suc k ≡ h * 16 ^ k * 16 = ap (λ (x : ℕ). h * x) (pow-suc 16 k) ∙ sym (mul-assoc h (16 ^ k) 16) in
+    let before : n / 16 ≡ h * 16 ^ k + l / 16 = omega (arith, e, more) in
+    let last : n % 16 ≡ l % 16 = omega (arith, e, more) in
+    ap (λ (m : ℕ). hexBy m n) count
+    ∙ rw (parts j k (n / 16) h (l / 16) before (omega (arith, below)), last) (append-assoc (hexBy j h) (hexBy k (l / 16)) (capital (l % 16) ∷ []))
+
+-- sixteen digits are the eight of the upper half and the eight of the lower, and a byte after the upper half's is not among them
+pub halves : (n end : ℕ) → wideHex n end ≡ take 8 (hex (n / 4294967296) end) ++ hex (n % 4294967296) end
+unfolding hexBy
+halves n end =
+    ap (λ (l : List ℕ). l ++ (end ∷ [])) (parts 8 8 n (n / 4294967296) (n % 4294967296) (omega arith) (omega arith))
+    ∙ append-assoc (hexBy 8 (n / 4294967296)) (hexBy 8 (n % 4294967296)) (end ∷ [])

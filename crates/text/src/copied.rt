@@ -1,6 +1,7 @@
 // Texts copied to where there is room for them; the answer is the place after.
 ghost use mathlib.Core.Path.{_≡_};
 ghost use Prim.Native.Nat.{_+_, _≤_, _<_};
+ghost use mathlib.Core.Bool.{cond};
 ghost use mathlib.Core.List.{[], _∷_, _++_};
 ghost use lib.Dec.{ltb};
 ghost use lib.ListN.{length};
@@ -58,12 +59,19 @@ pub fn copy_number(out: &mut [u8], at: usize, n: u64, end: u8) -> usize
     e + 1
 }
 
+// How many codes stand between 9 and A, for a digit past 9.
+fn skipped(d: u32) -> u32
+    ensures { λ r. ⌜ r ≡ cond (ltb d 10) 0 7 ⌝ }
+{
+    if d < 10 { 0 } else { 7 }
+}
+
 // 0 to 9, then A to F.
 fn capital_digit(d: u32) -> u8
     requires { ⌜ d < 16 ⌝ }
     ensures { λ r. ⌜ r ≡ capital d ⌝ }
 {
-    if d < 10 { 48 + d as u8 } else { 55 + d as u8 }
+    (48 + d + skipped(d)) as u8
 }
 
 // The eight digits of a word, and a byte after them.
@@ -86,46 +94,6 @@ pub fn hex_digits(n: u32, end: u8) -> [u8; 9]
         capital_digit(n2 % 16),
         capital_digit(n1 % 16),
         capital_digit(n % 16),
-        end,
-    ]
-}
-
-// The sixteen digits of a long word, and a byte after them.
-pub fn wide_hex_digits(n: u64, end: u8) -> [u8; 17]
-    ensures { λ r. ⌜ r ≡ hexBy 16 n ++ (end ∷ []) ⌝ }
-{
-    let n1 = n / 16;
-    let n2 = n1 / 16;
-    let n3 = n2 / 16;
-    let n4 = n3 / 16;
-    let n5 = n4 / 16;
-    let n6 = n5 / 16;
-    let n7 = n6 / 16;
-    let n8 = n7 / 16;
-    let n9 = n8 / 16;
-    let n10 = n9 / 16;
-    let n11 = n10 / 16;
-    let n12 = n11 / 16;
-    let n13 = n12 / 16;
-    let n14 = n13 / 16;
-    let n15 = n14 / 16;
-    [
-        capital_digit((n15 % 16) as u32),
-        capital_digit((n14 % 16) as u32),
-        capital_digit((n13 % 16) as u32),
-        capital_digit((n12 % 16) as u32),
-        capital_digit((n11 % 16) as u32),
-        capital_digit((n10 % 16) as u32),
-        capital_digit((n9 % 16) as u32),
-        capital_digit((n8 % 16) as u32),
-        capital_digit((n7 % 16) as u32),
-        capital_digit((n6 % 16) as u32),
-        capital_digit((n5 % 16) as u32),
-        capital_digit((n4 % 16) as u32),
-        capital_digit((n3 % 16) as u32),
-        capital_digit((n2 % 16) as u32),
-        capital_digit((n1 % 16) as u32),
-        capital_digit((n % 16) as u32),
         end,
     ]
 }

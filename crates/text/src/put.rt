@@ -3,7 +3,6 @@ use crate::copied::copy;
 use crate::copied::copy_number;
 use crate::copied::hex_digits;
 use crate::copied::lacks;
-use crate::copied::wide_hex_digits;
 ghost use Prim.Native.Nat.{_+_};
 ghost use lib.ListN.{length};
 ghost use Rattle.text.specs.Put.{Put, whereRoom, number, hex, wideHex};
@@ -40,13 +39,15 @@ pub fn put_hex(out: &mut [u8], at: usize, n: u32, end: u8) -> usize
     copy(out, at, &digits)
 }
 
-// A long word in sixteen hexadecimal digits, and a byte after it.
+// A long word in sixteen hexadecimal digits, eight for each half, and a byte after it.
 pub fn put_wide_hex(out: &mut [u8], at: usize, n: u64, end: u8) -> usize
     ensures { λ r. ⌜ Put (now (out .entry)) at (whereRoom (at + 17) (length (now (out .entry))) (wideHex n end)) (now (out .exit)) r ⌝ }
 {
-    let digits = wide_hex_digits(n, end);
+    let upper = hex_digits((n / 4294967296) as u32, end);
+    let lower = hex_digits((n % 4294967296) as u32, end);
     if lacks(out.len(), at, 17) {
         return at;
     }
-    copy(out, at, &digits)
+    let half = copy(out, at, &upper[..8]);
+    copy(out, half, &lower)
 }

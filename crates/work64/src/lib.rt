@@ -1,11 +1,13 @@
 // Written by tests/written/wide.py from work, in f64.
 // From a block to its answer: its floats, and what the sweep that they ask for comes to.
+mod taken;
+
 use model::Block;
 use model::CheckedBlock;
 use model64::BlockAnswer;
 use model64::Outcome;
 use model64::Swept;
-use std::num::f32_to_f64_with_nan;
+use taken::taken_over;
 ghost use mathlib.Core.Path.{_≡_};
 ghost use Prim.Native.Nat.{ℕ, _≤_};
 ghost use lib.Ieee.{binary64};
@@ -22,7 +24,7 @@ fn floats_at(bytes: &[u8], from: usize) -> [f64; 32]
     let mut floats = [0.0f64; 32];
     let mut i: usize = 0;
     while i < 32 {
-        floats[i] = f32_to_f64_with_nan(ground::from_bits(wire::word(bytes, from + 4 * i)));
+        floats[i] = taken_over(wire::word(bytes, from + 4 * i));
         i += 1;
     }
     floats

@@ -1,5 +1,6 @@
 -- `clearance_block::look_along` meets its contract: the lent parts of the arrays are the block's points and numbers. Assumes nothing.
 use mathlib.Core.Path.{refl, sym}
+use native.Mathlib.Omega.{arith}
 use lib.Seq.{length-take-le}
 use borrow.Author.Needs.{needs}
 use Rattle.clearance_block.proofs.look_along.Statement.{statement}
@@ -44,10 +45,11 @@ clearance-requires c κs = search needs
 returns : tie.Need-returns
 returns c =
     let d = c .before .before .before .before in
-    record {
-      job = refl;
-      told = rw (← d .before .before .floats-at .ensures .1, ← d .before .floats-at2 .ensures .1, ← d .floats-at3 .ensures .1) (c .clearance .ensures);
-    }
+    let a = d .before .before .before .before .before .before in
+    let points-a = d .before .before .floats-at .ensures .1 (omega arith) (omega (arith, a .pre .0)) in
+    let points-b = d .before .floats-at2 .ensures .1 (omega arith) (omega (arith, a .pre .1)) in
+    let numbers = d .floats-at3 .ensures .1 (omega arith) (omega arith) in
+    record { job = refl; told = rw (← points-a, ← points-b, ← numbers) (c .clearance .ensures) }
 
 pub look-along-spec : {M : Type 1} → statement M
 look-along-spec =

@@ -18,15 +18,8 @@ mul-result c = search needs
 mul-near : tie.Need-mul-near
 mul-near c = search needs
 
-sub-near : tie.Need-sub-near
-sub-near c = search needs
-
-mul-near-2 : tie.Need-mul-near-2
-mul-near-2 c =
-    let h = c .pre in
-    let r = wide-range (c .args .m) (c .args .p) (h .0) (h .1) in
-    let e = widened (c .args .m) (c .args .p) (h .0) (h .1) in
-    record { fits = omega arith }
+shr-near : tie.Need-shr-near
+shr-near c = search needs
 
 near-requires : tie.Need-near-requires
 near-requires c κs =
@@ -55,4 +48,4 @@ returns c =
 
 pub scaled-spec : {M : Type 1} → statement M
 scaled-spec =
-    tie.close (tie.spec sub-result mul-result mul-near sub-near mul-near-2 near-requires add-result returns)
+    tie.close (tie.spec sub-result mul-result mul-near shr-near near-requires add-result returns)

@@ -1,20 +1,19 @@
--- `guess` keeps its range: 52 digits of a pattern behind a leading one. Assumes nothing.
-use Rattle.model.proofs.Bits.{not-nan}
+-- `guess` makes no pattern of a NaN. Assumes nothing.
+use native.Mathlib.Omega.{arith}
+use lib.Ieee.{binary64}
+use Rattle.model.proofs.Bits.{below-infinity}
 use borrow.Author.Needs.{needs}
 use Rattle.root64.proofs.guess.Statement.{statement}
 use Rattle.root64.proofs.guess.Tie as tie
 
+add-y : tie.Need-add-y
+add-y c = search needs
+
+float-from-bits-y : tie.Need-float-from-bits-y
+float-from-bits-y c = below-infinity binary64 _ (omega arith)
+
 returns : tie.Need-returns
 returns c = search needs
 
-float-to-bits-b : tie.Need-float-to-bits-b
-float-to-bits-b c = not-nan _ (c .if1 .left)
-
-add-result : tie.Need-add-result
-add-result c = search needs
-
-returns-2 : tie.Need-returns-2
-returns-2 c = search needs
-
 pub guess-spec : {M : Type 1} → statement M
-guess-spec = tie.close (tie.spec returns float-to-bits-b add-result returns-2)
+guess-spec = tie.close (tie.spec add-y float-from-bits-y returns)

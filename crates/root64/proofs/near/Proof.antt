@@ -5,24 +5,21 @@ use borrow.Author.Needs.{needs}
 use Rattle.root64.proofs.near.Statement.{statement}
 use Rattle.root64.proofs.near.Tie as tie
 
-guess-requires : tie.Need-guess-requires
-guess-requires c κs = search needs
-
-isqrt-requires : tie.Need-isqrt-requires
-isqrt-requires c κs = search needs
+digits-requires : tie.Need-digits-requires
+digits-requires c κs = search needs
 
 add-result : tie.Need-add-result
 add-result c = search needs
 
 returns : tie.Need-returns
 returns c =
-    let d = c .before .before .before .isqrt in
-    left-up (c .before .before .before .before .before .args .m * 4503599627370496) (d .result .q) (d .result .rem) (d .ensures .0) (d .ensures .1) (c .before .if1 .taken)
+    let d = c .before .before .before .digits in
+    left-up (c .before .before .before .before .args .m * 4503599627370496) (d .result .q) (d .result .rem) (d .ensures .0) (d .ensures .1) (c .before .if1 .taken)
 
 returns-2 : tie.Need-returns-2
 returns-2 c =
-    let d = c .before .before .isqrt in
-    left-down (c .before .before .before .before .args .m * 4503599627370496) (d .result .q) (d .result .rem) (d .ensures .0) (d .ensures .1) (c .if1 .left)
+    let d = c .before .before .digits in
+    left-down (c .before .before .before .args .m * 4503599627370496) (d .result .q) (d .result .rem) (d .ensures .0) (d .ensures .1) (c .if1 .left)
 
 pub near-spec : {M : Type 1} → statement M
-near-spec = tie.close (tie.spec guess-requires isqrt-requires add-result returns returns-2)
+near-spec = tie.close (tie.spec digits-requires add-result returns returns-2)

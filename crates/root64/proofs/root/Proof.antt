@@ -1,12 +1,13 @@
--- `root` meets its contract. Assumes nothing.
-use mathlib.Core.Path.{_≡_, sym, ap, _∙_, subst}
+-- `root` meets its contract: a number with an exponent by its guess, any other by what `root_of_any` ensures. Assumes nothing.
+use mathlib.Core.Path.{sym, ap, _∙_, subst}
+use native.Mathlib.Omega.{arith}
 use borrow.Author.Needs.{needs}
 use lib.Dec.{T}
 use lib.Ieee.{binary64, fits}
 use Rattle.model.specs.Root.{root}
 use Rattle.model.proofs.Root.Nearest.{rooted}
-use Rattle.model.proofs.Bits.{not-nan, below-infinity}
-use Rattle.model.proofs.Root.Tests.{nan-root, zero-root, read-back, top-root, neg-root}
+use Rattle.model.proofs.Bits.{below-infinity, not-nan}
+use Rattle.model.proofs.Root.Tests.{nan-root, read-back}
 use Rattle.root64.proofs.root.Statement.{statement}
 use Rattle.root64.proofs.root.Tie as tie
 
@@ -20,31 +21,25 @@ returns c = rooted binary64 (c .before .args .x) (c .before .args .x) (held (c .
 float-to-bits-b : tie.Need-float-to-bits-b
 float-to-bits-b c = not-nan (c .before .args .x) (c .if1 .left)
 
-returns-2 : tie.Need-returns-2
-returns-2 c =
-    let at-start = c .before .before in
-    rooted binary64 (at-start .args .x) _ (held at-start) (zero-root binary64 (at-start .args .x) (held at-start) (c .if2 .taken))
+guess-requires : tie.Need-guess-requires
+guess-requires c κs = c .if3 .taken
 
-pattern-requires : tie.Need-pattern-requires
-pattern-requires c κs = search needs
+guessed-requires : tie.Need-guessed-requires
+guessed-requires c κs = (c .before .before .if2 .taken, c .before .if3 .taken)
 
 float-from-bits-result : tie.Need-float-from-bits-result
-float-from-bits-result c = below-infinity binary64 (c .pattern .result) (c .pattern .ensures .0)
+float-from-bits-result c = below-infinity binary64 (c .before .guessed .result) (c .before .guessed .ensures (c .if4 .taken) .0)
+
+returns-2 : tie.Need-returns-2
+returns-2 c =
+    let start = c .before .before .before .before .before .before in
+    rooted binary64 (start .args .x) _ (held start) (c .before .guessed .ensures (c .if4 .taken) .1 ∙ ap (root binary64) (read-back binary64 (start .args .x) (held start)))
+
+root-of-any-requires : tie.Need-root-of-any-requires
+root-of-any-requires c κs = search needs
 
 returns-3 : tie.Need-returns-3
-returns-3 c =
-    let at-start = c .before .before .before .before in
-    rooted binary64 (at-start .args .x) _ (held at-start) (c .pattern .ensures .1 ∙ ap (root binary64) (read-back binary64 (at-start .args .x) (held at-start)))
-
-returns-4 : tie.Need-returns-4
-returns-4 c =
-    let at-start = c .before .before .before .before in
-    rooted binary64 (at-start .args .x) _ (held at-start) (top-root binary64 (at-start .args .x) (held at-start) (c .before .if3 .left) (c .if4 .taken))
-
-returns-5 : tie.Need-returns-5
-returns-5 c =
-    let at-start = c .before .before .before .before in
-    rooted binary64 (at-start .args .x) _ (held at-start) (neg-root binary64 (at-start .args .x) (held at-start) (c .if4 .left))
+returns-3 c = search needs
 
 pub root-spec : {M : Type 1} → statement M
-root-spec = tie.close (tie.spec returns float-to-bits-b returns-2 pattern-requires float-from-bits-result returns-3 returns-4 returns-5)
+root-spec = tie.close (tie.spec returns float-to-bits-b guess-requires guessed-requires float-from-bits-result returns-2 root-of-any-requires returns-3)

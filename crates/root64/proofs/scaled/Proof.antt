@@ -3,7 +3,6 @@ use mathlib.Core.Path.{_≡_, ap, _∙_}
 use Prim.Native.Nat.{ℕ, _+_, _-_, _*_, _/_}
 use native.Mathlib.Omega.{arith}
 use lib.Ieee.{binary64, ofBits}
-use Rattle.model.proofs.Bits.{below-infinity}
 use Rattle.model.proofs.Root.Law.{law-range}
 use Rattle.root64.proofs.Single.{even-64, odd-64, odd-range-64}
 use borrow.Author.Needs.{needs}
@@ -15,12 +14,6 @@ sub-h c = search needs
 
 mul-result : tie.Need-mul-result
 mul-result c = search needs
-
-add-near : tie.Need-add-near
-add-near c = search needs
-
-float-from-bits-near : tie.Need-float-from-bits-near
-float-from-bits-near c = below-infinity binary64 _ (omega arith)
 
 near-requires : tie.Need-near-requires
 near-requires c κs = search needs
@@ -38,12 +31,6 @@ mul-result-2 c = search needs
 
 mul-near : tie.Need-mul-near
 mul-near c = search needs
-
-add-near-2 : tie.Need-add-near-2
-add-near-2 c = search needs
-
-float-from-bits-near-2 : tie.Need-float-from-bits-near-2
-float-from-bits-near-2 c = below-infinity binary64 _ (omega arith)
 
 near-requires-2 : tie.Need-near-requires-2
 near-requires-2 c κs = search needs
@@ -80,14 +67,10 @@ scaled-spec =
     (tie.spec
     sub-h
     mul-result
-    add-near
-    float-from-bits-near
     near-requires
     add-result
     mul-result-2
     mul-near
-    add-near-2
-    float-from-bits-near-2
     near-requires-2
     add-result-2
     returns

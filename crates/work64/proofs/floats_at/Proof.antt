@@ -29,11 +29,8 @@ add-word c = search needs
 word-requires : tie.Need-word-requires Inv-loop μ-loop
 word-requires c κs = search needs
 
-from-bits-requires : tie.Need-from-bits-requires Inv-loop μ-loop
-from-bits-requires c κs = search needs
-
-f32-to-f64-with-nan-requires : tie.Need-f32-to-f64-with-nan-requires Inv-loop μ-loop
-f32-to-f64-with-nan-requires c κs = search needs
+taken-over-requires : tie.Need-taken-over-requires Inv-loop μ-loop
+taken-over-requires c κs = search needs
 
 mul-floats : tie.Need-mul-floats Inv-loop μ-loop
 mul-floats c = search needs
@@ -51,7 +48,7 @@ loop-again : tie.Need-loop-again Inv-loop μ-loop
 loop-again c = (
   search needs,
   search needs,
-  floats-set _ _ _ _ _ (search needs) (c .before .before .before .before .loop .inv .2) (c .f32-to-f64-with-nan .ensures ∙ c .before .from-bits .ensures ∙ ap (ofBits binary32) (c .before .before .word .ensures)),
+  floats-set _ _ _ _ _ (search needs) (c .before .before .before .loop .inv .2) (c .taken-over .ensures ∙ ap (ofBits binary32) (c .before .word .ensures)),
 )
 
 returns : tie.Need-returns Inv-loop μ-loop
@@ -69,8 +66,7 @@ floats-at-spec =
     mul-word
     add-word
     word-requires
-    from-bits-requires
-    f32-to-f64-with-nan-requires
+    taken-over-requires
     mul-floats
     array-write-floats
     add-i

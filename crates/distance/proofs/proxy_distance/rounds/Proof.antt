@@ -1,13 +1,11 @@
 -- `proxy_distance::rounds` meets its contract. The invariant: the rounds that are left give what all 20 give. Assumes nothing.
-use Prim.Native.Nat.{ℕ, _≤_, _-_}
+use Prim.Native.Nat.{_≤_, _-_}
 use native.Mathlib.Omega.{arith}
-use mathlib.Core.Logic.{⊎-elim}
-use mathlib.Core.Path.{_≡_, refl, sym, ap, _∙_}
+use mathlib.Core.Path.{_≡_, refl, _∙_}
 use borrow.Author.Needs.{needs}
 use lib.Ieee.{binary32}
 use Rattle.model.specs.Distance.{roundsFrom, rounds}
 use Rattle.model.proofs.DistanceCall.{start-count-most}
-use lib.ListN.{set}
 use Rattle.distance.proofs.Laws.{Made, one-or-two, begun, limit, touching, settled, another}
 use Rattle.distance.proofs.proxy_distance.rounds.Statement.{statement}
 use Rattle.distance.proofs.proxy_distance.rounds.Tie as tie
@@ -23,60 +21,36 @@ abbrev μ-loop : tie.MeasureT-loop
 -- 20 rounds from what the loop starts with
 all : (c : tie.After-zero Inv-loop μ-loop) →
     let x = c .before .before .before .before .before .args in
-    roundsFrom binary32 (x .points-a .now) (x .points-b .now) (x .pos12) 20 (c .before .before .start .result) (c .before .start-count .result)
+    roundsFrom binary32 (x .points-a .now) (x .points-b .now) (x .pos12) 20 (c .before .before .start .result .simplex) (c .before .before .start .result .count)
     (c .zero .result) 0
     ≡ rounds binary32 (x .points-a .now) (x .points-b .now) (x .pos12) (x .cache)
 all c =
     let x = c .before .before .before .before .before .args in
-    begun binary32 _ _ _ (x .cache) _ _ _ (c .before .before .start .ensures) (c .before .start-count .ensures) (c .zero .ensures)
+    begun binary32 _ _ _ (x .cache) _ _ _ (c .before .before .start .ensures .0) (c .before .before .start .ensures .1) (c .zero .ensures)
 
 -- one or two are kept where the outlines do not touch
 free : (c : tie.Else1 Inv-loop μ-loop) → (1 ≤ c .before .before .before .solve .result .count) × (c .before .before .before .solve .result .count ≤ 2)
 free c = one-or-two binary32 _ _ _ _ (c .before .before .before .solve .ensures) (c .if1 .left)
 
--- a round up to its new vertex
-made : (c : tie.After-vertex Inv-loop μ-loop) →
-    let x = c .before .before .before .before .before .before .before .before .before .before .before .before .before .before .before .before .before .before
-    .before .args in
-    let l = c .before .before .before .before .before .before .before .before .before .before .before .before .before .loop in
+-- a round up to its new pair
+made : (c : tie.After-held Inv-loop μ-loop) →
+    let x = c .before .before .before .before .before .before .before .before .before .before .before .before .before .before .before .before .args in
+    let l = c .before .before .before .before .before .before .before .before .before .before .loop in
     Made binary32 (x .points-a .now) (x .points-b .now) (x .pos12) (l .simplex) (l .count) (l .iterations)
-    (c .before .before .before .before .before .before .before .before .before .before .before .solve .result)
-    (c .before .before .before .before .before .before .before .support-index .result) (c .before .before .before .before .support-index2 .result) (c .vertex .result)
-    (c .before .before .before .held .result)
+    (c .before .before .before .before .before .before .before .before .solve .result)
+    (c .before .before .before .before .support-index .result) (c .before .support-index2 .result) (c .held .result)
 made c =
     record {
-      left = c .before .before .before .before .before .before .before .before .before .before .before .before .loop-test .taken;
-      solves = c .before .before .before .before .before .before .before .before .before .before .before .solve .ensures;
-      apart = rw (c .before .before .before .before .before .before .before .before .before .dot .ensures) at
-          (c .before .before .before .before .before .before .before .before .if1 .left);
-      first = c .before .before .before .before .before .before .before .support-index .ensures;
-      second = rw (
-        c .before .before .before .before .before .inv-rotate-vec .ensures,
-        c .before .before .before .before .before .before .neg .ensures,
-      ) at (c .before .before .before .before .support-index2 .ensures);
-      new = rw (c .before .weight-behind .ensures) at (c .vertex .ensures);
-      known = c .before .before .before .held .ensures;
+      left = c .before .before .before .before .before .before .before .before .before .loop-test .taken;
+      solves = c .before .before .before .before .before .before .before .before .solve .ensures;
+      apart = rw (c .before .before .before .before .before .before .dot .ensures) at (c .before .before .before .before .before .if1 .left);
+      first = c .before .before .before .before .support-index .ensures;
+      second = rw (c .before .before .inv-rotate-vec .ensures, c .before .before .before .neg .ensures) at (c .before .support-index2 .ensures);
+      known = c .held .ensures;
     }
-
--- the slots with the new vertex, at either of the two places
-spot : (c : tie.Joined2 Inv-loop μ-loop) →
-    let r = c .before .before .before .before .before .before .before .before .before .before .before .before .solve .result in
-    c .if2 .simplex ≡ set (r .simplex) (r .count) (c .before .vertex .result)
-spot c =
-    let r = c .before .before .before .before .before .before .before .before .before .before .before .before .solve .result in
-    let h = free (c .before .before .before .before .before .before .before .before .before) in
-    ⊎-elim
-    (λ w. w .1 ∙ ap (λ (k : ℕ). set (r .simplex) k (c .before .vertex .result)) (sym (w .0 .taken)))
-    (λ w.
-    let two : r .count ≡ 2 = omega (arith, h, w .0 .left) in
-    w .1 ∙ ap (λ (k : ℕ). set (r .simplex) k (c .before .vertex .result)) (sym two))
-    (c .if2 .came)
 
 start-requires : tie.Need-start-requires Inv-loop μ-loop
 start-requires c κs = search needs
-
-start-count-requires : tie.Need-start-count-requires Inv-loop μ-loop
-start-count-requires c κs = search needs
 
 zero-requires : tie.Need-zero-requires Inv-loop μ-loop
 zero-requires c κs = search needs
@@ -84,7 +58,7 @@ zero-requires c κs = search needs
 loop-holds : tie.Need-loop-holds Inv-loop μ-loop
 loop-holds c =
     let cache = c .before .before .before .before .before .args .cache in
-    (rw (c .before .start-count .ensures) (start-count-most cache _ _), omega arith, refl)
+    (rw (c .before .before .start .ensures .1) (start-count-most cache _ _), omega arith, refl)
 
 solve-requires : tie.Need-solve-requires Inv-loop μ-loop
 solve-requires c κs = search needs
@@ -117,42 +91,35 @@ support-index-requires-2 c κs = search needs
 held-requires : tie.Need-held-requires Inv-loop μ-loop
 held-requires c κs = c .before .before .before .before .before .before .before .before .before .loop .inv .0
 
-weight-behind-requires : tie.Need-weight-behind-requires Inv-loop μ-loop
-weight-behind-requires c κs = free (c .before .before .before .before .before .before)
+grown-requires : tie.Need-grown-requires Inv-loop μ-loop
+grown-requires c κs = free (c .before .before .before .before .before .before .before)
 
-vertex-requires : tie.Need-vertex-requires Inv-loop μ-loop
-vertex-requires c κs = search needs
-
-array-set-from-simplex : tie.Need-array-set-from-simplex Inv-loop μ-loop
-array-set-from-simplex c = search needs
-
-array-set-from-simplex-2 : tie.Need-array-set-from-simplex-2 Inv-loop μ-loop
-array-set-from-simplex-2 c = search needs
-
-add-iterations : tie.Need-add-iterations Inv-loop μ-loop
-add-iterations c = omega (arith, c .before .before .before .before .before .before .before .before .before .before .before .before .before .before .loop .inv .1)
+add-t29 : tie.Need-add-t29 Inv-loop μ-loop
+add-t29 c = omega (arith, c .before .before .before .before .before .before .before .before .before .before .before .before .before .loop .inv .1)
 
 returns-2 : tie.Need-returns-2 Inv-loop μ-loop
 returns-2 c =
-    rw (spot (c .before)) (settled binary32 _ _ _ _ _ _ _ (made (c .before .before)) (c .if3 .taken))
-    ∙ c .before .before .before .before .before .before .before .before .before .before .before .before .before .before .before .loop .inv .2
-    ∙ all (c .before .before .before .before .before .before .before .before .before .before .before .before .before .before .before .before)
+    settled binary32 _ _ _ _ _ _ _ (made (c .before .before .before)) _ (c .grown .ensures) (c .before .if2 .taken) ∙ c .before .before .before .before .before .before .before .before .before .before .before .before .before .loop .inv .2
+    ∙ all (c .before .before .before .before .before .before .before .before .before .before .before .before .before .before)
+
+grown-requires-2 : tie.Need-grown-requires-2 Inv-loop μ-loop
+grown-requires-2 c κs = free (c .before .before .before .before .before .before .before)
+
+add-iterations : tie.Need-add-iterations Inv-loop μ-loop
+add-iterations c = omega (arith, c .before .before .before .before .before .before .before .before .before .before .before .before .before .loop .inv .1)
 
 add-count : tie.Need-add-count Inv-loop μ-loop
-add-count c =
-    let h = free (c .before .before .before .before .before .before .before .before .before .before) in
-    omega (arith, h)
+add-count c = let h = free (c .before .before .before .before .before .before .before .before) in omega (arith, h)
 
 loop-less : tie.Need-loop-less Inv-loop μ-loop
-loop-less c = omega (arith, c .before .before .before .before .before .before .before .before .before .before .before .before .before .before .loop-test .taken)
+loop-less c = omega (arith, c .before .before .before .before .before .before .before .before .before .before .before .before .loop-test .taken)
 
 loop-again : tie.Need-loop-again Inv-loop μ-loop
 loop-again c =
-    let h = free (c .before .before .before .before .before .before .before .before .before .before) in (
+    let h = free (c .before .before .before .before .before .before .before .before) in (
       omega (arith, h),
-      omega (arith, c .before .before .before .before .before .before .before .before .before .before .before .before .before .before .loop-test .taken),
-      rw (spot (c .before)) (another binary32 _ _ _ _ _ _ _ (made (c .before .before)) (c .if3 .left))
-          ∙ c .before .before .before .before .before .before .before .before .before .before .before .before .before .before .before .loop .inv .2,
+      omega (arith, c .before .before .before .before .before .before .before .before .before .before .before .before .loop-test .taken),
+      another binary32 _ _ _ _ _ _ _ (made (c .before .before .before)) _ (c .grown2 .ensures) (c .before .if2 .left) ∙ c .before .before .before .before .before .before .before .before .before .before .before .before .before .loop .inv .2,
     )
 
 returns-3 : tie.Need-returns-3 Inv-loop μ-loop
@@ -167,7 +134,6 @@ rounds-spec =
     Inv-loop
     μ-loop
     start-requires
-    start-count-requires
     zero-requires
     loop-holds
     solve-requires
@@ -179,12 +145,11 @@ rounds-spec =
     inv-rotate-vec-requires
     support-index-requires-2
     held-requires
-    weight-behind-requires
-    vertex-requires
-    array-set-from-simplex
-    array-set-from-simplex-2
-    add-iterations
+    grown-requires
+    add-t29
     returns-2
+    grown-requires-2
+    add-iterations
     add-count
     loop-less
     loop-again

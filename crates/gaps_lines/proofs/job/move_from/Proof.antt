@@ -1,5 +1,6 @@
 -- `gaps_lines::job::move_from` meets its contract: the lent part of the array is the block's ten floats. Assumes nothing.
 use mathlib.Core.Path.{sym}
+use native.Mathlib.Omega.{arith}
 use lib.Seq.{length-take-le}
 use borrow.Author.Needs.{needs}
 use Rattle.gaps_lines.proofs.job.move_from.Statement.{statement}
@@ -18,7 +19,9 @@ move-of-requires : tie.Need-move-of-requires
 move-of-requires c κs = search needs
 
 returns : tie.Need-returns
-returns c = rw (c .move-of .ensures, c .before .before .floats-at .ensures .1)
+returns c =
+    let d = c .before .before in
+    rw (c .move-of .ensures, d .floats-at .ensures .1 (d .before .before .pre) (omega arith))
 
 pub move-from-spec : {M : Type 1} → statement M
 move-from-spec =

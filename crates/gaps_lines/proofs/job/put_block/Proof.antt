@@ -1,5 +1,6 @@
 -- `gaps_lines::job::put_block` meets its contract: the lent parts of the arrays are the block's points. Assumes nothing.
 use mathlib.Core.Path.{sym}
+use native.Mathlib.Omega.{arith}
 use lib.Seq.{length-take-le}
 use Rattle.gaps_lines.specs.Pieces.{blockText}
 use borrow.Author.Needs.{needs}
@@ -66,9 +67,10 @@ returns c =
     let second = c .before .before .before .before .before .before in
     let count-b = second .before .before in
     let bits = count-b .before .before in
+    let start = bits .before .before .before .before .before .before in
     rw (
-      second .floats-at2 .ensures .1,
-      second .before .floats-at .ensures .1,
+      second .floats-at2 .ensures .1 (omega arith) (omega (arith, count-b .byte2 .ensures, start .pre .2)),
+      second .before .floats-at .ensures .1 (omega arith) (omega (arith, count-b .before .byte .ensures, start .pre .1)),
       count-b .byte2 .ensures,
       count-b .before .byte .ensures,
       bits .from-bits .ensures,
