@@ -56,7 +56,9 @@ pub fn last_ending() -> u32 {
 
 // the second index of the last `support`, and of the last search the first and second of A, then of B
 static SECOND: AtomicU32 = AtomicU32::new(0);
-static CORNERS: [AtomicU32; 4] = [const { AtomicU32::new(u32::MAX) }; 4];
+#[allow(clippy::declare_interior_mutable_const)]
+const NO_CORNER: AtomicU32 = AtomicU32::new(u32::MAX);
+static CORNERS: [AtomicU32; 4] = [NO_CORNER; 4];
 
 pub fn second(index: u32) {
     SECOND.store(index, Relaxed)
@@ -82,7 +84,9 @@ pub fn take_corners() -> [u32; 4] {
 
 // each solve's count and, for each vertex kept, the two corners: of outlines of at most 64
 static SOLVES: AtomicU32 = AtomicU32::new(0);
-static KEPT: [AtomicU64; 20] = [const { AtomicU64::new(0) }; 20];
+#[allow(clippy::declare_interior_mutable_const)]
+const NOTHING_KEPT: AtomicU64 = AtomicU64::new(0);
+static KEPT: [AtomicU64; 20] = [NOTHING_KEPT; 20];
 
 pub fn kept(count: usize, corners: [(u32, u32); 3]) {
     let packed = corners.iter().fold(count as u64, |p, &(a, b)| p << 12 | (a as u64) << 6 | b as u64);

@@ -8,7 +8,7 @@ use crate::sweep_toi::sweep::Sweep;
 use crate::width::{step, Bits, ABOVE_ONE, BELOW_ONE, TINY};
 use core::ops::Range;
 
-pub const ABOVE_LIMIT: Real = step(LIMIT, 1);
+pub const ABOVE_LIMIT: Real = LIMIT * ABOVE_ONE;
 
 /// Small sizes of outlines and small slops, down to subnormals.
 #[cfg(feature = "f32")]

@@ -502,9 +502,12 @@ fn either_way(bound: i64, pairs: u64, seed: u64) {
         done += 1;
         let least = pair.least(most);
         let (here, there, after) = (pair.told(random, &mut tally, least), exchanged.told(random, &mut tally, least), moved.told(random, &mut tally, least));
-        let (Some((u, named)), Some((v, named_there)), Some((w, _))) = (here, there, after) else {
-            skipped += 1;
-            continue;
+        let ((u, named), (v, named_there), (w, _)) = match (here, there, after) {
+            (Some(x), Some(y), Some(z)) => (x, y, z),
+            _ => {
+                skipped += 1;
+                continue;
+            }
         };
         if !(u.is(v.negated_and_turned(pair.turn.0 as i128, pair.turn.1 as i128)) && u.is(w)) {
             println!("WRONG: {u:?}, exchanged {v:?}, shifted {w:?}: A {:?}, B {:?}, turn {:?}, shift {:?}, by {by:?}", pair.a, pair.b, pair.turn, pair.shift);

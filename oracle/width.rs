@@ -29,11 +29,11 @@ pub fn bits(x: Real) -> Bits {
 pub const HEX: usize = Bits::BITS as usize / 4;
 
 /// The float so many patterns further.
-pub const fn step(x: Real, patterns: i32) -> Real {
+pub fn step(x: Real, patterns: i32) -> Real {
     Real::from_bits(x.to_bits().wrapping_add(patterns as Bits))
 }
 
-/// The least float above 0, and the neighbours of 1.
-pub const TINY: Real = Real::from_bits(1);
-pub const BELOW_ONE: Real = step(1.0, -1);
-pub const ABOVE_ONE: Real = step(1.0, 1);
+/// The least float above 0, and the neighbours of 1. By sums and products, which compilers from Rust 1.63 on work out in a constant.
+pub const TINY: Real = Real::MIN_POSITIVE * Real::EPSILON;
+pub const BELOW_ONE: Real = 1.0 - Real::EPSILON / 2.0;
+pub const ABOVE_ONE: Real = 1.0 + Real::EPSILON;

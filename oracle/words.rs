@@ -11,7 +11,7 @@ pub const DISTANCE: Bits = 2;
 pub const SWEEP: Bits = 3;
 pub const BLOCK: Bits = 4;
 
-const PART: usize = 65_536 / size_of::<Bits>();
+const PART: usize = 65_536 / std::mem::size_of::<Bits>();
 
 pub struct Parts {
     out: std::io::BufWriter<std::io::StdoutLock<'static>>,
