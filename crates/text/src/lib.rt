@@ -1,4 +1,6 @@
 // Numbers and texts written into lent bytes from a place on, and numbers read back from a line.
+#![tactic(auto)]
+
 mod copied;
 mod put;
 mod read;

@@ -6,11 +6,7 @@ use native.Mathlib.Omega.{arith}
 use borrow.Author.Tests.{lt-ltb, le-ltb, ltb-true, ltb-false}
 use lib.Dec.{ltb}
 use borrow.Author.Rules.{rules}
-use Rattle.text.proofs.copied.lacks.Statement.{statement}
-use Rattle.text.proofs.copied.lacks.Tie as tie
-
-returns : tie.Need-returns
-returns c = sym (lt-ltb c.before.args.size (c.before.args.at + c.before.args.n) (search rules))
+use Rattle.text.proofs.copied.lacks.Goals as goal
 
 room : (size at n : ℕ) → at ≤ size → ltb (size - at) n ≡ ltb size (at + n)
 room size at n inside = go (ltb (size - at) n) refl
@@ -19,8 +15,8 @@ room size at n inside = go (ltb (size - at) n) refl
     go true e = sym (lt-ltb size (at + n) (omega (arith, ltb-true (size - at) n e)))
     go false e = sym (le-ltb size (at + n) (omega (arith, ltb-false (size - at) n e)))
 
-returns-2 : tie.Need-returns-2
-returns-2 c = room _ _ _ c.if1.false
+pub returns-then-size-at : goal.returns-then-size-at
+returns-then-size-at c = sym (lt-ltb c.args.size (c.args.at + c.args.n) (search rules))
 
-pub lacks-spec : {M : Type 1} → statement M
-lacks-spec = tie.close (tie.spec returns returns-2)
+pub returns : goal.returns
+returns c = room _ _ _ c.if-size-at.false
