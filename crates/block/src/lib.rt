@@ -1,5 +1,7 @@
 // The batch block: 512 bytes with a check sum, in one of two forms. Its checks, in the order of their refusals, and what it says of its job beside
 // its numbers. A missing byte counts as 0, so every slice has an answer. Sums and zeros are taken word by word.
+#![tactic(auto)]
+
 ghost use Rattle.std.specs.Prelude.{◌≡◌, ◌+◌, ◌*◌, ◌%◌, ◌^◌, ◌≤◌, length};
 ghost use Rattle.model.specs.Block.{block_of, known_form, sum_of_words, weighed_words, sum_before, check_holds, all_zero, bad_count, zeros_hold, bad_fields, checked_block};
 ghost use Rattle.model.specs.Blocks.{is_good};

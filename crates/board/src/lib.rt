@@ -1,5 +1,7 @@
 // A job on the grid: what the check, the touch and the search are given, and what the check holds on its way. Records, and one operation on them. Corners are
 // lent beside them, as lists.
+#![tactic(auto)]
+
 ghost use Rattle.board.specs.Pairs.{int_of, size_of, Is};
 
 // p less m

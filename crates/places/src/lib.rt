@@ -1,4 +1,6 @@
 // A place on the way, counted in 2^24-ths, as the f32 that it is: k / 2^24, by its pattern. No such quotient is rounded.
+#![tactic(auto)]
+
 ghost use Rattle.std.specs.Prelude.{◌≡◌, ◌<◌};
 ghost use Rattle.places.specs.Place.{pattern_from, place_bits};
 

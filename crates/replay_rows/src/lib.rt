@@ -1,4 +1,6 @@
 // What the programs that replay stored answers share: an answer as words, compared with a row's; counts of rows by table and kind.
+#![tactic(auto)]
+
 mod tally;
 mod words;
 

@@ -1,4 +1,6 @@
 // A report over batches: counts by rows, and the largest counts with their places; counted on and put together.
+#![tactic(auto)]
+
 mod counting;
 mod most;
 mod rows;

@@ -1,4 +1,6 @@
 // Made by tests/written/root_list.py of the table in root_list: its entries as the arms of a `match`, of which the back end makes a read-only table.
+#![tactic(auto)]
+
 ghost use Rattle.std.specs.Prelude.{◌≡◌, ◌≤◌, ◌<◌, get_or};
 ghost use Rattle.root_list.specs.Guesses.{guesses};
 

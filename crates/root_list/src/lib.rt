@@ -1,4 +1,6 @@
 // The stored list of 1,024 first guesses at a root: entry k is the largest whole number whose square is at most k * 2^38.
+#![tactic(auto)]
+
 ghost use Rattle.std.specs.Prelude.{◌≡◌, get_or};
 ghost use Rattle.root_list.specs.Guesses.{guesses};
 

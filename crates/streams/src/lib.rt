@@ -1,4 +1,6 @@
 // What the programs share: reading until a buffer is full, writing, and taking no arguments, with every fault told on standard error.
+#![tactic(auto)]
+
 ghost use Rattle.std.specs.Prelude.{◌≤◌, ◌≡◌, length, take};
 ghost use Rattle.io.specs.Counts.{IsPrefixLen};
 

@@ -1,4 +1,6 @@
 // Bytes and words in lent bytes, little-endian. A byte that is missing counts as 0, so every place can be asked.
+#![tactic(auto)]
+
 ghost use Rattle.std.specs.Prelude.{◌≡◌, ◌+◌, ◌*◌, ◌<◌};
 ghost use Rattle.model.specs.Wire as Wire;
 ghost use Rattle.wire.specs.Bytes.{word_bytes};

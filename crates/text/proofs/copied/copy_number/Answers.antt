@@ -13,7 +13,7 @@ few c =
     let d = c.before.before in
     at-most-twenty _ _ d.decimal-k.ensures.1.0 (search rules)
 
-inside : (c : goal.After-slice_known-2-1) → c.copy-e.result < length c.copy-e.new.0
+inside : (c : goal.After-slice_known-2-1) → c.copy-e.result < length c.copy-e.new.out
 inside c =
     let p = c.before.before in
     let d = p.before.before.before in
