@@ -2,7 +2,7 @@
 // none behind the one that decides. A read that fails is told on standard error, and then neither is printed; so is that no block came.
 
 // Whether the search goes on, and how many blocks it has passed.
-#[derive(Drop)]
+#[derive(Clone, Copy)]
 struct Step {
     more: bool,
     blocks: u64,

@@ -15,7 +15,7 @@ use model::{COUNT_LIMIT, PART_SIZE};
 const LONGEST_TEXT: usize = 21;
 
 // The number of the first block that is not clear, 0 where all are; how many blocks came up to the part's end; whether the search is over.
-#[derive(Drop)]
+#[derive(Clone, Copy)]
 pub struct Searched {
     pub found: u64,
     pub blocks: u64,

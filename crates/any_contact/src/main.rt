@@ -2,7 +2,7 @@
 // the one that decides. A read that fails is told on standard error, and then neither is printed; so is that no whole block came, behind `none`.
 
 // Whether the search goes on, and how many blocks it has passed.
-#[derive(Drop)]
+#[derive(Clone, Copy)]
 struct Step {
     more: bool,
     blocks: u64,

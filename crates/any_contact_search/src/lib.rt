@@ -14,7 +14,7 @@ use model::{BlockAnswer, COUNT_LIMIT, PART_SIZE, Status};
 const LONGEST_TEXT: usize = 21;
 
 // The number of the first contact, 0 where none was found; how many whole blocks came up to the part's end; whether the search is over.
-#[derive(Drop)]
+#[derive(Clone, Copy)]
 pub struct Searched {
     pub found: u64,
     pub blocks: u64,

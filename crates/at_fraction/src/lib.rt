@@ -13,7 +13,7 @@ use separation::{shifted, transform_at};
 const SWEEP_PAIR: u32 = 0;
 
 // How far apart, without radii; or the number of the refusal.
-#[derive(Drop)]
+#[derive(Clone, Copy)]
 pub enum GapAnswer {
     Apart(f32),
     Refused(u32),

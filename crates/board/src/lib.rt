@@ -5,20 +5,20 @@
 ghost use Rattle.board.specs.Pairs.{int_of, size_of, Is};
 
 // p less m
-#[derive(Drop)]
+#[derive(Clone, Copy)]
 pub struct Pair {
     pub p: u64,
     pub m: u64,
 }
 
-#[derive(Drop)]
+#[derive(Clone, Copy)]
 pub struct Vector {
     pub x: Pair,
     pub y: Pair,
 }
 
 // First and last heading in 2^30-ths; no corner lies farther than `reach` from the body's centre.
-#[derive(Drop)]
+#[derive(Clone, Copy)]
 pub struct GridBody {
     pub q1: Vector,
     pub q2: Vector,
@@ -26,7 +26,7 @@ pub struct GridBody {
 }
 
 // B's centre as A's centre sees it, first and last; the distance to keep, rounded up and rounded down.
-#[derive(Drop)]
+#[derive(Clone, Copy)]
 pub struct GridJob {
     pub a: GridBody,
     pub b: GridBody,
@@ -38,7 +38,7 @@ pub struct GridJob {
 
 // What a search proposes for a piece of the way: what the headings are lengthened by at its ends, in 2^26-ths, all 0 for a disc; the axis at its ends, at
 // most 2^28 long.
-#[derive(Drop)]
+#[derive(Clone, Copy)]
 pub struct Proposal {
     pub a0: u64,
     pub a1: u64,
@@ -49,7 +49,7 @@ pub struct Proposal {
 }
 
 // What a search proposes for a touch: corners of A and of B, three of each, and the weights that both sets have; what lengthens the headings, in 2^26-ths.
-#[derive(Drop)]
+#[derive(Clone, Copy)]
 pub struct Grip {
     pub i0: usize,
     pub i1: usize,
@@ -65,7 +65,7 @@ pub struct Grip {
 }
 
 // A body's turn over a piece: u u p0 + u w t + w w p2, in 2^30-ths.
-#[derive(Drop)]
+#[derive(Clone, Copy)]
 pub struct Arc {
     pub p0: Vector,
     pub t: Vector,
@@ -73,7 +73,7 @@ pub struct Arc {
 }
 
 // One body held: where its point is placed, how far the window moves that, and the blur of its turn. A margin of 2^32 is a refusal.
-#[derive(Drop)]
+#[derive(Clone, Copy)]
 pub struct Hold {
     pub place: Vector,
     pub margin: u64,

@@ -9,7 +9,7 @@ use crate::plane::{Place, difference, dot, perp, scaled, size, sum, turned, turn
 const MOST_ROUNDS: u64 = 40;
 
 // How A and B are turned, and the centre of B seen from that of A.
-#[derive(Drop)]
+#[derive(Clone, Copy)]
 pub struct Pose {
     pub a: Place,
     pub b: Place,
@@ -17,7 +17,7 @@ pub struct Pose {
 }
 
 // A corner of the difference: corner j of B less corner i of A.
-#[derive(Drop)]
+#[derive(Clone, Copy)]
 pub struct Vertex {
     pub i: usize,
     pub j: usize,
@@ -25,7 +25,7 @@ pub struct Vertex {
 }
 
 // The corners held, how many of them, and their weights; the way from the nearest place of A to that of B; whether there is none.
-#[derive(Drop)]
+#[derive(Clone, Copy)]
 pub struct Near {
     pub count: u64,
     pub first: Vertex,
@@ -191,7 +191,7 @@ fn started(axs: &[f64], ays: &[f64], bxs: &[f64], bys: &[f64], pose: Pose, from:
 }
 
 // What a round leaves, and whether there is nothing more to gain.
-#[derive(Drop)]
+#[derive(Clone, Copy)]
 struct Round {
     near: Near,
     done: bool,

@@ -4,7 +4,7 @@ ghost use Rattle.std.specs.Prelude.{◌≡◌, length};
 use board::{Pair, Vector};
 
 // A vector of the plane.
-#[derive(Drop)]
+#[derive(Clone, Copy)]
 pub struct Place {
     pub x: f64,
     pub y: f64,

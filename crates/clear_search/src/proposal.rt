@@ -11,7 +11,7 @@ use board::{GridJob, Grip, Proposal, Vector};
 const UNIT: f64 = 67108864.0;
 
 // The first and last headings of both, in 2^30-ths, and the centre of B seen from that of A.
-#[derive(Drop)]
+#[derive(Clone, Copy)]
 pub struct Course {
     pub first_a: Place,
     pub last_a: Place,
@@ -22,7 +22,7 @@ pub struct Course {
 }
 
 // A moment of the move, k / 2^24 of it: the headings, what makes them 2^30 long (0 where one is too short for that), the centre, the nearest places.
-#[derive(Drop)]
+#[derive(Clone, Copy)]
 pub struct Stand {
     pub k: u64,
     pub heading_a: Place,
@@ -34,7 +34,7 @@ pub struct Stand {
 }
 
 // What lengthens a heading at both ends of a piece, in 2^26-ths.
-#[derive(Drop)]
+#[derive(Clone, Copy)]
 struct Lengths {
     l0: u64,
     l1: u64,

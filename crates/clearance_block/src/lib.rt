@@ -8,7 +8,7 @@ use clearance_call::{Cleared, clearance};
 use model::{Block, CheckedBlock};
 
 // What a block comes to: its job, 0 where none can be told, and the answer.
-#[derive(Drop)]
+#[derive(Clone, Copy)]
 pub struct BlockCleared {
     pub job: u32,
     pub answer: Cleared,

@@ -13,7 +13,7 @@ use model::{Checked, Rotation, Sweep, Vector};
 use outline::point;
 
 // Places are in 2^24-ths of the way.
-#[derive(Drop)]
+#[derive(Clone, Copy)]
 pub enum Cleared {
     Refused(u32),
     Clear {

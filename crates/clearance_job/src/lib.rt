@@ -15,7 +15,7 @@ use grid_job::{fraction_down, fraction_up, grid_job};
 use outline::point;
 
 // Whether there is anything to look at, from where and to where, in 2^24-ths: the end rounded down and up.
-#[derive(Drop)]
+#[derive(Clone, Copy)]
 pub struct Part {
     pub some: bool,
     pub from: u64,
@@ -24,7 +24,7 @@ pub struct Part {
 }
 
 // Whether the job could be settled at all, and its answer.
-#[derive(Drop)]
+#[derive(Clone, Copy)]
 pub struct Verdict {
     pub settled: bool,
     pub answer: Answer,

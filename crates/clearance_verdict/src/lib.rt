@@ -19,7 +19,7 @@ const SHORT: u64 = 256;
 const LAST_PLACES: u64 = 64;
 
 // Fractions in 2^24-ths, and how many pieces were tried.
-#[derive(Drop)]
+#[derive(Clone, Copy)]
 pub enum Answer {
     Clear {
         pieces: u64,
@@ -36,7 +36,7 @@ pub enum Answer {
 }
 
 // Where a touch was found.
-#[derive(Drop)]
+#[derive(Clone, Copy)]
 pub enum Look {
     At(u64),
     Nowhere,

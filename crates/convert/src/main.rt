@@ -2,7 +2,7 @@
 // refused with 9, 13, 10 or 11. The file is replaced only by a run that succeeded. It reads in parts of 64 KiB.
 
 // Whether the run goes on, whether something failed, and how many blocks came.
-#[derive(Drop)]
+#[derive(Clone, Copy)]
 struct Step {
     more: bool,
     failed: bool,

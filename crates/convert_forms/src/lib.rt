@@ -10,7 +10,7 @@ ghost use Rattle.convert_forms.specs.Convert as Convert;
 use model::{COUNT_LIMIT, PART_SIZE};
 
 // How many bytes go to the file, how many are told; how many blocks came up to the part's end; whether the part was the last.
-#[derive(Drop)]
+#[derive(Clone, Copy)]
 pub struct Converted {
     pub file: usize,
     pub text: usize,
@@ -18,7 +18,7 @@ pub struct Converted {
     pub last: bool,
 }
 
-#[derive(Drop)]
+#[derive(Clone, Copy)]
 struct Places {
     file: usize,
     text: usize,

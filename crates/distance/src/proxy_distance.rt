@@ -95,7 +95,7 @@ fn from_cache(cache: SimplexCache, na: usize, nb: usize) -> bool
 }
 
 // What the rounds start with: three slots, and how many of them count.
-#[derive(Drop)]
+#[derive(Clone, Copy)]
 struct Slots {
     simplex: [SimplexVertex; 3],
     count: usize,

@@ -4,7 +4,7 @@
 use gaps_lines::{PART_SIZE, Tally};
 
 // Whether the run goes on, and the tally so far.
-#[derive(Drop)]
+#[derive(Clone, Copy)]
 struct Worked {
     more: bool,
     tally: Tally,

@@ -23,21 +23,21 @@ pub const PART_SIZE: usize = 12288;
 const LONGEST_LINE: usize = 2400;
 
 // How many blocks there were, and how many of them were refused.
-#[derive(Drop)]
+#[derive(Clone, Copy)]
 pub struct Tally {
     pub blocks: u64,
     pub refused: u64,
 }
 
 // The place after what was written, the tally after it, and whether the part was the last.
-#[derive(Drop)]
+#[derive(Clone, Copy)]
 pub struct Printed {
     pub at: usize,
     pub tally: Tally,
     pub last: bool,
 }
 
-#[derive(Drop)]
+#[derive(Clone, Copy)]
 struct Lines {
     at: usize,
     tally: Tally,

@@ -13,14 +13,14 @@ use grid::{Parts, grid, grid_down, grid_up};
 use outline::point;
 
 // An exponent, where there is one.
-#[derive(Drop)]
+#[derive(Clone, Copy)]
 struct Chosen {
     found: bool,
     g: u32,
 }
 
 // A job on the grid, where it was found.
-#[derive(Drop)]
+#[derive(Clone, Copy)]
 pub struct Placed {
     pub found: bool,
     pub job: GridJob,

@@ -28,7 +28,7 @@ fn has_line(block: &[u8], line: &[u8]) -> bool
 }
 
 // Whether a line is a job, and the block of its numbers.
-#[derive(Drop)]
+#[derive(Clone, Copy)]
 pub struct Built {
     pub job: bool,
     pub block: [u8; 512],

@@ -3,28 +3,28 @@
 use model::{Corners, Counts, Ending, SeparationType, SimplexCache, Status};
 
 // A point or a direction of the plane.
-#[derive(Drop)]
+#[derive(Clone, Copy)]
 pub struct Vector {
     pub x: f64,
     pub y: f64,
 }
 
 // A rotation by its cosine and sine.
-#[derive(Drop)]
+#[derive(Clone, Copy)]
 pub struct Rotation {
     pub c: f64,
     pub s: f64,
 }
 
 // A rigid move: first the rotation, then the translation.
-#[derive(Drop)]
+#[derive(Clone, Copy)]
 pub struct Pose {
     pub rotation: Rotation,
     pub translation: Vector,
 }
 
 // A planned move: the centre goes straight from c1 to c2 while the rotation goes from q1 to q2.
-#[derive(Drop)]
+#[derive(Clone, Copy)]
 pub struct Sweep {
     pub local_center: Vector,
     pub c1: Vector,
@@ -34,14 +34,14 @@ pub struct Sweep {
 }
 
 // A pose that passed its check, or the number of its refusal.
-#[derive(Drop)]
+#[derive(Clone, Copy)]
 pub enum CheckedPose {
     Good(Pose),
     Refused(u32),
 }
 
 // One corner pair of a simplex: the corner of A, the posed corner of B, their difference, its weight and the two indices.
-#[derive(Drop)]
+#[derive(Clone, Copy)]
 pub struct SimplexVertex {
     pub wa: Vector,
     pub wb: Vector,
@@ -52,7 +52,7 @@ pub struct SimplexVertex {
 }
 
 // What a solver leaves: the simplex, how many of its slots count, and the direction to search next.
-#[derive(Drop)]
+#[derive(Clone, Copy)]
 pub struct Solved {
     pub simplex: [SimplexVertex; 3],
     pub count: usize,
@@ -60,7 +60,7 @@ pub struct Solved {
 }
 
 // The state in which the rounds of a distance call end.
-#[derive(Drop)]
+#[derive(Clone, Copy)]
 pub struct Rounds {
     pub ending: Ending,
     pub simplex: [SimplexVertex; 3],
@@ -70,14 +70,14 @@ pub struct Rounds {
 }
 
 // The two points that a simplex names, by its weights.
-#[derive(Drop)]
+#[derive(Clone, Copy)]
 pub struct WitnessPoints {
     pub a: Vector,
     pub b: Vector,
 }
 
 // What a distance call measures, in the frame of A.
-#[derive(Drop)]
+#[derive(Clone, Copy)]
 pub struct ProxyDistanceOutput {
     pub point_a: Vector,
     pub point_b: Vector,
@@ -88,27 +88,27 @@ pub struct ProxyDistanceOutput {
 }
 
 // A measurement, and the cache as it leaves it.
-#[derive(Drop)]
+#[derive(Clone, Copy)]
 pub struct Measurement {
     pub output: ProxyDistanceOutput,
     pub cache: SimplexCache,
 }
 
-#[derive(Drop)]
+#[derive(Clone, Copy)]
 pub enum DistanceAnswer {
     Measured(ProxyDistanceOutput),
     Refused(u32),
 }
 
 // A distance call's answer, and the cache as it leaves it.
-#[derive(Drop)]
+#[derive(Clone, Copy)]
 pub struct Distance {
     pub answer: DistanceAnswer,
     pub cache: SimplexCache,
 }
 
 // A separation function: two moves, and an axis with the point that it passes through.
-#[derive(Drop)]
+#[derive(Clone, Copy)]
 pub struct SeparationFunction {
     pub sweep_a: Sweep,
     pub sweep_b: Sweep,
@@ -118,7 +118,7 @@ pub struct SeparationFunction {
 }
 
 // The least separation at a time, and the corners that have it.
-#[derive(Drop)]
+#[derive(Clone, Copy)]
 pub struct MinSeparation {
     pub separation: f64,
     pub index_a: u32,
@@ -126,14 +126,14 @@ pub struct MinSeparation {
 }
 
 // What a separation search finds: the least separation, and the corners of both sides.
-#[derive(Drop)]
+#[derive(Clone, Copy)]
 pub struct Search {
     pub least: MinSeparation,
     pub corners: Corners,
 }
 
 // What a sweep keeps throughout: both moves and the origin that they were shifted by, the radii, the last time, and the target with its tolerance.
-#[derive(Drop)]
+#[derive(Clone, Copy)]
 pub struct SweepTask {
     pub sweep_a: Sweep,
     pub sweep_b: Sweep,
@@ -146,7 +146,7 @@ pub struct SweepTask {
 }
 
 // A distance call at some time, in the world: the distance, the averaged hit point, the normal, and the cache as the call left it.
-#[derive(Drop)]
+#[derive(Clone, Copy)]
 pub struct Closest {
     pub distance: f64,
     pub point: Vector,
@@ -155,13 +155,13 @@ pub struct Closest {
 }
 
 // Where a root search ends, and after how many steps.
-#[derive(Drop)]
+#[derive(Clone, Copy)]
 pub struct RootSearch {
     pub t: f64,
     pub steps: u32,
 }
 
-#[derive(Drop)]
+#[derive(Clone, Copy)]
 pub struct Contact {
     pub fraction: f64,
     pub point: Vector,
@@ -169,7 +169,7 @@ pub struct Contact {
 }
 
 // How a sweep ends.
-#[derive(Drop)]
+#[derive(Clone, Copy)]
 pub enum SweepAnswer {
     Overlapped(Counts),
     Hit(Contact, Counts),
@@ -179,14 +179,14 @@ pub enum SweepAnswer {
 }
 
 // A sweep's answer, and the corners of its last separation search.
-#[derive(Drop)]
+#[derive(Clone, Copy)]
 pub struct Swept {
     pub answer: SweepAnswer,
     pub corners: Corners,
 }
 
 // What a worked block tells.
-#[derive(Drop)]
+#[derive(Clone, Copy)]
 pub struct Verdict {
     pub status: Status,
     pub contact: Contact,
@@ -195,14 +195,14 @@ pub struct Verdict {
 }
 
 // What a sweep's answer comes to: a verdict, or the number of its refusal.
-#[derive(Drop)]
+#[derive(Clone, Copy)]
 pub enum Outcome {
     Found(Verdict),
     Refused(u32),
 }
 
 // What a block comes to: its job with the verdict; or the job and the number of a refusal, whichever of 3 to 11 or 13 it is.
-#[derive(Drop)]
+#[derive(Clone, Copy)]
 pub enum BlockAnswer {
     Worked(u32, Verdict),
     Refused(u32, u32),

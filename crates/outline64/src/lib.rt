@@ -37,7 +37,7 @@ pub fn point(points: &[f64], i: u32) -> Vector
 }
 
 // The corners so far: the one with the greatest projection, the highest whose projection equals it, and that projection.
-#[derive(Drop)]
+#[derive(Clone, Copy)]
 struct Best {
     first: usize,
     second: usize,

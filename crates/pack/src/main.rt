@@ -6,7 +6,7 @@ use pack_lines::Held;
 const PART_SIZE: usize = 128;
 
 // Whether the run goes on, and the line that it is in.
-#[derive(Drop)]
+#[derive(Clone, Copy)]
 struct Step {
     more: bool,
     held: Held,

@@ -6,7 +6,7 @@ ghost use Rattle.job_text.specs.Room.{refusal_room};
 ghost use Rattle.pack_lines.specs.Pack.{longer, held_of, held_after, run_in, last_for, Ends};
 
 // What is kept of the line that a part ended in, and how many lines ended before it.
-#[derive(Drop)]
+#[derive(Clone, Copy)]
 pub struct Held {
     pub line: [u8; 855],
     pub size: usize,
@@ -14,7 +14,7 @@ pub struct Held {
 }
 
 // What is held after a part, and the places after both texts.
-#[derive(Drop)]
+#[derive(Clone, Copy)]
 pub struct Packed {
     pub held: Held,
     pub at: usize,
@@ -22,7 +22,7 @@ pub struct Packed {
 }
 
 // The places after both texts, the size of the line and how many have ended.
-#[derive(Drop)]
+#[derive(Clone, Copy)]
 struct Ended {
     at: usize,
     told: usize,

@@ -7,7 +7,7 @@ use replay_rows::Words;
 
 const PIECE: usize = 32;
 
-#[derive(Drop)]
+#[derive(Clone, Copy)]
 struct Texts {
     held: Held,
     at: usize,

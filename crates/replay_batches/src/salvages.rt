@@ -4,7 +4,7 @@ use crate::packed::piece_end;
 use replay_rows::Words;
 use salvage_walk::Walk;
 
-#[derive(Drop)]
+#[derive(Clone, Copy)]
 struct Texts {
     left: usize,
     walk: Walk,

@@ -5,7 +5,7 @@ use model::Status;
 
 // What the rows of a table are like: a row's size in bytes, the place of its kind, where its stored answer stands, of how many words, and how many
 // bytes a word has, 4 or 8.
-#[derive(Drop)]
+#[derive(Clone, Copy)]
 pub struct RowShape {
     pub size: usize,
     pub kind: usize,

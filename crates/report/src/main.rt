@@ -4,7 +4,7 @@ use libc::STDIN_FILENO;
 use report_counts::Report;
 
 // The report so far, whether there is more to read, and whether a read failed.
-#[derive(Drop)]
+#[derive(Clone, Copy)]
 struct Step {
     report: Report,
     more: bool,

@@ -10,7 +10,7 @@ use model::{BlockAnswer, PART_SIZE};
 use report_counts::Report;
 
 // A batch's report so far, and whether the part was its last.
-#[derive(Drop)]
+#[derive(Clone, Copy)]
 pub struct Added {
     pub report: Report,
     pub last: bool,

@@ -13,7 +13,7 @@ use std::num::wrapping_add_u64;
 pub const ROWS: usize = 28;
 
 // How many batches there are, how many blocks each row counts, and the largest counts.
-#[derive(Drop)]
+#[derive(Clone, Copy)]
 pub struct Report {
     pub batches: u64,
     pub counts: [u64; ROWS],

@@ -6,14 +6,14 @@ use model::BlockAnswer;
 use std::num::wrapping_add_u64;
 
 // No worked block; or a count, and the first batch and block that has it, from 1.
-#[derive(Drop)]
+#[derive(Clone, Copy)]
 pub enum Most {
     Nowhere,
     At(u32, u64, u64),
 }
 
 // The most distance calls, separation searches and root steps.
-#[derive(Drop)]
+#[derive(Clone, Copy)]
 pub struct Largest {
     pub calls: Most,
     pub searches: Most,

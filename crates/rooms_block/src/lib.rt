@@ -15,7 +15,7 @@ use outline::point;
 use room::room_of;
 
 // What a block comes to: its job, 0 where none can be told; the number of its refusal, or 0; whether there is a room, and how much; a letter for each cell.
-#[derive(Drop)]
+#[derive(Clone, Copy)]
 pub struct BlockRooms {
     pub job: u32,
     pub number: u32,

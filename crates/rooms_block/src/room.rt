@@ -6,7 +6,7 @@ use crate::look::look;
 use clearance_call::Cleared;
 
 // What is proved kept, what is tried next or failed already, and whether it did.
-#[derive(Drop)]
+#[derive(Clone, Copy)]
 struct Span {
     room: f32,
     limit: f32,
@@ -14,7 +14,7 @@ struct Span {
 }
 
 // Whether there is one, and how much.
-#[derive(Drop)]
+#[derive(Clone, Copy)]
 pub struct Room {
     pub found: bool,
     pub room: f32,

@@ -17,21 +17,21 @@ use rooms_block::{BlockRooms, block_rooms};
 const LONGEST_LINE: usize = 120;
 
 // How many blocks came, and how many were refused.
-#[derive(Drop)]
+#[derive(Clone, Copy)]
 pub struct Tally {
     pub blocks: u64,
     pub refused: u64,
 }
 
 // The place after what was written, the totals after it, and whether the part was the last.
-#[derive(Drop)]
+#[derive(Clone, Copy)]
 pub struct Written {
     pub at: usize,
     pub totals: Tally,
     pub last: bool,
 }
 
-#[derive(Drop)]
+#[derive(Clone, Copy)]
 struct Lines {
     at: usize,
     totals: Tally,

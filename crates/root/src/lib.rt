@@ -36,7 +36,7 @@ fn scaled(m: u64, p: u64) -> u64
 }
 
 // A value in units of the smallest value squared: m * 2^p, m of 24 digits.
-#[derive(Drop)]
+#[derive(Clone, Copy)]
 struct Units {
     m: u64,
     p: u64,

@@ -9,7 +9,7 @@ const NUMBERS: usize = 4390;
 const LENGTHS: usize = 33;
 
 // Whether the run goes on, and where the reader stands.
-#[derive(Drop)]
+#[derive(Clone, Copy)]
 struct Step {
     more: bool,
     reader: Reader,

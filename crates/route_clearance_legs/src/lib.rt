@@ -19,7 +19,7 @@ const WRONG_WAYPOINTS: u32 = 16;
 const WRONG_OUTLINES: u32 = 17;
 
 // Where a route ends: the leg and the outline, both from 1, and the pieces of all pairs up to there.
-#[derive(Drop)]
+#[derive(Clone, Copy)]
 pub struct End {
     pub leg: u32,
     pub outline: u32,
@@ -27,7 +27,7 @@ pub struct End {
 }
 
 // Clear, with all pieces; ended by a pair that touches, that is not settled or that is refused; or no pair was looked at. Places are in 2^24-ths of the leg.
-#[derive(Drop)]
+#[derive(Clone, Copy)]
 pub enum RouteCleared {
     Clear {
         pieces: u64,

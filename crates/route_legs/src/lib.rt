@@ -22,7 +22,7 @@ const WRONG_WAYPOINTS: u32 = 16;
 const WRONG_OUTLINES: u32 = 17;
 
 // Where a route ends: the leg and the outline, both from 1, and the distance calls of all sweeps up to there.
-#[derive(Drop)]
+#[derive(Clone, Copy)]
 pub struct Stop {
     pub leg: u32,
     pub outline: u32,
@@ -30,7 +30,7 @@ pub struct Stop {
 }
 
 // Clear, with all distance calls; ended by a sweep that is not separated, or by one that is refused; or no sweep was run.
-#[derive(Drop)]
+#[derive(Clone, Copy)]
 pub enum RouteAnswer {
     Clear(u32),
     Ended(Stop, Status, Contact),

@@ -3,7 +3,7 @@ ghost use Rattle.std.specs.Prelude.{◌≡◌};
 ghost use Rattle.route_line.specs.Line as Text;
 
 // The kinds of line in their order; Nothing before the first.
-#[derive(Drop)]
+#[derive(Clone, Copy)]
 pub enum Kind {
     Nothing,
     Slop,
@@ -14,7 +14,7 @@ pub enum Kind {
 
 // The line in hand, or between two lines the last one. Place: 0 between lines, 1 to 4 within the name, 5 after the name or a word, 6 to 13 within a
 // word, by the digits so far, and 14 where the line is none of a route. Then the word's value so far, and how many words came, at most 129.
-#[derive(Drop)]
+#[derive(Clone, Copy)]
 pub struct Line {
     pub kind: Kind,
     pub place: usize,

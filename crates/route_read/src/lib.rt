@@ -6,7 +6,7 @@ use model::COUNT_LIMIT;
 use route_line::{AFTER_WORD, BETWEEN, Kind, LAST_DIGIT, Line, MOST_WORDS, line_after};
 
 // How many numbers and how many lengths are kept, and where among the numbers the cart and the waypoints end.
-#[derive(Drop)]
+#[derive(Clone, Copy)]
 pub struct Kept {
     pub used: usize,
     pub cart_end: usize,
@@ -15,7 +15,7 @@ pub struct Kept {
 }
 
 // With how many whole lines came.
-#[derive(Drop)]
+#[derive(Clone, Copy)]
 pub struct Reader {
     pub line: Line,
     pub kept: Kept,

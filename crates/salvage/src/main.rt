@@ -3,7 +3,7 @@
 use salvage_walk::Walk;
 
 // Whether the run goes on, whether something failed, how many bytes stand at the start of the buffer, and the walk so far.
-#[derive(Drop)]
+#[derive(Clone, Copy)]
 struct Turn {
     more: bool,
     failed: bool,

@@ -12,7 +12,7 @@ ghost use Rattle.salvage_walk.specs.Part as Part;
 const PLACE_LIMIT: u64 = 0x4000_0000_0000_0000;
 
 // How many blocks were kept, how many bytes were skipped before the present run, and how many in it.
-#[derive(Drop)]
+#[derive(Clone, Copy)]
 pub struct Walk {
     pub kept: u64,
     pub skipped: u64,
@@ -20,7 +20,7 @@ pub struct Walk {
 }
 
 // How many bytes go to the file, how many are told, how many are handed on at the start of the buffer; the walk so far; whether there was room.
-#[derive(Drop)]
+#[derive(Clone, Copy)]
 pub struct Salvaged {
     pub file: usize,
     pub text: usize,
@@ -30,7 +30,7 @@ pub struct Salvaged {
 }
 
 // A place in what is at hand, the places after both texts, and the walk.
-#[derive(Drop)]
+#[derive(Clone, Copy)]
 struct Reached {
     at: usize,
     file: usize,

@@ -9,7 +9,7 @@ use ground::transform_point;
 use model::{Pose, Vector};
 
 // The number of corners written, or the number of the refusal.
-#[derive(Drop)]
+#[derive(Clone, Copy)]
 pub enum Built {
     Corners(usize),
     Refused(u32),

@@ -3,7 +3,7 @@
 use model::Totals;
 
 // Whether the run goes on, and the totals so far.
-#[derive(Drop)]
+#[derive(Clone, Copy)]
 struct Worked {
     more: bool,
     totals: Totals,

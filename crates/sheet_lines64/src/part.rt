@@ -19,14 +19,14 @@ use model64::BlockAnswer;
 const LONGEST_LINE: usize = 280;
 
 // The place after what was written, the totals after it, and whether the part was the last.
-#[derive(Drop)]
+#[derive(Clone, Copy)]
 pub struct Written {
     pub at: usize,
     pub totals: Totals,
     pub last: bool,
 }
 
-#[derive(Drop)]
+#[derive(Clone, Copy)]
 struct Lines {
     at: usize,
     totals: Totals,

@@ -7,7 +7,7 @@ ghost use Rattle.sweep_toi.specs.Rounds as Rounds;
 
 use model::SweepTask;
 
-#[derive(Drop)]
+#[derive(Clone, Copy)]
 pub struct Bracket {
     pub low: f32,
     pub high: f32,

@@ -12,7 +12,7 @@ use separation::transform_at;
 // The one number of a sweep's pair.
 const PAIR: u32 = 0;
 
-#[derive(Drop)]
+#[derive(Clone, Copy)]
 pub struct Moment {
     pub t: f32,
     pub xf_a: Pose,

@@ -22,7 +22,7 @@ const MAX_PUSH_BACK_ITERATIONS: u32 = 8;
 const MAX_ROOT_ITERATIONS: u32 = 50;
 
 // What the advancement carries: the time that it has reached, and the cache, the counts and the last corners so far.
-#[derive(Drop)]
+#[derive(Clone, Copy)]
 struct Reached {
     m1: Moment,
     cache: SimplexCache,
@@ -31,7 +31,7 @@ struct Reached {
 }
 
 // What the push-backs carry: the end of the interval, the counts so far, and how many are left with this one.
-#[derive(Drop)]
+#[derive(Clone, Copy)]
 struct Push {
     m2: Moment,
     counts: Counts,
@@ -39,7 +39,7 @@ struct Push {
 }
 
 // How a round of push-backs without a verdict ends: at which time, with which counts and corners, and whether t1 was held where it was.
-#[derive(Drop)]
+#[derive(Clone, Copy)]
 struct Round {
     at: Moment,
     counts: Counts,

@@ -8,7 +8,7 @@ ghost use Rattle.sweep_toi64.specs.Rounds as Rounds;
 
 use model64::SweepTask;
 
-#[derive(Drop)]
+#[derive(Clone, Copy)]
 pub struct Bracket {
     pub low: f64,
     pub high: f64,

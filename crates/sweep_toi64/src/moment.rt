@@ -14,7 +14,7 @@ use separation64::transform_at;
 // The one number of a sweep's pair.
 const PAIR: u32 = 0;
 
-#[derive(Drop)]
+#[derive(Clone, Copy)]
 pub struct Moment {
     pub t: f64,
     pub xf_a: Pose,

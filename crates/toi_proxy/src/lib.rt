@@ -11,7 +11,7 @@ use model::{Distance, Pose, SimplexCache, SupportAnswer, Sweep, Swept, Vector};
 pub use point_list::support_points;
 
 // An outline by its list x0 y0 x1 y1 .., and the radius around it.
-#[derive(Drop)]
+#[derive(Clone, Copy)]
 pub struct ToiProxy<'a> {
     pub points: &'a [f32],
     pub radius: f32,

@@ -8,7 +8,7 @@ use domain::bad_vector;
 use model::{SupportAnswer, SupportPair, Vector};
 
 // What is known of the points so far: the first one's parts, whether any has a bad part, and the best with its value, the first and the second.
-#[derive(Drop)]
+#[derive(Clone, Copy)]
 struct Farthest {
     x: f32,
     y: f32,

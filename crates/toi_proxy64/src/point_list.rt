@@ -10,7 +10,7 @@ use model::{SupportAnswer, SupportPair};
 use model64::Vector;
 
 // What is known of the points so far: the first one's parts, whether any has a bad part, and the best with its value, the first and the second.
-#[derive(Drop)]
+#[derive(Clone, Copy)]
 struct Farthest {
     x: f64,
     y: f64,

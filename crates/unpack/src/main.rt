@@ -5,7 +5,7 @@
 const PART_SIZE: usize = 38912;
 
 // Whether the run goes on, and how many blocks it has passed.
-#[derive(Drop)]
+#[derive(Clone, Copy)]
 struct Step {
     more: bool,
     blocks: u64,

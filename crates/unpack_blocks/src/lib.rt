@@ -8,14 +8,14 @@ ghost use Rattle.unpack_blocks.specs.Unpack.{unpacked, refused, lines_of, refusa
 use model::CheckedBlock;
 
 // How many blocks have passed, and the places after both texts.
-#[derive(Drop)]
+#[derive(Clone, Copy)]
 pub struct Unpacked {
     pub blocks: u64,
     pub at: usize,
     pub told: usize,
 }
 
-#[derive(Drop)]
+#[derive(Clone, Copy)]
 struct Places {
     at: usize,
     told: usize,
