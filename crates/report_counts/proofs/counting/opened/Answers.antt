@@ -3,15 +3,8 @@ use Rattle.report_counts.specs.Rows.{rows_in, times_in}
 use Rattle.report_counts.specs.Largest.{larger, largest_from, largest_in}
 use Rattle.report_counts.specs.Report.{report, every_answer, tally_from}
 use Rattle.std.proofs.Common.{rules}
-use Rattle.report_counts.proofs.counting.opened.Statement.{statement}
-use Rattle.report_counts.proofs.counting.opened.Tie as tie
+use Rattle.report_counts.proofs.counting.opened.Goals as goal
 
-nowhere-requires : tie.Need-nowhere-requires
-nowhere-requires c κs = search rules
-
-returns : tie.Need-returns
+pub returns : goal.returns
 unfolding report every_answer rows_in times_in tally_from larger largest_from largest_in
 returns c = simp c.nowhere.ensures
-
-pub opened-spec : {M : Type 1} → statement M
-opened-spec = tie.close (tie.spec nowhere-requires returns)
