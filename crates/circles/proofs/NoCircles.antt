@@ -152,6 +152,8 @@ module _ (f : Format) {bound : ℕ} (room : Room f bound) {p : Pose} {a b : List
       go : (r t t' : Bool) → T t → T t' → (r || (t && t')) ≡ true
       go true t t' h h' = refl
       go false true true h h' = refl
+      go false false t' h h' = elim h [ ]
+      go false true false h h' = elim h' [ ]
 
   -- there is a direction where the solve does not touch
   pub direction-left : {d : Vector} {e : Point} → SizedPoint bound d e 16 3 → I.lt (Ground.dot f d d) (I.mul f (epsilon f) (epsilon f)) ≡ false → 0Int ≺ dot e e
