@@ -56,7 +56,7 @@ def module(file):
     crate, kind, *rest = re.sub(r"\.antt$", "", file).split("/")
     if f"pub mod {rest[0]}\n" not in (names.ROOT / f"crates/{crate}/{kind}/Lib.antt").read_text(encoding="utf-8") + "\n":
         sys.exit(f"docs/PROMISES.md: crates/{file} is no public module of its crate: crates/{crate}/{kind}/Lib.antt lacks its `pub`")
-    return crate, f"Rattle·{crate}.{kind}.{'.'.join(rest)}"
+    return crate, f"Rattle.{crate}.{kind}.{'.'.join(rest)}"
 
 
 def written():

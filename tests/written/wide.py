@@ -21,12 +21,12 @@ PROOFS = 'Domain Support Second Simplex DistanceCall Searches Sheet'.split()
 LITERALS = {'3.4028235e38': '1.7976931348623157e308', '1.1920929e-7': '2.220446049250313e-16'}
 # patterns of bits, in the files that work on them: there u32 is u64 besides
 PATTERNS = {'0x8000_0000': '0x8000_0000_0000_0000', '0x7f80_0000': '0x7ff0_0000_0000_0000', '0x7fc0_0000': '0x7ff8_0000_0000_0000',
-            '7FC00000': '7FF8000000000000', 'u32': 'u64'}
-BITS = {'ground/src/bits.rt', 'ground/src/scalar.rt'}
+            '7FC00000': '7FF8000000000000', 'u32': 'u64', '2139095040': '9218868437227405312', '2147483648': '9223372036854775808'}
+BITS = {'ground/src/bits.rt', 'ground/src/scalar.rt', 'ground/proofs/bits/from_bits/Answers.antt', 'ground/proofs/scalar/abs/Answers.antt'}
 # numbers of bytes, where they are named: a float has 16 digits
-ROOM = {'fields': [('floatRoom = 9', 'floatRoom = 17'), ('contactRoom = 45', 'contactRoom = 85'), ('CONTACT_ROOM: usize = 45', 'CONTACT_ROOM: usize = 85'),
+ROOM = {'fields': [('float_room = 9', 'float_room = 17'), ('contact_room = 45', 'contact_room = 85'), ('CONTACT_ROOM: usize = 45', 'CONTACT_ROOM: usize = 85'),
                    ('eight digits', 'sixteen digits'), ('put_hex', 'put_wide_hex'), ('put-hex', 'put-wide-hex')],
-        'sheet_lines': [('longestLine = 240', 'longestLine = 280'), ('LONGEST_LINE: usize = 240', 'LONGEST_LINE: usize = 280'), ('238', '278'),
+        'sheet_lines': [('longest_line = 240', 'longest_line = 280'), ('LONGEST_LINE: usize = 240', 'LONGEST_LINE: usize = 280'), ('238', '278'),
                   ('five floats of eight', 'five floats of sixteen')]}
 # crates of which only some files have a counterpart
 ONLY = {'replay': ['main', 'table', 'floats', 'pool', 'operations', 'distances', 'sweeps']}
@@ -41,13 +41,8 @@ PATCHES = [
     # a block's numbers are taken over from f32
     ('work64/src/lib.rt', 'floats[i] = ground64::from_bits(wire::word(bytes, from + 4 * i));',
      'floats[i] = taken_over(wire::word(bytes, from + 4 * i));'),
-    ('work64/src/lib.rt', 'use model::Block;', 'mod taken;\n\nuse model::Block;'),
-    ('work64/src/lib.rt', 'use model64::Swept;', 'use model64::Swept;\nuse taken::taken_over;'),
-    # a point record has sixteen bytes
-    ('toi_proxy64/proofs/point_list/point_at/Proof.antt', 'is 8 i past', 'is 16 i past'),
-    ('toi_proxy64/proofs/point_list/point_at/Proof.antt', '(lit ! tt) (scaled-fits i (length ys) 8', '(lit ! tt) (scaled-fits i (length ys) 16'),
-    ('toi_proxy64/proofs/point_list/point_at/Proof.antt', '\n          scaled-fits i (length ys) 8', '\n          scaled-fits i (length ys) 16'),
-    ('toi_proxy64/proofs/point_list/point_at/Proof.antt', 'place-is 8 o i', 'place-is 16 o i'),
+    ('work64/src/lib.rt', 'ghost use Rattle.std.specs.Prelude', 'mod taken;\n\nghost use Rattle.std.specs.Prelude'),
+    ('work64/src/lib.rt', 'use model::{Block, CheckedBlock};', 'use model::{Block, CheckedBlock};\nuse taken::taken_over;'),
     # stored words have eight bytes
     ('replay64/src/floats.rt', ' as u64', ''),
     ('replay64/src/pool.rt', 'wire::word(pool, 16 + 4 * i)', 'wire::word(pool, 32 + 8 * i)'),
@@ -66,16 +61,16 @@ PATCHES = [
     ('replay64/src/pool.rt', 'whose bytes 2 to 6 are', 'whose bytes 2, 3 and 8 to 10 are'),
     ('replay64/src/sweeps.rt', 'bytes 0 to 6 are', 'bytes 0 to 3 and 8 to 10 are'),
     # the text and the totals of a part are model's
-    ('sheet_lines64/proofs/Parts.antt', 'use Rattle·model64.proofs.DistanceCall.{both}',
-     'use Rattle·model.specs.Sheet as Sheet\nuse Rattle·bridge.proofs.Sheet.{lines-same, totals-same}\nuse Rattle·model64.proofs.DistanceCall.{both}'),
-    ('sheet_lines64/proofs/Parts.antt', "→ Put d₀ 0 (linesFrom binary64 (t₀ .blocks) (answers binary64 b)) d' at'",
-     "→ Put d₀ 0 (Sheet.linesFrom binary64 (t₀ .blocks) (Sheet.answers binary64 b)) d' at'"),
+    ('sheet_lines64/proofs/Parts.antt', 'use Rattle.model64.proofs.DistanceCall.{both}',
+     'use Rattle.model.specs.Sheet as Sheet\nuse Rattle.bridge.proofs.Sheet.{lines_same, totals-same}\nuse Rattle.model64.proofs.DistanceCall.{both}'),
+    ('sheet_lines64/proofs/Parts.antt', "→ Put d₀ 0 (lines_from binary64 t₀.blocks (answers binary64 b)) d' at'",
+     "→ Put d₀ 0 (Sheet.lines_from binary64 t₀.blocks (Sheet.answers binary64 b)) d' at'"),
     ('sheet_lines64/proofs/Parts.antt', '      rw (answers-cut binary64 b, lines-append',
-     '      rw (← lines-same binary64 (t₀ .blocks) b, answers-cut binary64 b, lines-append'),
-    ('sheet_lines64/proofs/Parts.antt', "→ t' ≡ totalsFrom t₀ (answers binary64 b)", "→ t' ≡ Sheet.totalsFrom t₀ (Sheet.answers binary64 b)"),
+     '      rw (← lines_same binary64 t₀.blocks b, answers-cut binary64 b, lines-append'),
+    ('sheet_lines64/proofs/Parts.antt', "→ t' ≡ totals_from t₀ (answers binary64 b)", "→ t' ≡ Sheet.totals_from t₀ (Sheet.answers binary64 b)"),
     ('sheet_lines64/proofs/Parts.antt', '  all-totals e = e ∙ rw (answers-cut', '  all-totals e = e ∙ rw (← totals-same binary64 t₀ b, answers-cut'),
-    ('sheet_lines64/specs/Part.antt', 'use Rattle·model64.specs.Sheet.{answers, answerLine, totalsFrom, partText}',
-     'use Rattle·model.specs.Sheet.{answers, totalsFrom, partText}\nuse Rattle·model64.specs.Sheet.{answerLine}'),
+    ('sheet_lines64/specs/Part.antt', 'use Rattle.model64.specs.Sheet.{answers, answer_line, totals_from, part_text}',
+     'use Rattle.model.specs.Sheet.{answers, totals_from, part_text}\nuse Rattle.model64.specs.Sheet.{answer_line}'),
 ]
 
 HAND = {
@@ -95,8 +90,8 @@ WORD = r'[\w«»]+'
 def items(text):
     """The structs and enums of a .rt file: name -> (whole text, its words)."""
     found = {}
-    for m in re.finditer(r'((?://[^\n]*\n)*)pub (?:struct|enum) (\w+) \{.*?\n\}\n', text, re.S):
-        found[m.group(2)] = (m.group(0), set(re.findall(r'\w+', re.sub(r'//[^\n]*', '', m.group(0)))))
+    for m in re.finditer(r'((?:(?://|#\[)[^\n]*\n)*)pub (?:struct|enum) (\w+) \{.*?\n\}\n', text, re.S):
+        found[m.group(2)] = (m.group(0), set(re.findall(r'\w+', re.sub(r'//[^\n]*|#\[[^\n]*', '', m.group(0)))))
     return found
 
 
@@ -159,7 +154,7 @@ class Gen:
                     free[b] = ns
             changed = True
             imported = set()
-            for m in re.finditer(r'^use Rattle·model·specs\.specs\.(\w+)(?:\.\{(.*)\}| as (\w+))', text, re.M):
+            for m in re.finditer(r'^use Rattle\.model\.specs\.(\w+)(?:\.\{(.*)\}| as (\w+))', text, re.M):
                 if m.group(1) in self.shared:
                     imported |= {n.strip() for n in m.group(2).split(',')} - self.shared[m.group(1)] if m.group(2) else {m.group(3)}
             again = mine - {n for ns in free.values() for n in ns}
@@ -184,31 +179,25 @@ class Gen:
             text = re.sub(r'\bf32\b', 'f64', text.replace('binary32', 'binary64'))
         for k, v in LITERALS.items():
             text = text.replace(k, v)
-        for c in CRATES + WRITTEN:      # a call, in a walk by hand
-            text = text.replace(f'calls-{c.replace("_", "-")}·', f'calls-{c.replace("_", "-")}64·')
         lines = []
         for line in text.split('\n'):
             lines += self.use(line, crate)
         return '\n'.join(lines)
 
     def use(self, line, crate):
-        m = re.match(r'(\s*(?:ghost )?(?:pub |unfoldable pub )?use )Rattle·(\w+)(·specs\.specs|·proofs\.proofs|\.specs|\.proofs)\.([^{;]*?)(\.\{(.*)\})?(;?)$', line)
+        m = re.match(r'(\s*(?:ghost )?(?:pub |unfoldable pub )?use )Rattle\.(\w+)\.(specs|proofs)\.([^{;]*?)(\.\{(.*)\})?(;?)$', line)
         if not m:
             return [line]
-        head, name, lib, path, _, group, semi = m.groups()
+        head, name, kind, path, _, group, semi = m.groups()
         alias = ''
         if ' as ' in path:
             path, a = path.split(' as ')
             alias = ' as ' + a
         parts = path.split('.')
-        kind = lib.split('.')[-1]
 
         def put(to, group):
-            l = lib
-            own = to == crate + '64'
-            l = f'·{kind}.{kind}' if own else f'.{kind}'
             g = '.{' + group + '}' if group is not None else ''
-            return f'{head}Rattle·{to}{l}.{path}{g}{alias}{semi}'
+            return f'{head}Rattle.{to}.{kind}.{path}{g}{alias}{semi}'
         if name == 'model':
             if kind == 'specs' and parts[0] == 'declared':
                 return [put('model64' if parts[1] in self.wide else 'model', group)]
@@ -231,10 +220,17 @@ class Gen:
         text = re.sub(r'(\b|0\.0)f32\b', lambda m: m.group(1) + 'f64', text)
         for c in CRATES + WRITTEN:
             if c == 'model':
-                text = re.sub(r'\bmodel::(\w+)', lambda m: ('model64' if m.group(1) in self.wide else 'model') + '::' + m.group(1), text)
+                text = re.sub(r'(?m)^((?:pub )?use )model::\{([^}]*)\};', self.records, text)
+                text = re.sub(r'\bmodel::([A-Za-z]\w*)', lambda m: ('model64' if m.group(1) in self.wide else 'model') + '::' + m.group(1), text)
             else:
                 text = re.sub(rf'(?<![\w:]){c}::', f'{c}64::', text) if c in self.deps[crate] else text
         return text
+
+    def records(self, m):
+        """A group of records of model: those with floats come from model64."""
+        names = [n.strip() for n in m.group(2).split(',') if n.strip()]
+        groups = [('model', [n for n in names if n not in self.wide]), ('model64', [n for n in names if n in self.wide])]
+        return '\n'.join(m.group(1) + c + ('::{' + ', '.join(ns) + '}' if len(ns) > 1 else '::' + ns[0]) + ';' for c, ns in groups if ns)
 
     # ---- files
     def model(self):
@@ -254,14 +250,14 @@ class Gen:
             lines = bs[0].split('\n')
             at = max(i for i, l in enumerate(lines) if l.startswith('use ')) + 1
             for kind, ns in shared:
-                lines.insert(at, f'{kind}pub use Rattle·model·specs.specs.{s}.{{{", ".join(ns)}}}'.replace('·specs.specs', '.specs'))
+                lines.insert(at, f'{kind}pub use Rattle.model.specs.{s}.{{{", ".join(ns)}}}')
                 at += 1
             bs[0] = '\n'.join(lines)
             bs = [b for b in bs if any(l and not l.startswith('--') for l in b.split('\n'))]
             keep = '\n\n'.join(bs) + '\n'
             new = self.antt(keep, 'model')
             # the lines that were put in are model's
-            self.write(f'model64/specs/{s}.antt', re.sub(r'((?:unfoldable )?pub use Rattle·model)64·specs\.specs', r'\1.specs', new))
+            self.write(f'model64/specs/{s}.antt', re.sub(r'((?:unfoldable )?pub use Rattle\.model)64\.specs', r'\1.specs', new))
         self.write('model64/specs/Lib.antt', ''.join(f'pub mod {s}\n' for s in SPECS))
         for p in PROOFS:
             f = self.root / f'crates/model/proofs/{p}.antt'
@@ -271,7 +267,7 @@ class Gen:
     def crate(self, name):
         base = self.root / 'crates' / name
         for f in sorted(base.rglob('*')):
-            if not f.is_file() or f.suffix not in ('.rt', '.antt') or 'must-fail' in f.parts:
+            if not f.is_file() or f.suffix not in ('.rt', '.antt') or 'must-fail' in f.parts or 'out' in f.parts:
                 continue
             rel = f.relative_to(base)
             if name in ONLY and rel.parts[1].split('.')[0] not in ONLY[name]:
@@ -289,7 +285,7 @@ class Gen:
         if rel in OF_BLOCK:
             text = text.replace('binary64', 'binary32')
         if rel in OF_MODEL:
-            text = text.replace('Rattle·model64.', 'Rattle·model.')
+            text = text.replace('Rattle.model64.', 'Rattle.model.')
         for f, old, new in PATCHES:
             if f == rel:
                 assert text.count(old) == 1, (f, old)
@@ -321,7 +317,8 @@ def main():
             f.parent.mkdir(parents=True, exist_ok=True)
             f.write_text(text)
         (Path(tmp) / 'crates.txt').write_text(''.join(f'{c}64:\n' for c in CRATES))
-        subprocess.run(['rt', 'fmt'], cwd=tmp, stdout=subprocess.DEVNULL, check=True)
+        for c in CRATES:
+            subprocess.run(['rt', 'fmt'], cwd=Path(tmp) / 'crates' / f'{c}64', stdout=subprocess.DEVNULL, check=True)
         out = {rel: (Path(tmp) / 'crates' / rel).read_text() for rel in out}
     bad = 0
     check = '--check' in sys.argv
@@ -336,7 +333,7 @@ def main():
             f.write_text(text)
     for c in CRATES:
         for f in sorted((root / f'crates/{c}64').rglob('*')):
-            if f.is_file() and f.suffix in ('.rt', '.antt') and str(f.relative_to(root / 'crates')) not in out and not by_hand(str(f.relative_to(root / 'crates'))):
+            if f.is_file() and 'out' not in f.parts and f.suffix in ('.rt', '.antt') and str(f.relative_to(root / 'crates')) not in out and not by_hand(str(f.relative_to(root / 'crates'))):
                 bad = 1
                 print('of no source:' if check else 'removed:', f)
                 if not check:

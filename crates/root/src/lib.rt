@@ -1,5 +1,7 @@
 // The square root of every f32, by whole numbers: the significand scaled to 47 or 48 binary digits under an even exponent, its root cut to a
 // whole number from a stored guess, and one more where the remainder is past the half way mark.
+#![tactic(auto)]
+
 ghost use Rattle.std.specs.Prelude.{◌≡◌, ◌+◌, ◌*◌, ◌/◌, ◌^◌, ◌≤◌, ◌<◌};
 ghost use Rattle.std.specs.Float.{binary32};
 ghost use Rattle.std.specs.Float.Ieee.{of_bits};

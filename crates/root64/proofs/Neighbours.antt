@@ -1,6 +1,6 @@
 -- The whole number nearest to a root, told by its neighbours' products: which of the three behind t it is. And a product in two words, by the halves of
 -- its factors. Assumes nothing.
-use Rattle.std.proofs.Common.{◌≡◌, ℕ, zero, suc, ◌+◌, ◌-◌, ◌*◌, ◌/◌, ◌%◌, ◌<◌, ◌≤◌, sym, refl, ap, ◌∙◌, subst, mul_assoc, mul_comm, add-mul, mul-le-mul, lt_of_not-le, div-add-mod', mul-one, mul-add, mul_right_comm, add-one, arith}
+use Rattle.std.proofs.Common.{◌≡◌, ℕ, zero, suc, ◌+◌, ◌*◌, ◌/◌, ◌%◌, ◌<◌, ◌≤◌, sym, ap, ◌∙◌, subst, mul_assoc, add-mul, mul-le-mul, lt_of_not-le, div-add-mod', mul-one, mul-add, mul_right_comm, add-one, arith}
 use native.Mathlib.Nat.{mul-mul-mul_comm}
 use native.Mathlib.Decide.{dec_le}
 use Rattle.model.proofs.Root.Floor.{near_root, sq-suc, near_down, near_up}

@@ -1,4 +1,6 @@
 // One line of a route, byte by byte: its name, then words of eight capital hexadecimal digits, a blank before each, and a newline.
+#![tactic(auto)]
+
 ghost use Rattle.std.specs.Prelude.{◌≡◌};
 ghost use Rattle.route_line.specs.Line as Text;
 

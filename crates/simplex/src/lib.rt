@@ -1,4 +1,6 @@
 // The solvers: which vertices of a simplex are nearest to the origin, with which weights, and where to search next.
+#![tactic(auto)]
+
 mod solvers;
 mod witness;
 

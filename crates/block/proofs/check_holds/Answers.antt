@@ -5,7 +5,7 @@ use Rattle.block.proofs.check_holds.Goals as goal
 
 pub returns : goal.returns
 returns c = simp (
-  c.wrapping_add_u32.ensures,
+  c.wrapping_add_u32.ensures.value,
   c.word.ensures,
   c.sum_before-sum.ensures,
   c.byte.ensures,

@@ -10,7 +10,7 @@ loop-i-init c = (search rules, refl)
 
 pub loop-i-preserved : goal.loop-i-preserved
 loop-i-preserved c = let l = c.loop-i in
-    (search rules, simp (c.wrapping_add_u32-sum.ensures, l.invariant.1, c.word.ensures) (wrapped-step _ _))
+    (search rules, simp (c.wrapping_add_u32-sum.ensures.value, l.invariant.1, c.word.ensures) (wrapped-step _ _))
 
 pub returns : goal.returns
 returns c = let l = c.loop-i in

@@ -5,5 +5,5 @@ use Rattle.block.proofs.Laws.{sum_step}
 use Rattle.block.proofs.sum_of_words.Goals as goal
 
 pub returns : goal.returns
-returns c = simp (c.wrapping_add_u32.ensures, c.word.ensures, c.sum_before-sum.ensures, mod-add-mod)
+returns c = simp (c.wrapping_add_u32.ensures.value, c.word.ensures, c.sum_before-sum.ensures, mod-add-mod)
     (ap (λ (n : ℕ). n % 2 ^ 32) (sum_step _ 127))

@@ -1,5 +1,5 @@
 -- `behind` meets its contract: what is left past t * (t + 1) tells which of the three it is. Assumes nothing.
-use Rattle.std.proofs.Common.{◌≡◌, ℕ, ◌+◌, ◌*◌, ◌<◌, refl, arith, rules}
+use Rattle.std.proofs.Common.{◌≡◌, ◌+◌, ◌*◌, ◌<◌, refl, arith}
 use Rattle.root64.proofs.Neighbours.{past, three, fit, few}
 use Rattle.root64.proofs.behind.Goals as goal
 
@@ -35,20 +35,19 @@ overflow_add-result-3 c = let h = c.requires in
     record { fits = omega arith }
 
 pub returns : goal.returns
-returns c = let low-side = c.before.before.before.before.before.before.before.before in
-    let start = low-side.before in
-    let m = start.args.m in
-    let t = start.args.t in
+returns c =
+    let m = c.args.m in
+    let t = c.args.t in
     let borrow = c.below-borrow in
     let upper = c.upper in
     let w = c.wrapping_sub_u64 in
     let d = c.wrapping_sub_u64-d in
     let left : d.result < 6 * t = c.if-d-t.false in
-    let h = start.requires in
+    let h = c.requires in
     let n : m * 4503599627370496 ≡ t * (t + 1) + d.result + 1 =
-    past m (t * (t + 1)) upper.result low-side.lower-product.result _ borrow.result w.result d.result h.0 refl low-side.lower-product.ensures
+    past m (t * (t + 1)) upper.result c.lower-product.result _ borrow.result w.result d.result h.0 refl c.lower-product.ensures
     upper.ensures.0 (borrow.ensures.0, borrow.ensures.1) c.if-upper-borrow.false
-    w.ensures w.type-inv d.ensures (few t d.result h.1 left) in
+    w.ensures.value w.type_inv d.ensures.value (few t d.result h.1 left) in
     let one = c.below.ensures in
     let two = c.below-2.ensures in
     λ _. three _ t d.result _ _ n left (one.0, one.1) (two.0, two.1)

@@ -1,6 +1,6 @@
 -- `digits` meets its contract. The invariant: q and rem are the root of the number's digits down to the weight 4 ^ k, and what is left of those. The measure is k. Assumes nothing.
-use Rattle.std.proofs.Common.{ℕ, ◌+◌, ◌-◌, ◌*◌, ◌^◌, ◌<◌, ◌≤◌, arith}
-use Rattle.root64.proofs.Pairs.{Down, start, room, again, ends}
+use Rattle.std.proofs.Common.{◌*◌, ◌^◌}
+use Rattle.root64.proofs.Pairs.{Down}
 use Rattle.root64.proofs.digits.Given as goal
 
 abbrev pub invariant-loop-k : goal.invariant-loop-k

@@ -1,5 +1,5 @@
 -- `guess` makes no pattern of a NaN. Assumes nothing.
-use Rattle.std.proofs.Common.{arith, rules}
+use Rattle.std.proofs.Common.{arith}
 use lib.Ieee.{binary64}
 use Rattle.model.proofs.Bits.{below-infinity}
 use Rattle.root64.proofs.guess.Goals as goal

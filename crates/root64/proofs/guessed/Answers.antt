@@ -1,5 +1,5 @@
 -- `guessed` meets its contract. Assumes nothing.
-use Rattle.std.proofs.Common.{◌≡◌, ℕ, ◌+◌, ◌*◌, ◌<◌, ◌≤◌, sym, subst, arith, rules}
+use Rattle.std.proofs.Common.{◌≡◌, ℕ, ◌+◌, ◌*◌, ◌<◌, ◌≤◌, sym, subst, arith}
 use lib.Ieee.{binary64, of_bits}
 use Rattle.model.specs.Root.{root}
 use Rattle.model.proofs.Bits.{not-nan}
@@ -24,10 +24,10 @@ pub returns-then-r-eq0 : goal.returns-then-r-eq0
 returns-then-r-eq0 c = λ z. absurd (omega arith)
 
 pub overflow_add-result : goal.overflow_add-result
-overflow_add-result c = let start = c.before.before.before.before in
-    let t = (told start.args.b c.behind-r.result start.requires.0 start.requires.1 c.behind-r.ensures (omega arith)).0 in
+overflow_add-result c =
+    let t = (told c.args.b c.behind-r.result c.requires.0 c.requires.1 c.behind-r.ensures (omega arith)).0 in
     record { fits = omega arith }
 
 pub returns : goal.returns
-returns c = let start = c.before.before.before.before in
-    λ z. told start.args.b c.behind-r.result start.requires.0 start.requires.1 c.behind-r.ensures (omega arith)
+returns c =
+    λ z. told c.args.b c.behind-r.result c.requires.0 c.requires.1 c.behind-r.ensures (omega arith)

@@ -1,5 +1,5 @@
 -- `lower` meets its contract. Assumes nothing.
-use Rattle.std.proofs.Common.{◌*◌, ◌/◌, ◌%◌, ◌∙◌, arith, rules}
+use Rattle.std.proofs.Common.{◌*◌, ◌/◌, ◌%◌, ◌∙◌, arith}
 use Rattle.root64.proofs.Neighbours.{by-halves, products-fit, lower_word}
 use Rattle.root64.proofs.lower.Goals as goal
 
@@ -18,5 +18,5 @@ overflow_add-xh c = let p = products-fit c.args.x c.args.y c.requires.0 c.requir
 pub returns : goal.returns
 returns c = let x = c.args.x in
     let y = c.args.y in
-    c.wrapping_add_u64.ensures
+    c.wrapping_add_u64.ensures.value
     ∙ lower_word (x * y) (x / 4294967296 * (y / 4294967296)) (x / 4294967296 * (y % 4294967296)) (x % 4294967296 * (y / 4294967296)) (x % 4294967296 * (y % 4294967296)) (by-halves x y)

@@ -1,5 +1,5 @@
 -- `near` meets its contract. Assumes nothing.
-use Rattle.std.proofs.Common.{◌*◌, rules}
+use Rattle.std.proofs.Common.{◌*◌}
 use Rattle.root64.proofs.Pairs.{left_up, left_down}
 use Rattle.root64.proofs.near.Goals as goal
 

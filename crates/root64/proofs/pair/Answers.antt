@@ -1,5 +1,4 @@
 -- `pair` meets its contract. Assumes nothing.
-use Rattle.std.proofs.Common.{rules}
 use Rattle.root64.proofs.Pairs.{pair-in, pair-out}
 use Rattle.root64.proofs.pair.Goals as goal
 

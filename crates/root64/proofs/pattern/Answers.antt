@@ -1,5 +1,5 @@
 -- `pattern` meets its contract. Assumes nothing.
-use Rattle.std.proofs.Common.{◌≡◌, ℕ, ◌+◌, ◌-◌, ◌*◌, ◌/◌, ◌^◌, ◌<◌, ◌≤◌, sym, ap, ◌∙◌, subst, arith, rules}
+use Rattle.std.proofs.Common.{ℕ, ◌-◌, ◌*◌, ◌^◌, ◌<◌, ◌≤◌, sym, ap, ◌∙◌, subst, arith}
 use lib.Ieee.{binary64}
 use Rattle.model.specs.Root.{root_units}
 use Rattle.model.proofs.Root.Law.{gap, shifted, low_bits, mid-bits}

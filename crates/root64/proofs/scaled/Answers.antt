@@ -1,5 +1,5 @@
 -- `scaled` meets its contract, by the law of an even exponent split off. Assumes nothing.
-use Rattle.std.proofs.Common.{◌≡◌, ℕ, ◌+◌, ◌-◌, ◌*◌, ◌/◌, ap, ◌∙◌, arith, rules}
+use Rattle.std.proofs.Common.{ℕ, ◌+◌, ◌-◌, ◌*◌, ◌/◌, ap, ◌∙◌, arith}
 use lib.Ieee.{binary64, of_bits}
 use Rattle.model.proofs.Root.Law.{law-range}
 use Rattle.root64.proofs.Single.{even-64, odd-64, odd-range-64}

@@ -1,0 +1,6 @@
+-- `rotation::nlerp` meets its contract, by what its callees ensure. Assumes nothing.
+use borrow.Author.Rules.{rules}
+use Rattle.ground.proofs.rotation.nlerp.Goals as goal
+
+pub returns : goal.returns
+returns c = simp c.reciprocal_of_root-k.ensures

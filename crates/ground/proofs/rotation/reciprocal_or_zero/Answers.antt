@@ -1,0 +1,8 @@
+-- `rotation::reciprocal_or_zero` meets its contract, by its test. Assumes nothing.
+use Rattle.ground.proofs.rotation.reciprocal_or_zero.Goals as goal
+
+pub returns-then-m : goal.returns-then-m
+returns-then-m c = simp c.if-m.true
+
+pub returns-else-m : goal.returns-else-m
+returns-else-m c = simp c.if-m.false

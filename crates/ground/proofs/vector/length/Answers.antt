@@ -1,0 +1,6 @@
+-- `vector::length` meets its contract, by what its callees ensure. Assumes nothing.
+use borrow.Author.Rules.{rules}
+use Rattle.ground.proofs.vector.length.Goals as goal
+
+pub returns : goal.returns
+returns c = simp (c.root.ensures.is, c.dot.ensures)

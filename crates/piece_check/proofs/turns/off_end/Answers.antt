@@ -1,0 +1,14 @@
+-- `turns::off_end` meets its contract. Assumes nothing.
+use native.Mathlib.Omega.{arith}
+use borrow.Author.Rules.{rules}
+use Rattle.piece_check.proofs.turns.off_end.Goals as goal
+
+pub returns : goal.returns
+returns c = record {
+  upper = λ h. omega (arith, c.gap.ensures.upper (omega arith), c.inner-d.ensures.is);
+  lower = λ h. omega (
+    arith,
+    c.gap.ensures.lower (omega arith),
+    c.inner-d.ensures.is,
+  );
+}

@@ -1,0 +1,11 @@
+-- `report_counts::together::sums` meets its contract: the rows so far are sums, the others still the first list's. Assumes nothing.
+use Rattle.std.proofs.Common.{◌≡◌, ◌-◌, ◌≤◌, ◌++◌, length, take, drop, rules}
+use Rattle.report_counts.specs.Report.{sums}
+use Rattle.report_counts.proofs.Sums.{one_more, all-summed}
+use Rattle.report_counts.proofs.together.sums.Given as goal
+
+abbrev pub invariant-loop-i : goal.invariant-loop-i
+invariant-loop-i l = (l.i ≤ 28) × (length l.both ≡ 28) × (l.both ≡ take l.i (sums l.initial.both l.b) ++ drop l.i l.initial.both)
+
+abbrev pub decreases-loop-i : goal.decreases-loop-i
+decreases-loop-i l = 28 - l.i
