@@ -1,11 +1,7 @@
 -- Written by tests/written/wide.py from domain, in f64.
 -- `bad::bad_part` meets its contract: within the limit on either side is within it in size. Assumes nothing.
 use Rattle.domain64.proofs.Laws.{part-within}
-use Rattle.domain64.proofs.bad.bad_part.Statement.{statement}
-use Rattle.domain64.proofs.bad.bad_part.Tie as tie
+use Rattle.domain64.proofs.bad.bad_part.Goals as goal
 
-returns : tie.Need-returns
+pub returns : goal.returns
 returns c = part-within _
-
-pub bad-part-spec : {M : Type 1} → statement M
-bad-part-spec = tie.close (tie.spec returns)
