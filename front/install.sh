@@ -37,7 +37,7 @@ install() {
   put 644 "$work/built" libexec/foldflake/built
   put 644 docs/foldflake.1 share/man/man1/foldflake.1
   if [ "$(uname -m)" = x86_64 ]; then
-    rt staticlib foldflake > "$log" 2>&1 || fail "the static library is not proved: see $log"
+    tools/staticlib.sh > "$log" 2>&1 || fail "the static library is not proved: see $log"
     put 644 include/foldflake.h include/foldflake.h
     put 644 target/staticlib/libfoldflake.a lib/libfoldflake.a
     if command -v "${CC:-cc}" > /dev/null; then

@@ -1,6 +1,6 @@
 /* The entry points of libfoldflake.a, for C and C++ on x86-64 Linux; compiled as C99, C11 and C++17. docs/LIBRARY.md has them for Rust and Python too.
 
-   Compile and link, in the repository, after `rt staticlib foldflake`:
+   Compile and link, in the repository, after `tools/staticlib.sh`:
 
      cc -std=c11 -Iinclude -o program program.c target/staticlib/libfoldflake.a
 

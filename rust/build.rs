@@ -1,4 +1,4 @@
-// Links libfoldflake.a from FOLDFLAKE_LIB, or from ../target/staticlib, where `rt staticlib foldflake` puts it. Where it is not there, or the build is for
+// Links libfoldflake.a from FOLDFLAKE_LIB, or from ../target/staticlib, where `tools/staticlib.sh` puts it. Where it is not there, or the build is for
 // another machine, that is told and no folder is named: `cargo doc` and `cargo check` need none, and a build ends where rustc does not find the library.
 use std::path::Path;
 
@@ -16,7 +16,7 @@ fn main() {
     if !target.starts_with("x86_64") || !target.contains("linux") {
         println!("cargo:warning=libfoldflake.a is for x86-64 Linux programs, and this build is for {target}: give cargo --target x86_64-unknown-linux-gnu");
     } else if !Path::new(&archive).is_file() {
-        println!("cargo:warning=there is no {archive}: run `rt staticlib foldflake` in the repository, or set FOLDFLAKE_LIB to the folder that has it");
+        println!("cargo:warning=there is no {archive}: run `tools/staticlib.sh` in the repository, or set FOLDFLAKE_LIB to the folder that has it");
     } else {
         println!("cargo:rustc-link-search=native={folder}");
     }

@@ -24,7 +24,7 @@
 //! The proofs are for rounding to nearest with subnormal numbers kept: the floating-point environment has to be Rust's default. Calls keep nothing from one to
 //! the next, and may run in any number of threads at once.
 //!
-//! Programs link `libfoldflake.a`, which is for x86-64 Linux: `rt staticlib foldflake` in the repository writes it, and FOLDFLAKE_LIB names the folder that
+//! Programs link `libfoldflake.a`, which is for x86-64 Linux: `tools/staticlib.sh` in the repository writes it, and FOLDFLAKE_LIB names the folder that
 //! has it, where that is not `target/staticlib`. `cargo doc` and `cargo check` do without it.
 #![deny(missing_docs)]
 

@@ -5,7 +5,7 @@ set -euo pipefail
 cd "$(dirname "$0")/../.."
 . tests/programs/with.sh
 oracle/build.sh "$1" target/oracle
-rt staticlib foldflake > /dev/null
+tools/staticlib.sh > /dev/null
 mkdir -p target/link
 "${CC:-cc}" -std=c99 -Wall -Wextra -Werror -O2 -Iinclude -o target/link/corners tests/oracle/corners.c target/staticlib/libfoldflake.a
 target/oracle/oracle corners | $run target/link/corners

@@ -32,22 +32,22 @@ try() { # try NAME FILE WHAT-EXACT-DOES OLD NEW
     sed -i '/^pub mod Table$/d' crates/model/specs/Lib.antt
     for crate in crates/*; do case "${crate#crates/}" in model | integers | exact) ;; *) rm -r "$crate" ;; esac; done
     printf 'model:\nintegers:\nexact: model integers\n' > crates.txt
-    rt check exact
+    cd crates/exact && rt check
   ) > "$work/log" 2>&1 && verdict=passes || verdict=refused
   printf '%-20s exact %s\n' "$1" "$verdict"
   [ "$verdict" = passes ] || first_error
   [ "$verdict" = "$3" ] || { echo "    expected of exact: $3"; bad=1; }
   edited full "$2" "$4" "$5" || exit 1
-  if (cd "$work/full" && rt check distance) > "$work/log" 2>&1; then
+  if (cd "$work/full/crates/distance" && rt check) > "$work/log" 2>&1; then
     printf '%-20s the code passes\n' "$1"
   else
-    printf '%-20s %s\n' "$1" "$(sed -n 's/^rt: \([a-z_]*\) NOT PROVED.*/\1 refuses/p; s/^rt: FAILED: \([a-z_]*\).*/\1 refuses/p' "$work/log" | head -n 1)"
+    printf '%-20s %s\n' "$1" "$(sed -n 's/^fn \([a-z_]*\)::.*: n\(o proof\|ot proved\).*/\1 refuses/p' "$work/log" | head -n 1)"
     first_error
   fi
 }
 
 try e23-keeps-2-3 Simplex.antt refused \
-  'kept s on23 = solved (moved (weighEdge s 1 2) 0 2) 2' 'kept s on23 = solved (moved (moved (weighEdge s 1 2) 0 1) 1 2) 2'
+  'kept s on23 = solved (moved (weigh_edge s 1 2) 0 2) 2' 'kept s on23 = solved (moved (moved (weigh_edge s 1 2) 0 1) 1 2) 2'
 try support-takes-last Support.antt refused \
   '(cond (lt value v) i best) (cond (lt value v) v value)' '(cond (lt v value) best i) (cond (lt v value) value v)'
 try cache-on-touching Distance.antt refused \
@@ -59,7 +59,7 @@ try eighteen-rounds Distance.antt refused \
 try region-strictly Simplex.antt refused \
   'notAbove x = le x (Ground.zero f)' 'notAbove x = lt x (Ground.zero f)'
 try support-along-d Distance.antt refused \
-  'support f outlineB (inverseRotate f (pose .rotation) (negate d))' 'support f outlineB (inverseRotate f (pose .rotation) d)'
+  'support f outline_b (inverse_rotate f pose.rotation (negate d))' 'support f outline_b (inverse_rotate f pose.rotation d)'
 try settled-writes-one Distance.antt refused \
   'cacheBy Settled pair c r = written pair c (r .simplex) (r .count)' 'cacheBy Settled pair c r = written pair c (r .simplex) 1'
 exit $bad

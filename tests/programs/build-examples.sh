@@ -22,7 +22,7 @@ elif [ "$machine" != x86_64 ] && [ -z "${CARGO_BUILD_TARGET:-}" ]; then
 else
   kinds="$kinds rust"
 fi
-said="$(rt staticlib foldflake 2>&1)" || { echo "$said"; exit 1; }
+said="$(tools/staticlib.sh 2>&1)" || { echo "$said"; exit 1; }
 mkdir -p target/link
 for kind in $kinds; do
   case $kind in

@@ -16,7 +16,7 @@ page="$(find target/rust-alone -path '*/doc/foldflake/index.html' | head -n 1)"
 echo "cargo doc: $(find "$(dirname "$page")" -name '*.html' | wc -l) pages, without the archive"
 
 if cargo build "${manifest[@]}" 2> "$work/told"; then echo "WRONG: a build without the archive succeeds"; exit 1; fi
-grep -q -e 'there is no .*libfoldflake.a: run `rt staticlib foldflake`' -e 'libfoldflake.a is for x86-64 Linux programs' "$work/told" \
+grep -q -e 'there is no .*libfoldflake.a: run `tools/staticlib.sh`' -e 'libfoldflake.a is for x86-64 Linux programs' "$work/told" \
   || { cat "$work/told"; echo "WRONG: a build without the archive does not say why it ends"; exit 1; }
 echo "cargo build: ends, and says that the archive is missing"
 

@@ -36,7 +36,7 @@ fi
 calls=""
 if ! command -v "$cxx" > /dev/null; then
   echo "skipped: calls through the C library: no $cxx here"
-elif ! rt staticlib foldflake > "$out/staticlib.said" 2>&1; then
+elif ! tools/staticlib.sh > "$out/staticlib.said" 2>&1; then
   echo "skipped: calls through the C library: libfoldflake.a is not built, $out/staticlib.said says why"
 else
   calls="$out/box2d"; build() { "$cxx" -O2 -std=c++17 -Iinclude tests/speed/box2d.cpp target/staticlib/libfoldflake.a "$@" -o "$calls"; }

@@ -21,8 +21,8 @@ PROOFS = 'Domain Support Second Simplex DistanceCall Searches Sheet'.split()
 LITERALS = {'3.4028235e38': '1.7976931348623157e308', '1.1920929e-7': '2.220446049250313e-16'}
 # patterns of bits, in the files that work on them: there u32 is u64 besides
 PATTERNS = {'0x8000_0000': '0x8000_0000_0000_0000', '0x7f80_0000': '0x7ff0_0000_0000_0000', '0x7fc0_0000': '0x7ff8_0000_0000_0000',
-            '7FC00000': '7FF8000000000000', 'u32': 'u64'}
-BITS = {'ground/src/bits.rt', 'ground/src/scalar.rt'}
+            '7FC00000': '7FF8000000000000', 'u32': 'u64', '2139095040': '9218868437227405312', '2147483648': '9223372036854775808'}
+BITS = {'ground/src/bits.rt', 'ground/src/scalar.rt', 'ground/proofs/bits/from_bits/Answers.antt', 'ground/proofs/scalar/abs/Answers.antt'}
 # numbers of bytes, where they are named: a float has 16 digits
 ROOM = {'fields': [('float_room = 9', 'float_room = 17'), ('contact_room = 45', 'contact_room = 85'), ('CONTACT_ROOM: usize = 45', 'CONTACT_ROOM: usize = 85'),
                    ('eight digits', 'sixteen digits'), ('put_hex', 'put_wide_hex'), ('put-hex', 'put-wide-hex')],

@@ -22,8 +22,7 @@ use tell_moment::{tell_gap, tell_pose};
 use tell_route::tell_route;
 
 // The square root of every f32.
-#[unsafe(no_mangle)]
-pub extern "C" fn foldflake_root(x: f32) -> f32
+pub fn foldflake_root(x: f32) -> f32
     ensures { Rooted binary32 x result }
 {
     root::root(x)
@@ -31,8 +30,7 @@ pub extern "C" fn foldflake_root(x: f32) -> f32
 
 // The line of a block as block `number` of a file, at the start of out, and its length. 0, and nothing written, where the block has not 512
 // bytes, the number is 0 or above 2^63, or out has fewer than 240 bytes.
-#[unsafe(no_mangle)]
-pub extern "C" fn foldflake_line(number: u64, block: &[u8], out: &mut [u8]) -> usize
+pub fn foldflake_line(number: u64, block: &[u8], out: &mut [u8]) -> usize
     ensures { LineTold number block.now out.old out.new result }
 {
     if block.len() != 512 {
@@ -49,8 +47,7 @@ pub extern "C" fn foldflake_line(number: u64, block: &[u8], out: &mut [u8]) -> u
 // 16 overlapped, 17 hit, 18 separated, 19 failed; 255 where a list has the wrong length. From 16 to 19 the fraction, the point and the normal
 // stand in out; in counts the three counts, then of the last search the first and the second corner of A, and of B, FFFFFFFF where there is none. Else
 // nothing is written.
-#[unsafe(no_mangle)]
-pub extern "C" fn foldflake_sweep(
+pub fn foldflake_sweep(
     points_a: &[f32],
     points_b: &[f32],
     numbers: &[f32],
@@ -68,8 +65,7 @@ pub extern "C" fn foldflake_sweep(
 // first. The answer: a refusal, 1 to 6 or 12; 16 touching, 17 settled, 18 round limit, plus 256 times the rounds; 255 where a list has the wrong length
 // or the count is above 255. From 16 on the point of A, the point of B, the normal and the distance stand in out, and the cache is as the call leaves it;
 // else nothing is written.
-#[unsafe(no_mangle)]
-pub extern "C" fn foldflake_distance(
+pub fn foldflake_distance(
     points_a: &[f32],
     points_b: &[f32],
     numbers: &[f32],
@@ -85,16 +81,14 @@ pub extern "C" fn foldflake_distance(
 }
 
 // The square root of every f64.
-#[unsafe(no_mangle)]
-pub extern "C" fn foldflake_root64(x: f64) -> f64
+pub fn foldflake_root64(x: f64) -> f64
     ensures { Rooted binary64 x result }
 {
     root64::root(x)
 }
 
 // What `foldflake_sweep` is for f32, in f64.
-#[unsafe(no_mangle)]
-pub extern "C" fn foldflake_sweep64(
+pub fn foldflake_sweep64(
     points_a: &[f64],
     points_b: &[f64],
     numbers: &[f64],
@@ -108,8 +102,7 @@ pub extern "C" fn foldflake_sweep64(
 }
 
 // What `foldflake_distance` is for f32, in f64.
-#[unsafe(no_mangle)]
-pub extern "C" fn foldflake_distance64(
+pub fn foldflake_distance64(
     points_a: &[f64],
     points_b: &[f64],
     numbers: &[f64],
@@ -126,8 +119,7 @@ pub extern "C" fn foldflake_distance64(
 
 // The corners of a plate, by its half sizes, at the front of out: x y each, x negated at corners 1 and 3, y at 2 and 3. The answer: 32 built; 3 for
 // a half size, 15 where out has fewer than 8 numbers. Refused, nothing is written.
-#[unsafe(no_mangle)]
-pub extern "C" fn foldflake_plate(half_x: f32, half_y: f32, out: &mut [f32]) -> u32
+pub fn foldflake_plate(half_x: f32, half_y: f32, out: &mut [f32]) -> u32
     ensures { (result ≡ built_number (plate_told binary32 half_x half_y out.old))
         × (out.new ≡ plate_left binary32 half_x half_y out.old) }
 {
@@ -135,8 +127,7 @@ pub extern "C" fn foldflake_plate(half_x: f32, half_y: f32, out: &mut [f32]) -> 
 }
 
 // The corners of a bar, its ends a and b, in the same way: 3 for an end, 15 where out has fewer than 4 numbers.
-#[unsafe(no_mangle)]
-pub extern "C" fn foldflake_bar(ax: f32, ay: f32, bx: f32, by: f32, out: &mut [f32]) -> u32
+pub fn foldflake_bar(ax: f32, ay: f32, bx: f32, by: f32, out: &mut [f32]) -> u32
     ensures { (result ≡ built_number (bar_told binary32 (vector ax ay) (vector bx by) out.old))
         × (out.new ≡ bar_left binary32 (vector ax ay) (vector bx by) out.old) }
 {
@@ -147,13 +138,7 @@ pub extern "C" fn foldflake_bar(ax: f32, ay: f32, bx: f32, by: f32, out: &mut [f
 
 // The plate, each corner moved by a pose: its cosine, its sine and its translation. First of all 255 where the pose has not four numbers; 5 and 6 for
 // the pose come between 3 and 15.
-#[unsafe(no_mangle)]
-pub extern "C" fn foldflake_placed_plate(
-    half_x: f32,
-    half_y: f32,
-    pose: &[f32],
-    out: &mut [f32],
-) -> u32
+pub fn foldflake_placed_plate(half_x: f32, half_y: f32, pose: &[f32], out: &mut [f32]) -> u32
     ensures { PlacedTold (placed_plate_told binary32 half_x half_y) (placed_plate_left binary32 half_x half_y) pose.now
         out.old out.new result }
 {
@@ -165,8 +150,7 @@ pub extern "C" fn foldflake_placed_plate(
 }
 
 // The bar, moved by a pose in the same way.
-#[unsafe(no_mangle)]
-pub extern "C" fn foldflake_placed_bar(
+pub fn foldflake_placed_bar(
     ax: f32,
     ay: f32,
     bx: f32,
@@ -188,8 +172,7 @@ pub extern "C" fn foldflake_placed_bar(
 
 // The pose of a body at a fraction of its move, whose ten numbers are those of a block. The answer: a refusal, 5 to 7; 32, and then the cosine, the
 // sine and the translation stand in out; 255 where a list has the wrong length. Else nothing is written.
-#[unsafe(no_mangle)]
-pub extern "C" fn foldflake_pose(planned: &[f32], fraction: f32, out: &mut [f32]) -> u32
+pub fn foldflake_pose(planned: &[f32], fraction: f32, out: &mut [f32]) -> u32
     ensures { PoseTold planned.now fraction out.old out.new result }
 {
     if (planned.len() == 10) & (out.len() == 4) {
@@ -202,8 +185,7 @@ pub extern "C" fn foldflake_pose(planned: &[f32], fraction: f32, out: &mut [f32]
 
 // How far apart two outlines are, without radii, at a fraction of their moves, ten numbers each. The answer: a refusal, 1 to 3 or 5 to 7; 32, and
 // then the distance stands in out; 255 where a list has the wrong length. Else nothing is written.
-#[unsafe(no_mangle)]
-pub extern "C" fn foldflake_gap(
+pub fn foldflake_gap(
     points_a: &[f32],
     move_a: &[f32],
     points_b: &[f32],
@@ -229,8 +211,7 @@ pub extern "C" fn foldflake_gap(
 // 33 waypoints, 17 for no outline or more than 32; 255 where a list has the wrong length. From 33 to 35 the fraction, the point and the normal stand in
 // out. In place the leg and the outline, both from 1, and the distance calls of all sweeps run; for 32 two zeros and the calls; for 16, 17 and 255
 // nothing is written.
-#[unsafe(no_mangle)]
-pub extern "C" fn foldflake_route(
+pub fn foldflake_route(
     cart: &[f32],
     waypoints: &[f32],
     stills: &[f32],
@@ -254,8 +235,7 @@ pub extern "C" fn foldflake_route(
 // the radii. The answer: 32 clear, 33 touch, 34 open; a refusal, 1 to 8, 7 also for a `from` that is not from 0 to the max fraction; 255 where a list has
 // the wrong length. From 32 to 34 two fractions stand in out: the end twice of clear; of touch up to where the way is clear, and where they are no farther
 // apart; of open up to where the way is clear, and the end. In pieces how many pieces of the way were tried. Else nothing is written.
-#[unsafe(no_mangle)]
-pub extern "C" fn foldflake_clearance(
+pub fn foldflake_clearance(
     points_a: &[f32],
     points_b: &[f32],
     numbers: &[f32],
@@ -274,8 +254,7 @@ pub extern "C" fn foldflake_clearance(
 // fractions stand in out: 1 twice of clear; of touch up to where the leg is clear, and where they are no farther apart; of open up to where the leg is clear,
 // and 1. In place the leg and the outline, both from 1, and the pieces of all pairs looked at; for 32 two zeros and the pieces; for 16, 17 and 255 nothing is
 // written.
-#[unsafe(no_mangle)]
-pub extern "C" fn foldflake_route_clearance(
+pub fn foldflake_route_clearance(
     cart: &[f32],
     waypoints: &[f32],
     stills: &[f32],

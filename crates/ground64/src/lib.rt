@@ -1,5 +1,7 @@
 // Written by tests/written/wide.py from ground, in f64.
 // The ground operations in f64. Each contract is the definition of the same operation in model/specs, at binary64.
+#![tactic(auto)]
+
 mod bits;
 mod pose;
 mod rotation;

@@ -45,11 +45,11 @@ use Rattle.model64.specs.Distance.{proxy_distance}
 use Rattle.model64.specs.declared.Pose.{Pose}
 use Rattle.model.specs.declared.SimplexCache.{SimplexCache}
 use Rattle.model64.specs.declared.Distance.{Distance}
-use Rattle.model64.specs.contracts.Pose as Pose
+use Rattle.model.specs.contracts.Pose as Pose
 use Rattle.model64.proofs.Pose.TheLaws as Pose'
 use Rattle.model.specs.contracts.SimplexCache as Cache
 use Rattle.model.proofs.SimplexCache.TheLaws as Cache'
-use Rattle.model64.specs.contracts.Distance as Dist
+use Rattle.model.specs.contracts.Distance as Dist
 use Rattle.model64.proofs.Distance.TheLaws as Dist'
 use Rattle.distance64.specs.contracts.proxy_distance.proxy_distance as core
 use Rattle.distance64.proofs.proxy_distance.proxy_distance.Symbol as core-def
@@ -275,5 +275,5 @@ proxy-distance-spec 𝓤 𝓛 𝓜 𝓡 =
     entered 𝓤 𝓛.H (triple_of 𝓛 f.signature (f.spec 𝓛 𝓜.mem 𝓡.run))
     (tables 𝓤 𝓛.H 𝓜 𝓡 code.env).C (tables 𝓤 𝓛.H 𝓜 𝓡 code.env).Λ #proxy-distance code.function (code.unfolded 𝓤 𝓛.H 𝓜 𝓡)
     (distance-meets 𝓛 𝓜.mem 𝓡.run (tables_of 𝓤 𝓛.H 𝓜 (tables 𝓤 𝓛.H 𝓜 𝓡 code.env))
-    (cited 𝓤 𝓛.H (Core 𝓛 𝓜.mem 𝓡.run) 𝓜 𝓡 code.env #core core-def.routine code.calls-distance64::proxy-distance::proxy-distance
+    (cited 𝓤 𝓛.H (Core 𝓛 𝓜.mem 𝓡.run) 𝓜 𝓡 code.env #core core-def.routine code.calls-distance::proxy-distance::proxy-distance
     (core-thm.met 𝓤 𝓛 𝓜 𝓡)))

@@ -41,7 +41,7 @@ use denote.Triple.Clauses.{ensured, lasts}
 use Rattle.model64.specs.Second.{support_answer}
 use Rattle.model64.specs.declared.Vector.{Vector}
 use Rattle.model.specs.declared.SupportAnswer.{SupportAnswer}
-use Rattle.model64.specs.contracts.Vector as Vec
+use Rattle.model.specs.contracts.Vector as Vec
 use Rattle.model64.proofs.Vector.TheLaws as Vec'
 use Rattle.model.specs.contracts.SupportAnswer as S
 use Rattle.model.proofs.SupportAnswer.TheLaws as S'
@@ -178,4 +178,4 @@ support-spec 𝓤 𝓛 𝓜 𝓡 =
     entered 𝓤 𝓛.H (triple_of 𝓛 support.signature (support.spec 𝓛 𝓜.mem 𝓡.run))
     (tables 𝓤 𝓛.H 𝓜 𝓡 code.env).C (tables 𝓤 𝓛.H 𝓜 𝓡 code.env).Λ #support code.function (code.unfolded 𝓤 𝓛.H 𝓜 𝓡)
     (support-meets 𝓛 𝓜.mem 𝓡.run (tables_of 𝓤 𝓛.H 𝓜 (tables 𝓤 𝓛.H 𝓜 𝓡 code.env))
-    (cited 𝓤 𝓛.H (Core 𝓛 𝓜.mem 𝓡.run) 𝓜 𝓡 code.env #core core-def.routine code.calls-outline64::support (core-thm.met 𝓤 𝓛 𝓜 𝓡)))
+    (cited 𝓤 𝓛.H (Core 𝓛 𝓜.mem 𝓡.run) 𝓜 𝓡 code.env #core core-def.routine code.calls-outline::support (core-thm.met 𝓤 𝓛 𝓜 𝓡)))

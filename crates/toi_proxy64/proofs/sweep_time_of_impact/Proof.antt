@@ -42,9 +42,9 @@ use denote.Triple.Clauses.{ensured, lasts}
 use Rattle.model64.specs.Corners.{sweep}
 use Rattle.model64.specs.declared.Sweep.{Sweep}
 use Rattle.model64.specs.declared.Swept.{Swept}
-use Rattle.model64.specs.contracts.Sweep as Sweep
+use Rattle.model.specs.contracts.Sweep as Sweep
 use Rattle.model64.proofs.Sweep.TheLaws as Sweep'
-use Rattle.model64.specs.contracts.Swept as Answer
+use Rattle.model.specs.contracts.Swept as Answer
 use Rattle.model64.proofs.Swept.TheLaws as Answer'
 use Rattle.sweep_toi64.specs.contracts.sweep_time_of_impact as core
 use Rattle.sweep_toi64.proofs.sweep_time_of_impact.Symbol as core-def
@@ -282,4 +282,4 @@ sweep-time-of-impact-spec 𝓤 𝓛 𝓜 𝓡 =
     entered 𝓤 𝓛.H (triple_of 𝓛 f.signature (f.spec 𝓛 𝓜.mem 𝓡.run))
     (tables 𝓤 𝓛.H 𝓜 𝓡 code.env).C (tables 𝓤 𝓛.H 𝓜 𝓡 code.env).Λ #sweep-time-of-impact code.function (code.unfolded 𝓤 𝓛.H 𝓜 𝓡)
     (sweep-meets 𝓛 𝓜.mem 𝓡.run (tables_of 𝓤 𝓛.H 𝓜 (tables 𝓤 𝓛.H 𝓜 𝓡 code.env))
-    (cited 𝓤 𝓛.H (Core 𝓛 𝓜.mem 𝓡.run) 𝓜 𝓡 code.env #core core-def.routine code.calls-sweep-toi64::sweep-time-of-impact (core-thm.met 𝓤 𝓛 𝓜 𝓡)))
+    (cited 𝓤 𝓛.H (Core 𝓛 𝓜.mem 𝓡.run) 𝓜 𝓡 code.env #core core-def.routine code.calls-sweep-toi::sweep-time-of-impact (core-thm.met 𝓤 𝓛 𝓜 𝓡)))

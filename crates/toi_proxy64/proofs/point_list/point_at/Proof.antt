@@ -1,5 +1,5 @@
 -- Written by tests/written/wide.py from toi_proxy, in f64.
--- `point_at` meets its contract: a walk of its MIR, by hand. The place of `points[i]` is 16 i past the list's pointer, and the whole record is read there.
+-- `point_at` meets its contract: a walk of its MIR, by hand. The place of `points[i]` is 8 i past the list's pointer, and the whole record is read there.
 -- Assumes nothing.
 use mathlib.Core.Path.{refl, sym}
 use Prim.Native.Nat.{ℕ, ◌<◌, ◌^◌}
@@ -39,7 +39,7 @@ use denote.Triple.Table.{entered}
 use denote.Triple.Walked.{says, needs, Stays, stay_none_slice, stay_none, walk_of, Goes-none_slice, Goes-none, Walks, ends_at, walked, walk_Meets}
 use denote.Exit.{yes}
 use Rattle.model64.specs.declared.Vector.{Vector}
-use Rattle.model64.specs.contracts.Vector as T
+use Rattle.model.specs.contracts.Vector as T
 use Rattle.model64.proofs.Vector.TheLaws as T'
 use Rattle.toi_proxy64.specs.Points.{no_point}
 use Rattle.toi_proxy64.specs.contracts.point_list.point_at.Key.{name as #point-at}
@@ -94,16 +94,16 @@ module _ {M : Type 1} {𝓤 : Ura M} (𝓛 : Logic 𝓤) (mem : Memory → SProp
         ) (length ys) ∷ vint w64 i ∷ []) _ $
         alloc1 ! (λ l₀. alloc1 ! (λ l₁. alloc1 ! (λ l₂. alloc1 ! (λ l₃. alloc1 ! (λ l₄. alloc1 ! (λ l₅. alloc0 ! $ params1 ! $
         pass1 ! (init ! 8 refl (tt, (tt, (record { fits = gn.0 }, tt)))) $ pass1 ! (init ! 6 refl (tt, record { fits = gi })) $ pass0 ! $
-        assigns ! (bin ! (load ! (from ! (stop !)) (look ! 6 refl)) (lit ! tt) (scaled_Fits i (length ys) 16 l gn.1)) (from ! (stop !)) (init ! 4 refl (
+        assigns ! (bin ! (load ! (from ! (stop !)) (look ! 6 refl)) (lit ! tt) (scaled_Fits i (length ys) 8 l gn.1)) (from ! (stop !)) (init ! 4 refl (
           tt,
-          scaled_Fits i (length ys) 16 l gn.1,
+          scaled_Fits i (length ys) 8 l gn.1,
         )) $
         assigns ! (bin ! (load ! (from ! (fld ! refl (stop !))) (look_in ! 8 (sub ! 0 refl (whole !)))) (load ! (from ! (stop !)) (look ! 4 refl)) tt)
         (from ! (stop !)) (init ! 2 refl (
           tt,
           tt,
         )) $
-        rewrite ! 2 (λ (p : ℕ). ‵ (fat full_share ty_ptr l₄ 0 (vptr b p))) (sym (place_is 16 o i)) refl $
+        rewrite ! 2 (λ (p : ℕ). ‵ (fat full_share ty_ptr l₄ 0 (vptr b p))) (sym (place_is 8 o i)) refl $
         move ! (13 ∷ []) $ fsplit ! $ fsplit ! $ move ! (1 ∷ []) $ fsplit ! $ move ! (16 ∷ []) $ split ! $ move ! (3 ∷ 0 ∷ []) $
         looks_slice ! tt T.the_row (Is T.the_row) (shows 𝓛 T.the_row) (LL.vals T.the_type T'.the_laws) (LL.tells T.the_type T'.the_laws)
         (LL.copy T.the_type T'.the_copy 𝓛) ys b o

@@ -54,7 +54,7 @@ use denote.Exit.{yes}
 use Rattle.model64.specs.Second.{support_answer}
 use Rattle.model64.specs.declared.Vector.{Vector}
 use Rattle.model.specs.declared.SupportAnswer.{SupportAnswer}
-use Rattle.model64.specs.contracts.Vector as P
+use Rattle.model.specs.contracts.Vector as P
 use Rattle.model64.proofs.Vector.TheLaws as P'
 use Rattle.model.specs.contracts.SupportAnswer as R
 use Rattle.model.proofs.SupportAnswer.TheLaws as R'
@@ -401,7 +401,7 @@ support-points-spec 𝓤 𝓛 𝓜 𝓡 =
     entered 𝓤 𝓛.H (triple_of 𝓛 f.signature (f.spec 𝓛 𝓜.mem 𝓡.run))
     (tables 𝓤 𝓛.H 𝓜 𝓡 code.env).C (tables 𝓤 𝓛.H 𝓜 𝓡 code.env).Λ #support-points code.function (code.unfolded 𝓤 𝓛.H 𝓜 𝓡)
     (support-points-meets 𝓛 𝓜.mem 𝓡.run (tables_of 𝓤 𝓛.H 𝓜 (tables 𝓤 𝓛.H 𝓜 𝓡 code.env))
-    (cited 𝓤 𝓛.H (Reads 𝓛 𝓜.mem 𝓡.run) 𝓜 𝓡 code.env #point-at reads-def.routine code.calls-toi-proxy64::point-list::point-at (reads-thm.met 𝓤 𝓛 𝓜 𝓡))
-    (cited 𝓤 𝓛.H (Takes 𝓛 𝓜.mem 𝓡.run) 𝓜 𝓡 code.env #take take-def.routine code.calls-toi-proxy64::point-list::take (take-thm.met 𝓤 𝓛 𝓜 𝓡))
-    (cited 𝓤 𝓛.H (Answers 𝓛 𝓜.mem 𝓡.run) 𝓜 𝓡 code.env #answer answer-def.routine code.calls-toi-proxy64::point-list::answer
+    (cited 𝓤 𝓛.H (Reads 𝓛 𝓜.mem 𝓡.run) 𝓜 𝓡 code.env #point-at reads-def.routine code.calls-toi-proxy::point-list::point-at (reads-thm.met 𝓤 𝓛 𝓜 𝓡))
+    (cited 𝓤 𝓛.H (Takes 𝓛 𝓜.mem 𝓡.run) 𝓜 𝓡 code.env #take take-def.routine code.calls-toi-proxy::point-list::take (take-thm.met 𝓤 𝓛 𝓜 𝓡))
+    (cited 𝓤 𝓛.H (Answers 𝓛 𝓜.mem 𝓡.run) 𝓜 𝓡 code.env #answer answer-def.routine code.calls-toi-proxy::point-list::answer
     (answer-thm.met 𝓤 𝓛 𝓜 𝓡)))
