@@ -1,19 +1,28 @@
--- `streams::fill` meets its contract: the count stays within the buffer, and what is left of it falls with each read. Assumes nothing.
-use Prim.Native.Nat.{◌≤◌, ◌-◌}
-use mathlib.Core.Path.{◌≡◌, sym}
-use borrow.Author.Rules.{rules}
-use lib.ListN.{length}
-use lib.Seq.{length-take-le}
+use Rattle.std.proofs.Common.{rules, arith, ◌≤◌, ◌<◌, ◌≡◌, length, take, ℕ, ◌+◌, ◌-◌, List, ◌++◌, slice_range, sym, ap, ◌∙◌, subst, le_refl, drop_at, length-take-le}
+use Rattle.std.proofs.lemmas.Slice.{take-put_mid_below}
+use Rattle.std.specs.Io.KnownBytes.{Consumes}
+use Rattle.std.proofs.KnownBytes.{Consumes-trans}
+use borrow.Rule.Slice.PartMut.{put_mid, post_of}
+use lib.Seq.{take-add, take-append-le}
 use Rattle.streams.proofs.fill.Goals as goal
 
-pub returns-then-got-lt0 : goal.returns-then-got-lt0
-returns-then-got-lt0 c = (search rules, sym (length-take-le _ _ (search rules)))
+-- what was there before the place and what was read from it on are what stands there now
+take_split : (a b : ℕ) (old new : List ℕ) → a ≤ b → take a new ≡ take a old → take a old ++ slice_range new a b ≡ take b new
+take_split a b old new h front =
+    let same : a + (b - a) ≡ b = omega arith in
+    ap (λ l. l ++ slice_range new a b) (sym front) ∙ sym (take-add a (b - a) new) ∙ ap (λ n. take n new) same
 
-pub returns-then-n-eq0 : goal.returns-then-n-eq0
-returns-then-n-eq0 c = (search rules, sym (length-take-le _ _ (search rules)))
+slice_range-put_mid : (a k n : ℕ) (xs ys : List ℕ) → a ≤ length xs → n ≤ length ys → slice_range (put_mid a k xs ys) a (a + n) ≡ take n ys
+slice_range-put_mid a k n xs ys within fits =
+    let same : (a + n) - a ≡ n = omega arith in
+    let after = post_of a k xs in
+    ap (take ((a + n) - a)) (drop_at (take a xs) (ys ++ after) a (length-take-le a xs within)) ∙ ap (λ m. take m (ys ++ after)) same ∙ take-append-le n ys after fits
 
-pub returns-then-n-buf : goal.returns-then-n-buf
-returns-then-n-buf c = (search rules, sym (length-take-le _ _ (search rules)))
-
-pub returns : goal.returns
-returns c = (search rules, sym (length-take-le _ _ (search rules)))
+pub loop-count-preserved : goal.loop-count-preserved
+loop-count-preserved g c =
+    let from = c.loop-count.count in
+    let room = length c.loop-count.buf - from in
+    let within = c.loop-count.invariant.0 in
+    let part = slice_range-put_mid from room c.in-Ok.n c.loop-count.buf c.read.new.buf within c.in-Ok.ensures.bound.0 in
+    let joined = take_split from (from + c.in-Ok.n) c.loop-count.buf (put_mid from room c.loop-count.buf c.read.new.buf) (omega arith) (take-put_mid_below _ _ _ _ _ (le_refl _) within) in
+    (search rules, search rules, subst (Consumes _ _) (ap (λ l. take from c.loop-count.buf ++ l) (sym part) ∙ joined) (Consumes-trans _ _ _ _ _ c.loop-count.invariant.2 c.in-Ok.ensures.bytes.0))
