@@ -59,7 +59,7 @@ try eighteen-rounds Distance.antt refused \
 try region-strictly Simplex.antt refused \
   'notAbove x = le x (Ground.zero f)' 'notAbove x = lt x (Ground.zero f)'
 try support-along-d Distance.antt refused \
-  'support f outline_b (inverse_rotate f (pose .rotation) (negate d))' 'support f outline_b (inverse_rotate f (pose .rotation) d)'
+  'support f outline_b (inverse_rotate f pose.rotation (negate d))' 'support f outline_b (inverse_rotate f pose.rotation d)'
 try settled-writes-one Distance.antt refused \
   'cacheBy Settled pair c r = written pair c (r .simplex) (r .count)' 'cacheBy Settled pair c r = written pair c (r .simplex) 1'
 exit $bad

@@ -15,14 +15,14 @@ HALF = 512  # the checker takes no 1,024 arms in one function
 
 CODE = """\
 // Made by tests/written/root_list.py of the table in root_list: its entries as the arms of a `match`, of which the back end makes a read-only table.
-ghost use mathlib.Core.Path.{{_≡_}};
-ghost use Prim.Native.Nat.{{_≤_, _<_}};
-ghost use lib.ListN.{{getD}};
-ghost use Rattle·root_list.specs.Guesses.{{guesses}};
+#![tactic(auto)]
+
+ghost use Rattle.std.specs.Prelude.{{◌≡◌, ◌≤◌, ◌<◌, get_or}};
+ghost use Rattle.root_list.specs.Guesses.{{guesses}};
 
 fn lower(k: u64) -> u32
-    requires {{ ⌜ k < 512 ⌝ }}
-    ensures {{ λ r. ⌜ r ≡ getD guesses k 0 ⌝ }}
+    requires {{ k < 512 }}
+    ensures {{ result ≡ get_or guesses k 0 }}
 {{
     match k {{
 {lower}
@@ -31,8 +31,8 @@ fn lower(k: u64) -> u32
 }}
 
 fn upper(k: u64) -> u32
-    requires {{ ⌜ 512 ≤ k ⌝ }}
-    ensures {{ λ r. ⌜ r ≡ getD guesses k 0 ⌝ }}
+    requires {{ 512 ≤ k }}
+    ensures {{ result ≡ get_or guesses k 0 }}
 {{
     match k {{
 {upper}
@@ -42,7 +42,7 @@ fn upper(k: u64) -> u32
 
 // Entry k of the table, and 0 past its end. In halves, since the checker takes no 1,024 arms in one function.
 pub fn guess(k: u64) -> u32
-    ensures {{ λ r. ⌜ r ≡ getD guesses k 0 ⌝ }}
+    ensures {{ result ≡ get_or guesses k 0 }}
 {{
     if k < 512 {{ lower(k) }} else {{ upper(k) }}
 }}
@@ -50,8 +50,7 @@ pub fn guess(k: u64) -> u32
 LIST = """\
 -- Made by tests/written/root_list.py of the table in src/lib.rt: the first guesses, for contracts and proofs to name. Entry k is the largest whole number
 -- whose square is at most k * 2 ^ 38: proofs/Rule.antt.
-use Prim.Native.Nat.{{ℕ}}
-use mathlib.Core.List.{{List, [], _∷_}}
+use Rattle.std.specs.Prelude.{{ℕ, List, [], ◌∷◌}}
 
 abbrev pub guesses : List ℕ
 guesses =
@@ -60,37 +59,25 @@ guesses =
 """
 PROOF = """\
 -- Made by tests/written/root_list.py. `{name}` answers the list's entry: in each arm by looking it up, and {rest}. Assumes nothing.
-{uses}use Rattle·root_list.specs.Guesses.{{guesses}}
-use Rattle·root_guess·proofs.proofs.Keys.{{at-key, past-keys}}
-use Rattle·root_guess·proofs.proofs.{name}.Statement.{{statement}}
-use Rattle·root_guess·proofs.proofs.{name}.Tie as tie
+{uses}use Rattle.root_list.specs.Guesses.{{guesses}}
+use Rattle.root_guess.proofs.Keys.{{at_key, past-keys}}
+use Rattle.root_guess.proofs.{name}.Goals as goal
 
-{answers}
-pub {name}-spec : {{M : Type 1}} → statement M
-{name}-spec =
-    tie.close
-    (tie.spec
-{needs})
-"""
-ANSWER = "{need} : tie.Need-{need}\n{need} c = {term}\n"
+{answers}"""
+ANSWER = "pub {goal} : goal.{goal}\n{goal} c = {term}\n"
 # of each half: what holds in the last arm, where no key fitted, and by what
 LAST = {
     "lower": (
         "there is no other",
         "use native.Mathlib.Omega.{arith}\n",
-        "let past = past-keys 0 512 (c .before .args .k) (omega arith) (c .match .rest) in absurd (omega arith)",
+        "let past = past-keys 0 512 c.args.k (omega arith) c.in_default.in_default-own.rest in absurd (omega arith)",
     ),
     "upper": (
         "past them because no entry is left",
-        "use Rattle·root_list.proofs.Rule.{past-end}\n",
-        "past-end guesses _ (past-keys 512 512 (c .before .args .k) (c .before .pre) (c .match .rest))",
+        "use Rattle.root_list.proofs.Rule.{past_end}\n",
+        "past_end guesses _ (past-keys 512 512 c.args.k c.requires c.in_default.in_default-own.rest)",
     ),
 }
-
-
-def returns(place):
-    """The name that the checker gives the need at this place, counted from 0."""
-    return "returns" if place == 0 else f"returns-{place + 1}"
 
 
 def arms(table, first):
@@ -99,14 +86,9 @@ def arms(table, first):
 
 def proof(name, first):
     rest, uses, last = LAST[name]
-    terms = [f"at-key guesses _ {first + place} (c .match .keys{place + 1})" for place in range(HALF)] + [last]
-    return PROOF.format(
-        name=name,
-        rest=rest,
-        uses=uses,
-        answers="\n".join(ANSWER.format(need=returns(place), term=term) for place, term in enumerate(terms)),
-        needs="\n".join("    " + returns(place) for place in range(len(terms))),
-    )
+    terms = {f"returns-in-{k}": f"at_key guesses _ {k} c.in-{k}.is" for k in range(first, first + HALF)}
+    terms["returns-in_default"] = last
+    return PROOF.format(name=name, rest=rest, uses=uses, answers="\n".join(ANSWER.format(goal=goal, term=term) for goal, term in terms.items()))
 
 
 def written(table):
@@ -114,8 +96,8 @@ def written(table):
     return {
         "root_list/specs/Guesses.antt": LIST.format(rows=rows),
         "root_guess/src/lib.rt": CODE.format(lower=arms(table, 0), upper=arms(table, HALF)),
-        "root_guess/proofs/lower/Proof.antt": proof("lower", 0),
-        "root_guess/proofs/upper/Proof.antt": proof("upper", HALF),
+        "root_guess/proofs/lower/Answers.antt": proof("lower", 0),
+        "root_guess/proofs/upper/Answers.antt": proof("upper", HALF),
     }
 
 

@@ -3,7 +3,7 @@ use mathlib.Core.Path.{◌≡◌, refl, ap, ◌∙◌, subst}
 use mathlib.Core.Logic.{inl, inr}
 use mathlib.Core.Bool.{Bool, true, false, ◌&&◌, ◌||◌, cond}
 use mathlib.Core.List.{List, [], ◌∷◌}
-use Prim.Native.Nat.{ℕ, zero, suc, ◌+◌, ◌/◌, ◌<◌}
+use Prim.Native.Nat.{ℕ, suc, ◌+◌, ◌/◌, ◌<◌}
 use native.Mathlib.Omega.{arith}
 use lib.Dec.{T, eqb, eqb_refl, lit<}
 use lib.ListN.{length}
@@ -27,7 +27,7 @@ use Rattle.model.specs.Simplex.{slot, solved, solve}
 use Rattle.model.specs.Distance.{held, vertex, touches, ended, support_a, support_b, extended, max_iterations, rounds_from}
 use Rattle.plane.specs.Plane.{Point, opposite, turned_back, dot}
 use Rattle.exact.specs.SquaredPaper.{SquaredPaper, Room, bound_of}
-use Rattle.circles.specs.NoCircles.{State, kept, GoesOn, start, next, rounds_of, Reaches, first, then, Nearer, NoCircles, NoCirclesWithin, MadeAreCounted}
+use Rattle.circles.specs.NoCircles.{State, GoesOn, start, next, rounds_of, Reaches, first, then, Nearer, NoCircles, NoCirclesWithin, MadeAreCounted}
 use Rattle.exact.proofs.Below.{below1, below2}
 use Rattle.exact.proofs.Vectors.{SizedPoint, weaken-point}
 use Rattle.exact.proofs.Kept.{Kept}

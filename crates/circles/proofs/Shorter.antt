@@ -6,7 +6,7 @@ use Prim.Native.Nat.{ℕ, ◌+◌, ◌≤◌, ◌<◌}
 use native.Mathlib.Omega.{arith}
 use Rattle.integers.specs.Signed.{Int, 0Int, of_nat, neg, ◌⊞◌, ◌⊟◌, ◌⊠◌, ◌≼◌, ◌≺◌, ◌≃◌}
 use Rattle.integers.specs.Polynomial.{var, ◌:+◌, ◌:-◌, ◌:*◌, negated}
-use Rattle.integers.proofs.Signed.{le-or-lt, ⊠-comm, ⊠-zero, ⊠-one, ⊠-cong, ⊠-cong-r, ⊠-square, ⊠-pos}
+use Rattle.integers.proofs.Signed.{le-or-lt, ⊠-comm, ⊠-zero, ⊠-one, ⊠-cong-r, ⊠-square, ⊠-pos}
 use Rattle.integers.proofs.Ring.{ring}
 use Rattle.plane.specs.Plane.{Point, scaled, dot, total, weighted_sum}
 use Rattle.plane.specs.Fraction.{◌≤ᶠ◌, ◌<ᶠ◌, ◌≃ᶠ◌}

@@ -1,6 +1,8 @@
 // Written by tests/written/wide.py from domain, in f64.
 // The checks of what a caller hands in, by the numbers of refusal 1 to 8 in their order, and 12. The caller takes each answer apart by `let .. else`,
 // and hands on the number.
+#![tactic(auto)]
+
 mod bad;
 
 ghost use Rattle.std.specs.Prelude.{◌≡◌};

@@ -19,7 +19,7 @@ use Rattle.model64.specs.declared.DistanceAnswer.TheVariants.{Measured as Measur
 use Rattle.model64.specs.declared.Distance.{Distance as Distance64}
 use Rattle.bridge.specs.Wide.{output64, answer64, distance64}
 use Rattle.bridge.proofs.Distance.{proxy-distance-same}
-use Rattle.exact.specs.SquaredPaper.{SquaredPaper, Room, outline_a, posed_b, Exact}
+use Rattle.exact.specs.SquaredPaper.{Room, outline_a, posed_b, Exact}
 use Rattle.round_limit.specs.RoundLimit.{EnoughRounds, most_rounds}
 use Rattle.exchange.specs.Exchange.{Exchanged, Alike}
 use Rattle.exact.proofs.Accepted.{accepted}

@@ -7,7 +7,7 @@ use Prim.Native.Nat.{ℕ, zero, suc}
 use native.Mathlib.Omega.{arith}
 use lib.Dec.{lit≤, lit<}
 use lib.IntN.{pos, negsuc}
-use lib.Ieee.{Float, binary32, binary64, of_bits, of_int, add, sub, mul, div, neg, lt, le, eq, round, is_nan}
+use lib.Ieee.{Float, binary64, of_bits, of_int, add, sub, mul, div, neg, lt, le, eq, round, is_nan}
 use Rattle.integers.specs.Signed.{◌⊠◌}
 use Rattle.model.specs.declared.SimplexCache.{SimplexCache}
 use Rattle.model.specs.declared.Ending.{Ending}
@@ -42,7 +42,7 @@ use Rattle.squared_sheets.proofs.Marked.{on-marked-paper, marked-in-domain}
 use Rattle.squared_sheets.proofs.Instances.{none, ours}
 use Rattle.squared_sheets.proofs.Instances as Sheets
 use Rattle.exact64.specs.Call.{bound, read, call}
-use Rattle.exact64.specs.Rounds.{State, GoesOn, start, next, Reaches, first, then, Nearer}
+use Rattle.exact64.specs.Rounds.{State, GoesOn, start, next, first, then, Nearer}
 use Rattle.exact64.proofs.Exact.{exact-wide, no-circles-wide}
 
 -- ---- the sheets

@@ -1,7 +1,6 @@
 -- The f64 call's own rounds go as `model`'s do, state by state (`bridge`), so what `circles` proves of those holds of these. Assumes nothing.
 use mathlib.Core.Path.{◌≡◌, refl, sym, ap, ◌∙◌, subst}
 use mathlib.Core.Logic.{inl, inr}
-use mathlib.Core.Bool.{Bool, false}
 use mathlib.Core.List.{List}
 use Prim.Native.Nat.{ℕ, suc, ◌+◌}
 use lib.Ieee.{Float, binary64}
@@ -10,7 +9,7 @@ use Rattle.model.specs.declared.Ending.{Ending}
 use Rattle.model.specs.declared.Ending.TheVariants.{Settled}
 use Rattle.model.specs.declared.Solved.{Solved}
 use Rattle.model.specs.Ground as Ground
-use Rattle.model.specs.Simplex.{slot, solve}
+use Rattle.model.specs.Simplex.{slot}
 use Rattle.model.specs.Distance.{support_a, support_b, vertex, max_iterations}
 use Rattle.model64.specs.declared.Pose.{Pose as Pose64}
 use Rattle.model64.specs.declared.Solved.{Solved as Solved64}

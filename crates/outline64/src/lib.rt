@@ -1,5 +1,7 @@
 // Written by tests/written/wide.py from outline, in f64.
 // Outlines as flat lists x0 y0 x1 y1 ..: their points, and which of them lies farthest along a direction.
+#![tactic(auto)]
+
 ghost use Rattle.std.specs.Prelude.{◌≡◌, ◌+◌, ◌*◌, ◌/◌, ◌<◌, get_or, length, drop};
 ghost use Rattle.std.specs.Float.{binary64, nan};
 ghost use Rattle.model64.specs.Support as Support;
@@ -47,9 +49,9 @@ struct Best {
 // The corners so far with corner i: what the corners behind it make of them is what the corners from it on make of those so far.
 fn taken(points: &[f64], direction: Vector, origin: Vector, best: Best, i: usize) -> Best
     requires { i < length points.now / 2 }
-    ensures value_value { Support.support_from binary64 direction origin (drop (2 * (i + 1)) points.now) (i + 1) result.first result.value
+    ensures first { Support.support_from binary64 direction origin (drop (2 * (i + 1)) points.now) (i + 1) result.first result.value
         ≡ Support.support_from binary64 direction origin (drop (2 * i) points.now) i best.first best.value }
-    ensures value_value_2 { Second.second_from binary64 direction origin (drop (2 * (i + 1)) points.now) (i + 1) result.second result.value
+    ensures second { Second.second_from binary64 direction origin (drop (2 * (i + 1)) points.now) (i + 1) result.second result.value
         ≡ Second.second_from binary64 direction origin (drop (2 * i) points.now) i best.second best.value }
 {
     let value = direction.x * (points[2 * i] - origin.x)

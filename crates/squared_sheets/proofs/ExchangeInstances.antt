@@ -7,7 +7,6 @@ use lib.Dec.{lit<, lit≤}
 use lib.IntN.{pos, negsuc}
 use lib.Ieee.{binary32, of_bits, of_int, add, sub, mul, div, neg, lt, le, eq, round}
 use Rattle.integers.specs.Signed.{of_nat, ◌⊠◌}
-use Rattle.integers.specs.Signed as Signed
 use Rattle.model.specs.declared.Ending.TheVariants.{Touching, Settled}
 use Rattle.model.specs.Ground.{abs}
 use Rattle.model.specs.Ground as Ground
@@ -15,7 +14,7 @@ use Rattle.model.specs.Root.{root}
 use Rattle.model.specs.Domain.{bad_parts}
 use Rattle.model.specs.Support.{support_from}
 use Rattle.model.specs.Simplex.{region2, region3, kept, solve_simplex2, solve_simplex3, solve}
-use Rattle.model.specs.Distance.{cache, all_below, replaced, held, vertex, start_simplex, rounds_from, witness_points, measure, proxy_distance}
+use Rattle.model.specs.Distance.{all_below, replaced, held, vertex, start_simplex, rounds_from, witness_points, measure, proxy_distance}
 use Rattle.plane.specs.Plane.{Point, opposite, turned}
 use Rattle.plane.specs.Fraction.{Place, ◌≈◌}
 use Rattle.exact.specs.SquaredPaper.{SquaredPaper, IsCache, Fits, InTheDomain}

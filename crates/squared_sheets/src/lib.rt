@@ -1,1 +1,3 @@
+#![tactic(auto)]
+
 // Sheets of squared paper, worked: instances that show that no theorem about them is empty. No code.
