@@ -6,11 +6,7 @@ use lib.ListN.{replicate}
 use Rattle.text.proofs.Pasted.{put-nothing}
 use Rattle.pack_lines.specs.Pack.{held}
 use borrow.Author.Rules.{rules}
-use Rattle.pack_lines.proofs.no_line.Statement.{statement}
-use Rattle.pack_lines.proofs.no_line.Tie as tie
+use Rattle.pack_lines.proofs.no_line.Goals as goal
 
-returns : tie.Need-returns
+pub returns : goal.returns
 returns c = ap (λ (l : List ℕ). held l 0 0) (put-nothing (replicate 855 0) 0).bytes
-
-pub no-line-spec : {M : Type 1} → statement M
-no-line-spec = tie.close (tie.spec returns)
