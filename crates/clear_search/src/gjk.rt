@@ -3,7 +3,7 @@
 //        .1                 a corner:   1 alone
 //       /  \                a side:     0 and 1, their weights by where the foot of the perpendicular lies
 //      0----2   + origin    a triangle: all three, where it holds the origin; else the side or the corner with the newest one that faces it
-use crate::plane::{Place, difference, dot, perp, scaled, size, sum, turned, turned_back};
+use crate::vectors::{Place, difference, dot, perp, scaled, size, sum, turned, turned_back};
 
 // No search goes on for longer.
 const MOST_ROUNDS: u64 = 40;

@@ -2,7 +2,7 @@
 ghost use Rattle.std.specs.Prelude.{◌≤◌};
 
 use crate::gjk::{Near, Pose, nearest};
-use crate::plane::{
+use crate::vectors::{
     Place, difference, dot, inverse_root, place_of, scaled, size, sum, whole, whole_vector,
 };
 use board::{GridJob, Grip, Proposal, Vector};

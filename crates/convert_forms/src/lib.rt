@@ -1,4 +1,6 @@
 // A batch converted part by part: each block that is not refused in the other form, and the numbers of those that are.
+#![tactic(auto)]
+
 ghost use Rattle.std.specs.Prelude.{◌≡◌, ◌+◌, ◌*◌, ◌/◌, ◌≤◌, ◌<◌, length};
 ghost use Rattle.model.specs.Block.{block_size};
 ghost use Rattle.model.specs.Parts.{count_limit};
@@ -36,7 +38,7 @@ fn other_form(bytes: &[u8]) -> [u8; 512]
     ensures { result ≡ other_form bytes.now }
 {
     let mut turned = [0u8; 512];
-    bytes::copy(bytes, &mut turned);
+    turned.copy_from_slice(bytes);
     let form = other_number(turned[6]);
     turned[6] = form;
     let check = 0xffff_ffff - block::sum_before(&turned, form);

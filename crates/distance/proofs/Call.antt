@@ -1,9 +1,8 @@
 -- The endings of `measure` and of `proxy_distance`, one law each. Assumes nothing.
-use Prim.Native.Nat.{ℕ, zero, suc}
-use native.Mathlib.Omega.{arith}
+use Prim.Native.Nat.{ℕ}
 use mathlib.Core.Bool.{Bool}
 use mathlib.Core.List.{List}
-use mathlib.Core.Path.{◌≡◌, refl, sym, ap, ◌∙◌}
+use mathlib.Core.Path.{◌≡◌, refl, ap, ◌∙◌}
 use lib.Ieee.{Float, Format}
 use Rattle.model.specs.declared.Vector.{Vector}
 use Rattle.model.specs.declared.Pose.{Pose}
@@ -17,9 +16,7 @@ use Rattle.model.specs.declared.Measurement.{Measurement}
 use Rattle.model.specs.declared.DistanceAnswer.TheVariants.{Measured, Refused}
 use Rattle.model.specs.declared.Distance.{Distance}
 use Rattle.model.specs.declared.Checked.{Checked}
-use Rattle.model.specs.declared.Checked.TheVariants as Checked
 use Rattle.model.specs.declared.CheckedPose.{CheckedPose}
-use Rattle.model.specs.declared.CheckedPose.TheVariants as CheckedPose
 use Rattle.model.specs.Ground.{origin}
 use Rattle.model.specs.Ground as Ground
 use Rattle.model.specs.Domain.{pair_refusal, pose_refusal, cache_refusal, or_else, checked, checked_pose, refusal_of_pose}

@@ -1,4 +1,6 @@
 // A report as text, in lent bytes.
+#![tactic(auto)]
+
 ghost use Rattle.std.specs.Prelude.{◌+◌, ◌<◌, ◌≤◌, ◌≡◌, [], length, get_or, take, drop};
 ghost use Rattle.text.specs.Put.{Put};
 ghost use Rattle.report_lines.specs.Text.{labels, row_text, rows_text, place_text, most_text, named_text, largest_text, text_in};

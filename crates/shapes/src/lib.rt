@@ -1,5 +1,7 @@
 // Outlines without typing corners: a plate from two half sizes, a bar from two ends, and both placed by a pose. The corners go to the front of a
 // lent list, x y each, and the rest of it stays; a refused build writes nothing.
+#![tactic(auto)]
+
 ghost use Rattle.std.specs.Prelude.{◌≡◌, [], ◌∷◌};
 ghost use Rattle.std.specs.Float.{binary32};
 ghost use Rattle.shapes.specs.Shapes as Shapes;

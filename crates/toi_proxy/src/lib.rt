@@ -1,4 +1,6 @@
 // A proxy record that refers to a lent list of coordinates, with its radius: thin functions that hand the list to the outlines' own.
+#![tactic(auto)]
+
 mod point_list;
 
 ghost use Rattle.std.specs.Prelude.{◌≡◌};

@@ -6,7 +6,7 @@ use lib.ListN.{length}
 use Rattle.text.proofs.Pasted.{put-nothing}
 use Rattle.text.proofs.Lengths.{roomy}
 use Rattle.job_text.specs.Job.{block_for}
-use Rattle.job_text.proofs.Built.{length-block-for}
+use Rattle.job_text.proofs.BlockBuilt.{length-block-for}
 use borrow.Author.Rules.{rules}
 use Rattle.pack_lines.proofs.end_line.Statement.{statement}
 use Rattle.pack_lines.proofs.end_line.Tie as tie

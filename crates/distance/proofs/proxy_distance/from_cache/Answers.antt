@@ -1,0 +1,5 @@
+-- `proxy_distance::from_cache` meets its contract, by what `cache_is_valid` ensures. Assumes nothing.
+use Rattle.distance.proofs.proxy_distance.from_cache.Goals as goal
+
+pub returns : goal.returns
+returns c = simp c.cache_is_valid.ensures

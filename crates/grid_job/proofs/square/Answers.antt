@@ -1,0 +1,11 @@
+-- `grid_job::square` meets its contract. Assumes nothing.
+use mathlib.Core.Path.{refl}
+use native.Mathlib.Nat.{mul-le-mul}
+use native.Mathlib.Omega.{arith}
+use Rattle.grid_job.proofs.square.Goals as goal
+
+pub overflow_mul-result : goal.overflow_mul-result
+overflow_mul-result c = omega (arith, mul-le-mul c.requires c.requires)
+
+pub returns : goal.returns
+returns c = (refl, omega (arith, mul-le-mul c.requires c.requires))

@@ -1,0 +1,6 @@
+-- `bar` meets its contract, by what its callees ensure. Assumes nothing.
+use borrow.Author.Rules.{rules}
+use Rattle.shapes.proofs.bar.Goals as goal
+
+pub returns : goal.returns
+returns c = rw c.bar_refusal-refused.ensures at c.build_two.ensures

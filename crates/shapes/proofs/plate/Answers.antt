@@ -1,0 +1,6 @@
+-- `plate` meets its contract, by what its callees ensure. Assumes nothing.
+use borrow.Author.Rules.{rules}
+use Rattle.shapes.proofs.plate.Goals as goal
+
+pub returns : goal.returns
+returns c = rw c.plate_refusal-refused.ensures at c.build_four.ensures
