@@ -6,9 +6,7 @@ use lib.Ieee.{Float, Format}
 use Rattle.model.specs.declared.Sweep.{Sweep}
 use Rattle.model.specs.declared.Pose.{Pose}
 use Rattle.model.specs.declared.Checked.{Checked}
-use Rattle.model.specs.declared.Checked.TheVariants as Checked
 use Rattle.model.specs.declared.CheckedPose.{CheckedPose}
-use Rattle.model.specs.declared.CheckedPose.TheVariants as CheckedPose
 use Rattle.model.specs.Ground as Ground
 use Rattle.model.specs.Domain.{pair_refusal, sweeps_refusal, fraction_refusal, or_else, checked, refusal}
 use Rattle.model.specs.Sweep.{transform_at}

@@ -1,4 +1,6 @@
 // One moment of planned moves: the pose of a body there, and how far apart two outlines are.
+#![tactic(auto)]
+
 ghost use Rattle.std.specs.Prelude.{◌≡◌};
 ghost use Rattle.std.specs.Float.{binary32};
 ghost use Rattle.at_fraction.specs.Moment as Moment;

@@ -1,5 +1,7 @@
 // The verdict on a job that stands on the grid: a loop that tries pieces of the move, each from where the last clear one ended, and looks for a touch where
 // pieces get short. What a piece or a touch says is proved where it is checked; here the pieces are joined.
+#![tactic(auto)]
+
 ghost use Rattle.std.specs.Prelude.{true, ◌≡◌, ◌+◌, ◌≤◌, ◌<◌, length};
 ghost use Rattle.board.specs.Board.{ClearBetween};
 ghost use Rattle.holding.specs.Grip.{TouchesAt};

@@ -18,7 +18,7 @@ use Rattle.wire.specs.Bytes.{word_bytes}
 use Rattle.block.proofs.Passed.{passed-good}
 use Rattle.model.specs.Text.{decimal, line}
 use Rattle.job_text.specs.Job.{place_of, words_of, word_count, hexes, job_line, word_at, first_words, sum_of_first, block_from, block_for, plain_block, is_job}
-use Rattle.job_text.proofs.Built.{length-first, length-block}
+use Rattle.job_text.proofs.BlockBuilt.{length-first, length-block}
 use Rattle.job_text.proofs.Read.{Bytes}
 use Rattle.job_text.proofs.RoundTrip.{its-line-is-a-job, block-text-block}
 

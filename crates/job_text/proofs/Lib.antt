@@ -1,4 +1,4 @@
-pub mod Built
+pub mod BlockBuilt
 pub mod Lines
 pub mod Passed
 pub mod Compared

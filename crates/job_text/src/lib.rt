@@ -1,4 +1,6 @@
 // A job's line and its block, each from the other; refusals as text, and how much of an input there is room for.
+#![tactic(auto)]
+
 mod block_line;
 mod build;
 mod job;

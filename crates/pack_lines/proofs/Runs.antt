@@ -15,7 +15,7 @@ use Rattle.pack_lines.specs.declared.Held.{Held}
 use Rattle.job_text.specs.Job.{block_for, is_job}
 use Rattle.job_text.specs.Room.{refusal, refusal_room, least}
 use Rattle.pack_lines.specs.Pack.{packed, complaint, Run, longer, line_ended, line_on, byte_more, run_over, used_bytes, run_in, Ends}
-use Rattle.job_text.proofs.Built.{length-block-for}
+use Rattle.job_text.proofs.BlockBuilt.{length-block-for}
 use Rattle.job_text.proofs.Fitting.{length-refusal}
 
 -- ---- one byte more

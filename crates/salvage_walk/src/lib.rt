@@ -1,5 +1,7 @@
 // A file walked from its start: each place whose 512 bytes pass is kept as a block, any other is skipped by one byte, and runs of skipped bytes are
 // told. It comes in parts; what is left behind the last whole 512 bytes is handed on, to the front of the next part.
+#![tactic(auto)]
+
 ghost use Rattle.std.specs.Prelude.{◌≡◌, ◌+◌, ◌*◌, ◌-◌, ◌≤◌, ◌<◌, true, length, take, drop};
 ghost use Rattle.model.specs.Block.{block_size};
 ghost use Rattle.model.specs.Blocks.{passes};
@@ -150,7 +152,8 @@ fn copy_rest(bytes: &[u8], at: usize) -> [u8; 512]
     ensures { take (length bytes.now - at) result ≡ drop at bytes.now }
 {
     let mut rest = [0u8; 512];
-    bytes::copy(&bytes[at..], &mut rest);
+    let left = bytes.len() - at;
+    rest[..left].copy_from_slice(&bytes[at..]);
     rest
 }
 

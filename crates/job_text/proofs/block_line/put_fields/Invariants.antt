@@ -1,0 +1,16 @@
+-- `job_text::block_line::put_fields` meets its contract: the words so far stand one after the other, and those left fall. Assumes nothing.
+use Rattle.std.proofs.Common.{◌≡◌, ◌+◌, ◌-◌, ◌*◌, ◌≤◌, length, sym, refl, ◌∙◌, le_antisymm, arith, rules}
+use Rattle.text.specs.Put.{Put}
+use Rattle.text.proofs.Pasted.{put-nothing}
+use Rattle.text.proofs.Lengths.{length-hex}
+use Rattle.model.specs.Wire.{byte, word}
+use Rattle.job_text.specs.Job.{place_of, words_of}
+use Rattle.job_text.specs.Pieces.{spaced}
+use Rattle.job_text.proofs.Lines.{fields-more}
+use Rattle.job_text.proofs.block_line.put_fields.Given as goal
+
+abbrev pub invariant-loop-j : goal.invariant-loop-j
+invariant-loop-j l = (l.j ≤ l.n) × (length l.out ≡ length l.initial.out) × (l.to ≡ l.at + 9 * l.j) × Put l.initial.out l.at (spaced (words_of l.block l.j)) l.out l.to
+
+abbrev pub decreases-loop-j : goal.decreases-loop-j
+decreases-loop-j l = l.n - l.j

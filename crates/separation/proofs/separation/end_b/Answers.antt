@@ -1,0 +1,8 @@
+-- `separation::end_b` meets its contract, by cases on the kind. Assumes nothing.
+use Rattle.separation.proofs.separation.end_b.Goals as goal
+
+pub returns-in-Points : goal.returns-in-Points
+returns-in-Points c = simp (c.in-Points.is, c.point.ensures)
+
+pub returns-in-FaceA : goal.returns-in-FaceA
+returns-in-FaceA c = simp (c.in-FaceA.is, c.point-in-FaceA.ensures)
