@@ -1,6 +1,5 @@
 -- `sweep_numbers::move_at` meets its contract, by what its callees ensure. Assumes nothing.
 use Rattle.model.specs.Work.{move_at}
-use borrow.Author.Rules.{rules}
 use Rattle.sweep_numbers.proofs.move_at.Goals as goal
 
 pub returns : goal.returns

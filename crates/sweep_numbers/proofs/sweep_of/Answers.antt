@@ -1,6 +1,5 @@
 -- `sweep_numbers::sweep_of` meets its contract, by what its callees ensure. Assumes nothing.
 use Rattle.model.specs.Work.{sweep_for}
-use borrow.Author.Rules.{rules}
 use Rattle.sweep_numbers.proofs.sweep_of.Goals as goal
 
 pub returns : goal.returns
