@@ -3,7 +3,6 @@ use Rattle.std.specs.Prelude.{ℕ, zero, suc, false, List, Float}
 use Rattle.std.specs.Float.{Format}
 use Rattle.model.specs.declared.Sweep.{Sweep}
 use Rattle.model.specs.declared.CheckedPose.{CheckedPose}
-use Rattle.model.specs.declared.CheckedPose.TheVariants as CheckedPose
 use Rattle.model.specs.Ground.{inverse_times}
 use Rattle.model.specs.Ground as Ground
 use Rattle.model.specs.Domain.{pair_refusal, sweeps_refusal, fraction_refusal, or_else}

@@ -1,4 +1,6 @@
 // The floats of a block, read from its bytes.
+#![tactic(auto)]
+
 ghost use Rattle.std.specs.Prelude.{◌≡◌, ◌≤◌, take, length};
 ghost use Rattle.model.specs.Work as Work;
 

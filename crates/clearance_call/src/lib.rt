@@ -1,4 +1,6 @@
 // A look at a planned move that a caller hands in as lists of numbers: what is out of the domain is refused as the sweep refuses it, all else gets its verdict.
+#![tactic(auto)]
+
 ghost use Rattle.std.specs.Prelude.{true, false, ◌≡◌, ◌+◌, ◌≤◌, length};
 ghost use Rattle.std.specs.Float.{binary32};
 ghost use Rattle.model.specs.Domain as Domain;

@@ -1,4 +1,6 @@
 // The verdict on a job that a caller hands in as lists of numbers: its numbers on the grid, the span to look at, and the loop over pieces.
+#![tactic(auto)]
+
 ghost use Rattle.std.specs.Prelude.{true, false, ◌≡◌, ◌+◌, ◌≤◌, ◌<◌};
 ghost use Rattle.planned.specs.Planned.{worth_of};
 ghost use Rattle.integers.specs.Signed.{0Int, of_nat, ◌≼◌};

@@ -1,10 +1,9 @@
 -- Written by tests/written/wide.py from distance, in f64.
 -- The endings of `measure` and of `proxy_distance`, one law each. Assumes nothing.
-use Prim.Native.Nat.{ℕ, zero, suc}
-use native.Mathlib.Omega.{arith}
+use Prim.Native.Nat.{ℕ}
 use mathlib.Core.Bool.{Bool}
 use mathlib.Core.List.{List}
-use mathlib.Core.Path.{◌≡◌, refl, sym, ap, ◌∙◌}
+use mathlib.Core.Path.{◌≡◌, refl, ap, ◌∙◌}
 use lib.Ieee.{Float, Format}
 use Rattle.model64.specs.declared.Vector.{Vector}
 use Rattle.model64.specs.declared.Pose.{Pose}
@@ -18,9 +17,7 @@ use Rattle.model64.specs.declared.Measurement.{Measurement}
 use Rattle.model64.specs.declared.DistanceAnswer.TheVariants.{Measured, Refused}
 use Rattle.model64.specs.declared.Distance.{Distance}
 use Rattle.model.specs.declared.Checked.{Checked}
-use Rattle.model.specs.declared.Checked.TheVariants as Checked
 use Rattle.model64.specs.declared.CheckedPose.{CheckedPose}
-use Rattle.model64.specs.declared.CheckedPose.TheVariants as CheckedPose
 use Rattle.model64.specs.Ground.{origin}
 use Rattle.model64.specs.Ground as Ground
 use Rattle.model.specs.Domain.{cache_refusal, or_else, checked}

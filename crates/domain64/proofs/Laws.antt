@@ -14,7 +14,7 @@ use lib.Ieee.{Float, nan, inf, fin, Format, binary64, up, down, le, neg, of_bits
 use lib.Ieee.Fits.{down_pos}
 use lib.ListN.{get_or, drop, length, drop_of_length-le}
 use lib.Seq.{drop-cons}
-use Rattle.model.specs.Ground.{constant, abs}
+use Rattle.model.specs.Ground.{abs}
 use Rattle.model64.specs.Domain.{limit, bad_part, bad_parts}
 
 -- ---- from -1,048,576 to 1,048,576

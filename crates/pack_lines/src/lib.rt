@@ -1,4 +1,6 @@
 // Lines to blocks, part by part, with the line that a part ends in carried on.
+#![tactic(auto)]
+
 ghost use Rattle.std.specs.Prelude.{◌≡◌, ◌+◌, ◌≤◌, ◌<◌, [], length, take};
 ghost use Rattle.text.specs.Put.{Put};
 ghost use Rattle.job_text.specs.Job.{longest_line};

@@ -2,9 +2,9 @@
 -- t = 2 g e / (4 g g + e). With u = 2 g - t the remainder of that division says that (t + u) (t + u) t is at most u e, and that this fails for t + 1.
 -- From the first, (g + t) (g + t) is at most n; from the second, the root is less than half a unit past g + t + 1. Assumes nothing.
 use mathlib.Core.Path.{◌≡◌, refl, sym, ap, ◌∙◌, subst}
-use Prim.Native.Nat.{ℕ, zero, suc, ◌+◌, ◌-◌, ◌*◌, ◌/◌, ◌%◌, ◌≤◌, ◌<◌}
-use native.Mathlib.Nat.{mul-add, add-mul, mul_comm, mul_assoc, mul_left_comm, mul-one, two-mul, add_assoc, add_comm, add_left_comm, mul-le-mul}
-use native.Mathlib.Nat.{mul-le-mul_left, mul-le-mul_right, le_trans, div-mul-le_self, div-lt_iff_lt-mul, lt-suc_self, lt_of_lt_of_le, add-sub_of_le}
+use Prim.Native.Nat.{ℕ, ◌+◌, ◌-◌, ◌*◌, ◌/◌, ◌≤◌, ◌<◌}
+use native.Mathlib.Nat.{mul-add, add-mul, mul_comm, mul_left_comm, mul-one, two-mul, add_assoc, mul-le-mul}
+use native.Mathlib.Nat.{mul-le-mul_left, mul-le-mul_right, div-mul-le_self, div-lt_iff_lt-mul, lt-suc_self}
 use native.Mathlib.Numerals.{add-one}
 use native.Mathlib.Decide.{dec_le}
 use native.Mathlib.Omega.{arith}

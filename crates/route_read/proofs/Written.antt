@@ -207,9 +207,9 @@ ways-read : (l : Line) → Ready l → (ws : List Way) → FitWays ws → Ready 
 unfolding ways_text over FitWays
 ways-read l r [] fit = r
 ways-read l (behind-cart b) (w ∷ ws) fit =
-    rw (over-then l (line_text At (way_words w)) (ways_text ws)) (ways-read _ (behind-way (way-line Cart l first_way w fit.0 b)) ws fit.1)
+    rw (over-then l (line_text At (way_words w)) (ways_text ws)) (ways-read (over l (line_text At (way_words w))) (behind-way (way-line Cart l first_way w fit.0 b)) ws fit.1)
 ways-read l (behind-way b) (w ∷ ws) fit =
-    rw (over-then l (line_text At (way_words w)) (ways_text ws)) (ways-read _ (behind-way (way-line At l next_way w fit.0 b)) ws fit.1)
+    rw (over-then l (line_text At (way_words w)) (ways_text ws)) (ways-read (over l (line_text At (way_words w))) (behind-way (way-line At l next_way w fit.0 b)) ws fit.1)
 
 still-line : (l : Line) → Done l → (s : List ℕ) → Fit s → Between Still (over l (line_text Still s))
 still-line l (no-still (behind-cart b)) s fit = open-line Cart Still l still_open still-behind-cart s fit b
@@ -220,7 +220,7 @@ stills-read : (l : Line) → Done l → (ss : List (List ℕ)) → FitStills ss 
 unfolding stills_text over FitStills
 stills-read l d [] fit = d
 stills-read l d (s ∷ ss) fit =
-    rw (over-then l (line_text Still s) (stills_text ss)) (stills-read _ (behind-still (still-line l d s fit.0)) ss fit.1)
+    rw (over-then l (line_text Still s) (stills_text ss)) (stills-read (over l (line_text Still s)) (behind-still (still-line l d s fit.0)) ss fit.1)
 
 done-is-route : (l : Line) → Done l → is_route l ≡ true
 done-is-route _ (no-still (behind-cart (ends n))) = refl

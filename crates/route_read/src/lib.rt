@@ -1,4 +1,6 @@
 // A text read part by part: the line that it is in, and what is kept of those before.
+#![tactic(auto)]
+
 ghost use Rattle.std.specs.Prelude.{◌≡◌};
 ghost use Rattle.route_read.specs.Read as Read;
 

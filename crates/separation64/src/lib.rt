@@ -1,5 +1,7 @@
 // Written by tests/written/wide.py from separation, in f64.
 // Moves and the separation function: along which axis two moving outlines are held apart, and how far apart they are along it at a time.
+#![tactic(auto)]
+
 mod separation;
 mod sweep;
 

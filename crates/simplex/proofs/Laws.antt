@@ -1,8 +1,7 @@
 -- The solvers' endings, one law each: which region the tests on the numbers tell, and what the stores of that region keep. Assumes nothing.
-use Prim.Native.Nat.{ℕ}
 use mathlib.Core.Bool.{Bool, true, false, ◌&&◌, cond}
 use mathlib.Core.List.{List}
-use mathlib.Core.Path.{◌≡◌, refl}
+use mathlib.Core.Path.{◌≡◌}
 use lib.Ieee.{Float, Format, add, mul, div, lt, le}
 use Rattle.model.specs.declared.Vector.{Vector}
 use Rattle.model.specs.declared.SimplexVertex.{SimplexVertex}

@@ -1,9 +1,8 @@
 -- Written by tests/written/wide.py from simplex, in f64.
 -- The solvers' endings, one law each: which region the tests on the numbers tell, and what the stores of that region keep. Assumes nothing.
-use Prim.Native.Nat.{ℕ}
 use mathlib.Core.Bool.{Bool, true, false, ◌&&◌, cond}
 use mathlib.Core.List.{List}
-use mathlib.Core.Path.{◌≡◌, refl}
+use mathlib.Core.Path.{◌≡◌}
 use lib.Ieee.{Float, Format, add, mul, div, lt, le}
 use Rattle.model64.specs.declared.Vector.{Vector}
 use Rattle.model64.specs.declared.SimplexVertex.{SimplexVertex}

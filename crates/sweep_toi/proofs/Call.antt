@@ -8,7 +8,6 @@ use Rattle.model.specs.declared.SweepTask.{SweepTask}
 use Rattle.model.specs.declared.SweepAnswer.TheVariants.{Refused}
 use Rattle.model.specs.declared.Swept.{Swept}
 use Rattle.model.specs.declared.Checked.{Checked}
-use Rattle.model.specs.declared.Checked.TheVariants as Checked
 use Rattle.model.specs.Domain.{pair_refusal, sweeps_refusal, fraction_refusal, slop_refusal, or_else, checked, refusal}
 use Rattle.model.specs.SweepToi.{sweep_task, sweep_by, sweep_time_of_impact}
 use Rattle.model.specs.Corners.{no_search, last_of, swept, advanced, searches_or_none, sweep}

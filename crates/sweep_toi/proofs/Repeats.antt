@@ -1,11 +1,11 @@
 -- A fixed state repeats: where a distance call leaves the time and the cache as they were, the calls that are left are this one again. Their counts add
 -- up, and nothing else changes. Assumes nothing.
 use Prim.{Unit}
-use Prim.Native.Nat.{ℕ, zero, suc, ◌+◌, ◌-◌, ◌*◌, ◌≤◌}
+use Prim.Native.Nat.{ℕ, zero, suc, ◌+◌, ◌*◌, ◌≤◌}
 use native.Mathlib.Nat.{add-mul, suc-mul}
 use native.Mathlib.Omega.{arith}
 use mathlib.Core.Bool.{Bool, true, false, cond}
-use mathlib.Core.List.{List, [], ◌∷◌, ◌++◌}
+use mathlib.Core.List.{List, [], ◌++◌}
 use mathlib.Core.Path.{◌≡◌, refl, sym, ap, subst, ◌∙◌}
 use lib.Ieee.{Float, Format, sub, lt, le}
 use Rattle.model.specs.declared.SimplexCache.{SimplexCache}
@@ -19,9 +19,9 @@ use Rattle.model.specs.declared.Corners.{Corners}
 use Rattle.model.specs.declared.SweepAnswer.{SweepAnswer}
 use Rattle.model.specs.Ground as Ground
 use Rattle.model.specs.Separation.{new_separation, evaluate, find_min_separation}
-use Rattle.model.specs.SweepToi.{counts, called, searched, stepped, hit, separated, failed, failed_at, PushEnd, ended, moved, onward}
+use Rattle.model.specs.SweepToi.{counts, called, searched, stepped, failed_at, PushEnd, ended, moved}
 use Rattle.model.specs.SweepToi.{closest_at, root_from, low, high, push_from, advance_by, advance_from}
-use Rattle.model.specs.Corners.{last_of, corners_at, afterwards, push_searches, searches_by, searches_from}
+use Rattle.model.specs.Corners.{last_of, push_searches, searches_by, searches_from}
 use Rattle.sweep_toi.specs.Repeats.{since, further}
 use Rattle.model.proofs.Searches.{last-append, last-of-repeat}
 

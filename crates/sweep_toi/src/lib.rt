@@ -1,4 +1,6 @@
 // The sweep: when, along two planned moves, two outlines come within the target distance.
+#![tactic(auto)]
+
 mod bracket;
 mod moment;
 mod sweep_toi;

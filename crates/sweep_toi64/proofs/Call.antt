@@ -9,7 +9,6 @@ use Rattle.model64.specs.declared.SweepTask.{SweepTask}
 use Rattle.model64.specs.declared.SweepAnswer.TheVariants.{Refused}
 use Rattle.model64.specs.declared.Swept.{Swept}
 use Rattle.model.specs.declared.Checked.{Checked}
-use Rattle.model.specs.declared.Checked.TheVariants as Checked
 use Rattle.model.specs.Domain.{or_else, checked, refusal}
 use Rattle.model64.specs.Domain.{pair_refusal, sweeps_refusal, fraction_refusal, slop_refusal}
 use Rattle.model64.specs.SweepToi.{sweep_task, sweep_by, sweep_time_of_impact}

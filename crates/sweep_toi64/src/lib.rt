@@ -1,5 +1,7 @@
 // Written by tests/written/wide.py from sweep_toi, in f64.
 // The sweep: when, along two planned moves, two outlines come within the target distance.
+#![tactic(auto)]
+
 mod bracket;
 mod moment;
 mod sweep_toi;

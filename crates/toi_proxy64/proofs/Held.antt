@@ -46,7 +46,7 @@ module _ (α : NamedLft) where
 
   -- what a proxy owns, and what its list owns
   abbrev pub Own : ToiProxy → Fml
-  Own d = Proxy.own d (proxy_val d ∷ [])
+  Own d = Proxy.own_val d (proxy_val d ∷ [])
 
   abbrev pub Lent : ToiProxy → Fml
   Lent d = (ShrSlice α.mir α.lft f64).own_val d.points (list_val d ∷ [])

@@ -1,5 +1,7 @@
 // Written by tests/written/wide.py from toi_proxy, in f64.
 // A proxy record that refers to a lent list of coordinates, with its radius: thin functions that hand the list to the outlines' own.
+#![tactic(auto)]
+
 mod point_list;
 
 ghost use Rattle.std.specs.Prelude.{◌≡◌};

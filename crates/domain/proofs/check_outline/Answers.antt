@@ -1,7 +1,6 @@
 -- `check_outline` meets its contract, by its tests and what its callees ensure. Assumes nothing.
 use mathlib.Core.Path.{sym, ◌∙◌}
 use Rattle.model.specs.Domain.{checked}
-use borrow.Author.Rules.{rules}
 use Rattle.domain.proofs.check_outline.Goals as goal
 
 pub returns-then-bad_outline : goal.returns-then-bad_outline

@@ -1,7 +1,6 @@
 -- `check_pose` meets its contract, by its tests and what its callees ensure. Assumes nothing.
 use mathlib.Core.Path.{sym, ◌∙◌}
 use Rattle.model.specs.Domain.{checked, checked_pose}
-use borrow.Author.Rules.{rules}
 use Rattle.domain.proofs.check_pose.Goals as goal
 
 pub returns-then-bad_rotation : goal.returns-then-bad_rotation

@@ -1,6 +1,5 @@
 -- `check_sweeps` meets its contract, by its tests and what its callees ensure. Assumes nothing.
 use Rattle.model.specs.Domain.{checked}
-use borrow.Author.Rules.{rules}
 use Rattle.domain.proofs.check_sweeps.Goals as goal
 
 pub returns-then-rotations : goal.returns-then-rotations

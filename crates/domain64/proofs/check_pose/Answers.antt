@@ -3,7 +3,6 @@
 use mathlib.Core.Path.{sym, ◌∙◌}
 use Rattle.model.specs.Domain.{checked}
 use Rattle.model64.specs.Domain.{checked_pose}
-use borrow.Author.Rules.{rules}
 use Rattle.domain64.proofs.check_pose.Goals as goal
 
 pub returns-then-bad_rotation : goal.returns-then-bad_rotation

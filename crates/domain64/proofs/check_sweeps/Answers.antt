@@ -1,7 +1,6 @@
 -- Written by tests/written/wide.py from domain, in f64.
 -- `check_sweeps` meets its contract, by its tests and what its callees ensure. Assumes nothing.
 use Rattle.model.specs.Domain.{checked}
-use borrow.Author.Rules.{rules}
 use Rattle.domain64.proofs.check_sweeps.Goals as goal
 
 pub returns-then-rotations : goal.returns-then-rotations

@@ -5,7 +5,6 @@ use Prim.Native.Nat.{ℕ, ◌+◌, ◌/◌}
 use native.Mathlib.Omega.{arith}
 use Rattle.root_list.proofs.Rule.{Guess, rule}
 use Rattle.root.proofs.Halley.{Guessed, Corrected, guessed, rounds-down, rounds-up}
-use borrow.Author.Rules.{rules}
 use Rattle.root.proofs.near.Reads as reads
 use Rattle.root.proofs.near.Lts as lts
 use Rattle.root.proofs.quotient.Reads as quotient-reads

@@ -1,6 +1,5 @@
 -- `pattern` meets its contract, by those of the two that it calls. Assumes nothing.
 use mathlib.Core.Path.{◌∙◌}
-use borrow.Author.Rules.{rules}
 use Rattle.root.proofs.pattern.Goals as goal
 
 pub returns : goal.returns

@@ -1,6 +1,5 @@
 -- `root` meets its contract. Assumes nothing.
 use mathlib.Core.Path.{◌≡◌, sym, ap, ◌∙◌, subst}
-use borrow.Author.Rules.{rules}
 use lib.Dec.{T}
 use lib.Ieee.{Float, binary32, fits}
 use mathlib.Core.Bool.{true}

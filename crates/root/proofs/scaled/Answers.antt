@@ -5,7 +5,6 @@ use native.Mathlib.Omega.{arith}
 use lib.Ieee.{binary32, of_bits}
 use Rattle.model.proofs.Root.Floor.{near_root}
 use Rattle.root.proofs.Exponent.{wide, wide-range, widened, near-range, split}
-use borrow.Author.Rules.{rules}
 use Rattle.root.proofs.scaled.Goals as goal
 
 pub near-requires : goal.near-requires

@@ -1,5 +1,4 @@
 -- `bar` meets its contract, by what its callees ensure. Assumes nothing.
-use borrow.Author.Rules.{rules}
 use Rattle.shapes.proofs.bar.Goals as goal
 
 pub returns : goal.returns

@@ -1,5 +1,4 @@
 -- `bar_refusal` meets its contract, by its test and what `bad_vector` ensures. Assumes nothing.
-use borrow.Author.Rules.{rules}
 use Rattle.shapes.proofs.bar_refusal.Goals as goal
 
 pub returns-then-bad_vector : goal.returns-then-bad_vector

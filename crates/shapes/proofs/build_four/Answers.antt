@@ -3,7 +3,6 @@ use native.Mathlib.Omega.{arith}
 use mathlib.Core.List.{[], ◌∷◌}
 use lib.ListN.{length-set}
 use Rattle.shapes.proofs.Endings.{refused, no_room, stored}
-use borrow.Author.Rules.{rules}
 use Rattle.shapes.proofs.build_four.Goals as goal
 
 pub returns-then-refused-ne0 : goal.returns-then-refused-ne0

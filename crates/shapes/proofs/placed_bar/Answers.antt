@@ -1,5 +1,4 @@
 -- `placed_bar` meets its contract, by what its callees ensure. Assumes nothing.
-use borrow.Author.Rules.{rules}
 use Rattle.shapes.proofs.placed_bar.Goals as goal
 
 pub returns : goal.returns

@@ -1,5 +1,4 @@
 -- `placed_plate` meets its contract, by what its callees ensure. Assumes nothing.
-use borrow.Author.Rules.{rules}
 use Rattle.shapes.proofs.placed_plate.Goals as goal
 
 pub returns : goal.returns

@@ -1,6 +1,5 @@
 -- `placed_refusal` meets its contract: a number above 0 comes first, and the pose's check tells its own number. Assumes nothing.
 use Rattle.shapes.proofs.Endings.{number-of-pose, own_first}
-use borrow.Author.Rules.{rules}
 use Rattle.shapes.proofs.placed_refusal.Goals as goal
 
 pub returns-then-own-ne0 : goal.returns-then-own-ne0

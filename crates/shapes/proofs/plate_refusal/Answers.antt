@@ -1,5 +1,4 @@
 -- `plate_refusal` meets its contract, by its test and what `bad_vector` ensures. Assumes nothing.
-use borrow.Author.Rules.{rules}
 use Rattle.shapes.proofs.plate_refusal.Goals as goal
 
 pub returns-then-bad_vector-half_x : goal.returns-then-bad_vector-half_x

@@ -1,5 +1,4 @@
 -- `bad::bad_centres` meets its contract, by what its callees ensure. Assumes nothing.
-use borrow.Author.Rules.{rules}
 use Rattle.domain.proofs.bad.bad_centres.Goals as goal
 
 pub returns : goal.returns

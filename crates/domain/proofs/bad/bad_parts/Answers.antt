@@ -1,11 +1,10 @@
 -- `bad::bad_parts` meets its contract. The invariant: a bad part was met, or what is left has one, just where the list has one. Assumes nothing.
-use Prim.Native.Nat.{◌+◌, ◌-◌, ◌≤◌}
+use Prim.Native.Nat.{◌+◌}
 use native.Mathlib.Omega.{arith}
 use mathlib.Core.Bool.{Bool, ◌||◌}
-use mathlib.Core.Path.{◌≡◌, sym, ap, ◌∙◌}
-use borrow.Author.Rules.{rules}
+use mathlib.Core.Path.{sym, ap, ◌∙◌}
 use lib.Ieee.{nan, binary32}
-use lib.ListN.{length, get_or, drop}
+use lib.ListN.{get_or, drop}
 use Rattle.model.specs.Domain.{bad_part, bad_parts}
 use Rattle.domain.proofs.Laws.{parts-step, parts-stop, either_way, nothing_yet}
 use Rattle.domain.proofs.bad.bad_parts.Goals as goal

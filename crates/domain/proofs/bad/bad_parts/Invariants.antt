@@ -1,13 +1,10 @@
 -- `bad::bad_parts` meets its contract. The invariant: a bad part was met, or what is left has one, just where the list has one. Assumes nothing.
-use Prim.Native.Nat.{◌+◌, ◌-◌, ◌≤◌}
-use native.Mathlib.Omega.{arith}
-use mathlib.Core.Bool.{Bool, ◌||◌}
-use mathlib.Core.Path.{◌≡◌, sym, ap, ◌∙◌}
-use borrow.Author.Rules.{rules}
-use lib.Ieee.{nan, binary32}
-use lib.ListN.{length, get_or, drop}
-use Rattle.model.specs.Domain.{bad_part, bad_parts}
-use Rattle.domain.proofs.Laws.{parts-step, parts-stop, either_way, nothing_yet}
+use Prim.Native.Nat.{◌-◌, ◌≤◌}
+use mathlib.Core.Bool.{◌||◌}
+use mathlib.Core.Path.{◌≡◌}
+use lib.Ieee.{binary32}
+use lib.ListN.{length, drop}
+use Rattle.model.specs.Domain.{bad_parts}
 use Rattle.domain.proofs.bad.bad_parts.Given as goal
 
 abbrev pub invariant-loop-i : goal.invariant-loop-i

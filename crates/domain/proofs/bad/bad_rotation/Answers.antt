@@ -1,5 +1,4 @@
 -- `bad::bad_rotation` meets its contract, by what `abs` ensures. Assumes nothing.
-use borrow.Author.Rules.{rules}
 use Rattle.domain.proofs.bad.bad_rotation.Goals as goal
 
 pub returns : goal.returns

@@ -1,5 +1,4 @@
 -- `bad::bad_vector` meets its contract, by what `bad_part` ensures. Assumes nothing.
-use borrow.Author.Rules.{rules}
 use Rattle.domain.proofs.bad.bad_vector.Goals as goal
 
 pub returns : goal.returns

@@ -1,6 +1,5 @@
 -- Written by tests/written/wide.py from domain, in f64.
 -- `bad::bad_centres` meets its contract, by what its callees ensure. Assumes nothing.
-use borrow.Author.Rules.{rules}
 use Rattle.domain64.proofs.bad.bad_centres.Goals as goal
 
 pub returns : goal.returns

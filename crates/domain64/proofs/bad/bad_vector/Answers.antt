@@ -1,6 +1,5 @@
 -- Written by tests/written/wide.py from domain, in f64.
 -- `bad::bad_vector` meets its contract, by what `bad_part` ensures. Assumes nothing.
-use borrow.Author.Rules.{rules}
 use Rattle.domain64.proofs.bad.bad_vector.Goals as goal
 
 pub returns : goal.returns

@@ -1,6 +1,5 @@
 -- `bits::from_bits` meets its contract: a magnitude above the infinity's is a NaN. Assumes nothing.
 use mathlib.Core.Path.{sym}
-use borrow.Author.Rules.{rules}
 use lib.Ieee.{binary32, div, of_bits}
 use Rattle.model.proofs.Bits.{pattern-nan, pattern-not-nan}
 use Rattle.ground.proofs.bits.from_bits.Goals as goal

@@ -1,5 +1,4 @@
 -- `pose::inv_mul` meets its contract, by what its callees ensure. Assumes nothing.
-use borrow.Author.Rules.{rules}
 use Rattle.ground.proofs.pose.inv_mul.Goals as goal
 
 pub returns : goal.returns

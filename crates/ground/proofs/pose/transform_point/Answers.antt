@@ -1,5 +1,4 @@
 -- `pose::transform_point` meets its contract, by what its callees ensure. Assumes nothing.
-use borrow.Author.Rules.{rules}
 use Rattle.ground.proofs.pose.transform_point.Goals as goal
 
 pub returns : goal.returns

@@ -1,5 +1,4 @@
 -- `rotation::nlerp` meets its contract, by what its callees ensure. Assumes nothing.
-use borrow.Author.Rules.{rules}
 use Rattle.ground.proofs.rotation.nlerp.Goals as goal
 
 pub returns : goal.returns

@@ -1,5 +1,4 @@
 -- `vector::distance` meets its contract, by what its callees ensure. Assumes nothing.
-use borrow.Author.Rules.{rules}
 use Rattle.ground.proofs.vector.distance.Goals as goal
 
 pub returns : goal.returns

@@ -1,5 +1,4 @@
 -- `vector::length` meets its contract, by what its callees ensure. Assumes nothing.
-use borrow.Author.Rules.{rules}
 use Rattle.ground.proofs.vector.length.Goals as goal
 
 pub returns : goal.returns

@@ -1,5 +1,4 @@
 -- `vector::lerp` meets its contract, by what its callees ensure. Assumes nothing.
-use borrow.Author.Rules.{rules}
 use Rattle.ground.proofs.vector.lerp.Goals as goal
 
 pub returns : goal.returns

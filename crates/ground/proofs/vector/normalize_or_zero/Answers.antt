@@ -1,5 +1,4 @@
 -- `vector::normalize_or_zero` meets its contract, by its test and what its callees ensure. Assumes nothing.
-use borrow.Author.Rules.{rules}
 use Rattle.ground.proofs.vector.normalize_or_zero.Goals as goal
 
 pub returns-then-r : goal.returns-then-r

@@ -1,7 +1,6 @@
 -- Written by tests/written/wide.py from ground, in f64.
 -- `bits::from_bits` meets its contract: a magnitude above the infinity's is a NaN. Assumes nothing.
 use mathlib.Core.Path.{sym}
-use borrow.Author.Rules.{rules}
 use lib.Ieee.{binary64, div, of_bits}
 use Rattle.model.proofs.Bits.{pattern-nan, pattern-not-nan}
 use Rattle.ground64.proofs.bits.from_bits.Goals as goal

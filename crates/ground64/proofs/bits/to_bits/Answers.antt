@@ -1,6 +1,5 @@
 -- Written by tests/written/wide.py from ground, in f64.
 -- `bits::to_bits` meets its contract: what differs from itself is NaN. Assumes nothing.
-use borrow.Author.Rules.{rules}
 use lib.Ieee.{to_bits}
 use Rattle.model.proofs.Bits.{differs-nan, not-nan}
 use Rattle.ground64.proofs.bits.to_bits.Goals as goal

@@ -1,7 +1,6 @@
 -- Written by tests/written/wide.py from ground, in f64.
 -- `rotation::reciprocal_of_root` meets its contract: of 1 it is 1, and of any other by what its callees ensure. Assumes nothing.
 use mathlib.Core.Path.{◌≡◌, sym, subst}
-use borrow.Author.Rules.{rules}
 use lib.Dec.{T}
 use lib.Ieee.{Float, binary64, fits}
 use mathlib.Core.Bool.{true}

@@ -1,6 +1,5 @@
 -- Written by tests/written/wide.py from ground, in f64.
 -- `vector::lerp` meets its contract, by what its callees ensure. Assumes nothing.
-use borrow.Author.Rules.{rules}
 use Rattle.ground64.proofs.vector.lerp.Goals as goal
 
 pub returns : goal.returns

@@ -1,6 +1,5 @@
 -- Written by tests/written/wide.py from ground, in f64.
 -- `vector::normalize_or_zero` meets its contract, by its test and what its callees ensure. Assumes nothing.
-use borrow.Author.Rules.{rules}
 use Rattle.ground64.proofs.vector.normalize_or_zero.Goals as goal
 
 pub returns-then-r : goal.returns-then-r

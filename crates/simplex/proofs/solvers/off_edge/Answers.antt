@@ -1,5 +1,4 @@
 -- `solvers::off_edge` meets its contract, by what its callees ensure. Assumes nothing.
-use borrow.Author.Rules.{rules}
 use Rattle.simplex.proofs.solvers.off_edge.Goals as goal
 
 pub returns : goal.returns

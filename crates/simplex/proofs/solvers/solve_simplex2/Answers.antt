@@ -3,7 +3,6 @@ use mathlib.Core.Path.{◌≡◌, refl}
 use lib.Ieee.{binary32, neg}
 use Rattle.model.specs.Simplex.{slot, near, far, solve_simplex2}
 use Rattle.simplex.proofs.Laws.{first-of-two, second-of-two, edge-of-two, keep-1, keep-2, keep-12}
-use borrow.Author.Rules.{rules}
 use Rattle.simplex.proofs.solvers.solve_simplex2.Goals as goal
 use Rattle.simplex.proofs.solvers.solve_simplex2.Goals.{After-dot-d12_1}
 use Rattle.simplex.proofs.solvers.solve_simplex2.Goals.{After-dot-d12_2}

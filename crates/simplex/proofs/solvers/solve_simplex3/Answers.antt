@@ -2,7 +2,6 @@
 use lib.Ieee.{binary32, neg, mul}
 use Rattle.model.specs.Simplex.{slot, solve_simplex3}
 use Rattle.simplex.proofs.Laws.{Told, at_1, on-12, on-13, at-2, at-3, on-23, within, keep-1, keep-2, keep-3, keep-12, keep-13, keep-23, keep_all}
-use borrow.Author.Rules.{rules}
 use Rattle.simplex.proofs.solvers.solve_simplex3.Goals as goal
 use Rattle.simplex.proofs.solvers.solve_simplex3.Goals.{After-perp_dot-3}
 

@@ -1,7 +1,6 @@
 -- `witness::witness_points` meets its contract, by its tests and what its callees ensure. Assumes nothing.
 use borrow.Author.Tests.{eq-eqb, ne_eqb}
 use Rattle.model.specs.Distance.{witness_points}
-use borrow.Author.Rules.{rules}
 use Rattle.simplex.proofs.witness.witness_points.Goals as goal
 
 pub returns-then-count-eq1 : goal.returns-then-count-eq1

@@ -2,7 +2,6 @@
 -- `solvers::solve` meets its contract, by its tests and what its callees ensure. Assumes nothing.
 use borrow.Author.Tests.{eq-eqb, ne_eqb}
 use Rattle.model64.specs.Simplex.{solve}
-use borrow.Author.Rules.{rules}
 use Rattle.simplex64.proofs.solvers.solve.Goals as goal
 
 pub returns-then-count-eq1 : goal.returns-then-count-eq1

@@ -3,7 +3,6 @@
 use lib.Ieee.{binary64, neg, mul}
 use Rattle.model64.specs.Simplex.{slot, solve_simplex3}
 use Rattle.simplex64.proofs.Laws.{Told, at_1, on-12, on-13, at-2, at-3, on-23, within, keep-1, keep-2, keep-3, keep-12, keep-13, keep-23, keep_all}
-use borrow.Author.Rules.{rules}
 use Rattle.simplex64.proofs.solvers.solve_simplex3.Goals as goal
 use Rattle.simplex64.proofs.solvers.solve_simplex3.Goals.{After-perp_dot-3}
 

@@ -1,0 +1,33 @@
+-- Written by tests/written/wide.py from distance, in f64.
+-- `cache::all_below` meets its contract. The invariant: the flag tells of the first i indices. Assumes nothing.
+use native.Mathlib.Omega.{arith}
+use mathlib.Core.Path.{◌≡◌, refl}
+use Rattle.model.specs.Distance.{all_below}
+use Rattle.distance64.proofs.Laws.{below_step}
+use Rattle.distance64.proofs.cache.all_below.Goals as goal
+
+pub loop-i-init : goal.loop-i-init
+unfolding all_below
+loop-i-init c = (omega arith, refl)
+
+pub offset_bounds-indices-i : goal.offset_bounds-indices-i
+offset_bounds-indices-i c = omega arith
+
+pub bounds-indices-i : goal.bounds-indices-i
+bounds-indices-i c = omega arith
+
+pub overflow_add-i : goal.overflow_add-i
+overflow_add-i c = omega arith
+
+pub loop-i-smaller : goal.loop-i-smaller
+loop-i-smaller c = omega arith
+
+pub loop-i-preserved : goal.loop-i-preserved
+loop-i-preserved c = let l = c.loop-i in
+    let a = c.args in
+    (omega arith, rw (below_step a.limit a.indices l.i, l.invariant.1, c.below-all.ensures))
+
+pub returns : goal.returns
+returns c = let l = c.loop-i in
+    let e : l.i ≡ c.args.count = omega arith in
+    rw (← e) l.invariant.1

@@ -1,0 +1,15 @@
+-- Written by tests/written/wide.py from distance, in f64.
+-- `proxy_distance::rounds` meets its contract. The invariant: the rounds that are left give what all 20 give. Assumes nothing.
+use Prim.Native.Nat.{◌≤◌, ◌-◌}
+use mathlib.Core.Path.{◌≡◌}
+use lib.Ieee.{binary64}
+use Rattle.model64.specs.Distance.{rounds_from}
+use Rattle.distance64.proofs.proxy_distance.rounds.Given as goal
+
+abbrev pub invariant-loop-iterations : goal.invariant-loop-iterations
+invariant-loop-iterations l = (l.count ≤ 3) × (l.iterations ≤ 20)
+    × (rounds_from binary64 l.points_a l.points_b l.pos12 (20 - l.iterations) l.simplex l.count l.direction l.iterations
+    ≡ rounds_from binary64 l.points_a l.points_b l.pos12 20 l.initial.simplex l.initial.count l.initial.direction 0)
+
+abbrev pub decreases-loop-iterations : goal.decreases-loop-iterations
+decreases-loop-iterations l = 20 - l.iterations

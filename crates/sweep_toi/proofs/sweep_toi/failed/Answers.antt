@@ -1,0 +1,5 @@
+-- `sweep_toi::failed` meets its contract, by its contact. Assumes nothing.
+use Rattle.sweep_toi.proofs.sweep_toi.failed.Goals as goal
+
+pub returns : goal.returns
+returns c = rw c.no_contact.ensures

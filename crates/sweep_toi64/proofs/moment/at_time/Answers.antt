@@ -1,0 +1,6 @@
+-- Written by tests/written/wide.py from sweep_toi, in f64.
+-- `sweep_toi::at_time` meets its contract, by the poses. Assumes nothing.
+use Rattle.sweep_toi64.proofs.moment.at_time.Goals as goal
+
+pub returns : goal.returns
+returns c = rw (c.transform_at-xf_a.ensures, c.transform_at-xf_b.ensures)
