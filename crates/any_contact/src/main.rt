@@ -1,5 +1,8 @@
 // Prints the number of the first block of the batch on standard input whose status is H or O, or `none`. It reads in parts of 64 KiB, none behind
 // the one that decides. A read that fails is told on standard error, and then neither is printed; so is that no whole block came, behind `none`.
+#![tactic(auto)]
+
+use std::io::{Read, Write};
 
 // Whether the search goes on, and how many blocks it has passed.
 #[derive(Clone, Copy)]
@@ -8,24 +11,24 @@ struct Step {
     blocks: u64,
 }
 
-fn tell(found: u64) -> bool {
+fn tell<W: Write, E: Write>(out: &mut W, err: &mut E, found: u64) -> bool {
     let mut text = [0u8; 21];
     let n = any_contact_search::write_found(found, &mut text);
-    streams::write_to_output(&text, n)
+    streams::write_to_output(out, err, &text, n)
 }
 
 // Tells the answer, and behind it that no whole block came, where that is so.
-fn tell_answer(found: u64, blocks: u64) {
-    if tell(found) & (blocks == 0) {
-        streams::write_to_error(b"standard input: no block came\n", 30);
+fn tell_answer<W: Write, E: Write>(out: &mut W, err: &mut E, found: u64, blocks: u64) {
+    if tell(out, err, found) & (blocks == 0) {
+        streams::write_to_error(err, b"standard input: no block came\n", 30);
     }
 }
 
 // Searches what was read, and tells the answer once it is known.
-fn search_part(part: &[u8], before: u64) -> Step {
+fn search_part<W: Write, E: Write>(out: &mut W, err: &mut E, part: &[u8], before: u64) -> Step {
     let searched = any_contact_search::search_part(part, before);
     if searched.over {
-        tell_answer(searched.found, searched.blocks);
+        tell_answer(out, err, searched.found, searched.blocks);
     }
     Step {
         more: !searched.over,
@@ -33,30 +36,39 @@ fn search_part(part: &[u8], before: u64) -> Step {
     }
 }
 
-fn next_part(before: u64) -> Step {
+fn next_part<R: Read, W: Write, E: Write>(
+    input: &mut R,
+    out: &mut W,
+    err: &mut E,
+    before: u64,
+) -> Step {
     let mut buffer = io::large_buffer();
-    let filled = streams::fill_from_input(&mut buffer);
-    if filled.failed {
+    let filled = streams::fill_from_input(input, err, &mut buffer);
+    if filled.failed.is_some() {
         return Step {
             more: false,
             blocks: before,
         };
     }
     let n = filled.count;
-    search_part(&buffer[..n], before)
+    search_part(out, err, &buffer[..n], before)
 }
 
 // A proved loop has to end, and nothing says that the input does: so the reads are counted, to a number that no run reaches.
-fn main() {
-    if !streams::no_argument(b"any_contact") {
-        return;
-    }
+fn run<R: Read, W: Write, E: Write>(input: &mut R, out: &mut W, err: &mut E) {
     let mut before = 0u64;
     for reads in 0..u64::MAX {
-        let step = next_part(before);
+        let step = next_part(input, out, err, before);
         before = step.blocks;
         if !step.more {
             return;
         }
+    }
+}
+
+fn main(rt: HostRuntime) {
+    let mut err = rt.stderr();
+    if streams::no_argument(&rt, &mut err, b"any_contact") {
+        run(&mut rt.stdin(), &mut rt.stdout(), &mut err);
     }
 }

@@ -1,5 +1,11 @@
 // Writes each block of the batch on standard input in the other form to the file that its argument names, and prints the numbers of those that are
 // refused with 9, 13, 10 or 11. The file is replaced only by a run that succeeded. It reads in parts of 64 KiB.
+#![tactic(auto)]
+
+use std::io::{Read, Write};
+use std::os::fd::AsFd;
+use std::random::RandomSource;
+use std::rt::Files;
 
 // Whether the run goes on, whether something failed, and how many blocks came.
 #[derive(Clone, Copy)]
@@ -18,14 +24,21 @@ fn failed() -> Step {
 }
 
 // Converts what was read, and writes what it comes to.
-fn write_part(name: &[u8], fd: i32, part: &[u8], before: u64) -> Step {
+fn write_part<W: Write, E: Write, F: Write>(
+    out: &mut W,
+    err: &mut E,
+    name: &[u8],
+    to: &mut F,
+    part: &[u8],
+    before: u64,
+) -> Step {
     let mut file = io::large_buffer();
     let mut text = io::buffer();
     let converted = convert_forms::convert_part(part, before, &mut file, &mut text);
-    if !streams::write_to(fd, name, &file, converted.file) {
+    if !streams::write_to(to, err, name, &file, converted.file) {
         return failed();
     }
-    if !streams::write_to_output(&text, converted.text) {
+    if !streams::write_to_output(out, err, &text, converted.text) {
         return failed();
     }
     Step {
@@ -35,22 +48,35 @@ fn write_part(name: &[u8], fd: i32, part: &[u8], before: u64) -> Step {
     }
 }
 
-fn next_part(name: &[u8], fd: i32, before: u64) -> Step {
+fn next_part<R: Read, W: Write, E: Write, F: Write>(
+    input: &mut R,
+    out: &mut W,
+    err: &mut E,
+    name: &[u8],
+    to: &mut F,
+    before: u64,
+) -> Step {
     let mut buffer = io::large_buffer();
-    let filled = streams::fill_from_input(&mut buffer);
-    if filled.failed {
+    let filled = streams::fill_from_input(input, err, &mut buffer);
+    if filled.failed.is_some() {
         return failed();
     }
     let n = filled.count;
-    write_part(name, fd, &buffer[..n], before)
+    write_part(out, err, name, to, &buffer[..n], before)
 }
 
 // Whether all parts were converted. A proved loop has to end, and nothing says that the input does: so the reads are counted, to a number that no
 // run reaches.
-fn convert(name: &[u8], fd: i32) -> bool {
+fn convert<R: Read, W: Write, E: Write, F: Write>(
+    input: &mut R,
+    out: &mut W,
+    err: &mut E,
+    name: &[u8],
+    to: &mut F,
+) -> bool {
     let mut before = 0u64;
     for reads in 0..u64::MAX {
-        let step = next_part(name, fd, before);
+        let step = next_part(input, out, err, name, to, before);
         before = step.blocks;
         if !step.more {
             return !step.failed;
@@ -60,32 +86,45 @@ fn convert(name: &[u8], fd: i32) -> bool {
 }
 
 // Collects what is to be written, and puts it in the place of the file.
-fn replace(name: &[u8], beside: &mut [u8]) {
-    let fd = outfile::begin(name, beside);
-    if fd < 0 {
-        return;
-    }
-    if convert(name, fd) {
-        outfile::finish(name, beside, fd);
+fn replace<R: Read, W: Write, E: Write, S: Files + RandomSource>(
+    input: &mut R,
+    out: &mut W,
+    err: &mut E,
+    rt: &S,
+    name: &[u8],
+    beside: &mut [u8],
+) {
+    if let Some(begun) = outfile::begin(rt, err, name, beside) {
+        let mut file = begun;
+        if convert(input, out, err, name, &mut file) {
+            outfile::finish(rt, err, name, beside, &mut file);
+        }
     }
 }
 
-fn run(name: &[u8]) {
-    if !streams::streams_open() {
+fn run<R: Read + AsFd, W: Write + AsFd, E: Write, S: Files + RandomSource>(
+    input: &mut R,
+    out: &mut W,
+    err: &mut E,
+    rt: &S,
+    name: &[u8],
+) {
+    if !streams::streams_open(input, out, err) {
         return;
     }
-    if !outfile::may_be_replaced(name) {
+    if !outfile::may_be_replaced(rt, err, name) {
         return;
     }
     let mut beside = io::buffer();
     let size = outfile::name_beside(name, &mut beside);
-    replace(name, &mut beside[..size]);
+    replace(input, out, err, rt, name, &mut beside[..size]);
 }
 
-fn main() {
+fn main(rt: HostRuntime) {
+    let mut err = rt.stderr();
     let mut name = io::buffer();
-    let n = outfile::argument(b"convert", &mut name);
+    let n = outfile::argument(&rt, &mut err, b"convert", &mut name);
     if n > 0 {
-        run(&name[..n]);
+        run(&mut rt.stdin(), &mut rt.stdout(), &mut err, &rt, &name[..n]);
     }
 }

@@ -1,4 +1,6 @@
 // The fields that the sheet's lines and a route's line share: the letter of a status, and the floats of a contact.
+#![tactic(auto)]
+
 ghost use Rattle.std.specs.Prelude.{◌≡◌, ◌+◌, ◌≤◌, length};
 ghost use Rattle.model.specs.Sheet.{letter_of};
 ghost use Rattle.text.specs.Put.{Put, where_room};

@@ -1,7 +1,10 @@
 // Prints, for each block of the batch on standard input, how far apart its outlines are at 257 fractions of their moves. It reads in parts of 24 blocks,
 // has each worked, and writes its text. A read or a write that fails is told on standard error and ends the run, with no TOTAL; that no block came is told
 // there too, behind its TOTAL.
+#![tactic(auto)]
+
 use gaps_lines::{PART_SIZE, Tally};
+use std::io::{Read, Write};
 
 // Whether the run goes on, and the tally so far.
 #[derive(Clone, Copy)]
@@ -15,15 +18,15 @@ fn ended(tally: Tally) -> Worked {
 }
 
 // Writes the text of a part.
-fn work_part(part: &[u8], t: Tally) -> Worked {
+fn work_part<W: Write, E: Write>(out: &mut W, err: &mut E, part: &[u8], t: Tally) -> Worked {
     let mut text = io::large_buffer();
     let written = gaps_lines::write_part(part, &mut text, t);
     let tally = written.tally;
-    if !streams::write_to_output(&text, written.at) {
+    if !streams::write_to_output(out, err, &text, written.at) {
         return ended(tally);
     }
     if written.last & (tally.blocks == 0) {
-        streams::write_to_error(b"standard input: no block came\n", 30);
+        streams::write_to_error(err, b"standard input: no block came\n", 30);
     }
     Worked {
         more: !written.last,
@@ -31,30 +34,39 @@ fn work_part(part: &[u8], t: Tally) -> Worked {
     }
 }
 
-fn next_part(t: Tally) -> Worked {
+fn next_part<R: Read, W: Write, E: Write>(
+    input: &mut R,
+    out: &mut W,
+    err: &mut E,
+    t: Tally,
+) -> Worked {
     let mut buffer = [0u8; PART_SIZE];
-    let filled = streams::fill_from_input(&mut buffer);
-    if filled.failed {
+    let filled = streams::fill_from_input(input, err, &mut buffer);
+    if filled.failed.is_some() {
         return ended(t);
     }
     let n = filled.count;
-    work_part(&buffer[..n], t)
+    work_part(out, err, &buffer[..n], t)
 }
 
 // A proved loop has to end, and nothing says that the input does: so the reads are counted, to a number that no run reaches.
-fn main() {
-    if !streams::no_argument(b"gaps") {
-        return;
-    }
+fn run<R: Read, W: Write, E: Write>(input: &mut R, out: &mut W, err: &mut E) {
     let mut t = Tally {
         blocks: 0,
         refused: 0,
     };
     for reads in 0..u64::MAX {
-        let worked = next_part(t);
+        let worked = next_part(input, out, err, t);
         t = worked.tally;
         if !worked.more {
             return;
         }
+    }
+}
+
+fn main(rt: HostRuntime) {
+    let mut err = rt.stderr();
+    if streams::no_argument(&rt, &mut err, b"gaps") {
+        run(&mut rt.stdin(), &mut rt.stdout(), &mut err);
     }
 }

@@ -1,6 +1,9 @@
 // Reads jobs, one a line, from standard input and writes their blocks to standard output; a line that is no job is told on standard error, by its
 // number and 14. A read or a write that fails is told there too, and ends the run.
+#![tactic(auto)]
+
 use pack_lines::Held;
+use std::io::{Read, Write};
 
 // So many bytes are read at a time: were each of them to end a line, there is room for all that they come to.
 const PART_SIZE: usize = 128;
@@ -12,10 +15,18 @@ struct Step {
     held: Held,
 }
 
-fn pack_part(part: &[u8], held: Held, out: &mut [u8], err: &mut [u8]) -> Step {
-    let packed = pack_lines::pack_part(part, held, out, err);
+// Writes what a part comes to, by room lent for the blocks and for what is told.
+fn pack_part<W: Write, E: Write>(
+    out: &mut W,
+    err: &mut E,
+    part: &[u8],
+    held: Held,
+    blocks: &mut [u8],
+    told: &mut [u8],
+) -> Step {
+    let packed = pack_lines::pack_part(part, held, blocks, told);
     let line = packed.held;
-    let written = streams::write_both(out, packed.at, err, packed.told);
+    let written = streams::write_both(out, err, blocks, packed.at, told, packed.told);
     Step {
         more: written,
         held: line,
@@ -23,23 +34,30 @@ fn pack_part(part: &[u8], held: Held, out: &mut [u8], err: &mut [u8]) -> Step {
 }
 
 // The line without its newline that the input ends in, where it does.
-fn end(held: Held, err: &mut [u8]) {
-    let told = pack_lines::tell_last(held, err);
-    streams::write_to_error(err, told);
+fn end<E: Write>(err: &mut E, held: Held, told: &mut [u8]) {
+    let n = pack_lines::tell_last(held, told);
+    streams::write_to_error(err, told, n);
 }
 
-fn next_part(held: Held, out: &mut [u8], err: &mut [u8]) -> Step {
+fn next_part<R: Read, W: Write, E: Write>(
+    input: &mut R,
+    out: &mut W,
+    err: &mut E,
+    held: Held,
+    blocks: &mut [u8],
+    told: &mut [u8],
+) -> Step {
     let mut buffer = [0u8; PART_SIZE];
-    let filled = streams::fill_from_input(&mut buffer);
-    if filled.failed {
+    let filled = streams::fill_from_input(input, err, &mut buffer);
+    if filled.failed.is_some() {
         return Step { more: false, held };
     }
     let n = filled.count;
-    let step = pack_part(&buffer[..n], held, out, err);
+    let step = pack_part(out, err, &buffer[..n], held, blocks, told);
     let line = step.held;
     if n < PART_SIZE {
         if step.more {
-            end(line, err);
+            end(err, line, told);
         }
         return Step {
             more: false,
@@ -53,19 +71,23 @@ fn next_part(held: Held, out: &mut [u8], err: &mut [u8]) -> Step {
 }
 
 // A proved loop has to end, and nothing says that the input does: so the reads are counted, to a number that no run reaches.
-fn main() {
-    if !streams::no_argument(b"pack") {
-        return;
-    }
-    let mut out = io::large_buffer();
-    let mut err = io::large_buffer();
+fn run<R: Read, W: Write, E: Write>(input: &mut R, out: &mut W, err: &mut E) {
+    let mut blocks = io::large_buffer();
+    let mut told = io::large_buffer();
     let mut held = pack_lines::no_line();
     for reads in 0..u64::MAX {
-        let step = next_part(held, &mut out, &mut err);
+        let step = next_part(input, out, err, held, &mut blocks, &mut told);
         let line = step.held;
         held = line;
         if !step.more {
             return;
         }
+    }
+}
+
+fn main(rt: HostRuntime) {
+    let mut err = rt.stderr();
+    if streams::no_argument(&rt, &mut err, b"pack") {
+        run(&mut rt.stdin(), &mut rt.stdout(), &mut err);
     }
 }

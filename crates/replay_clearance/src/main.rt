@@ -1,9 +1,11 @@
 // Replays stored verdicts over whole moves: table 13. A row has 168 words: a block, and as its answer 39 words of its line as that block of a file and of the TOTAL
 // behind it, with no block counted before, zeros after their end, and the line's kind: its refusal, or 16 for CLEAR, 17 for TOUCH, 18 for OPEN. Parts and what is
 // printed are as in `replay`.
-use libc::STDIN_FILENO;
+#![tactic(auto)]
+
 use model::Totals;
 use replay_rows::{Counts, RowShape, Words, put};
+use std::io::{Read, Result};
 
 const TABLE: u32 = 13;
 
@@ -68,15 +70,24 @@ fn replay(part: &[u8], counts: &mut Counts) {
 }
 
 // A proved loop has to end, and nothing says that the input does: so the reads are counted, to a number that no run reaches.
-fn main() {
+fn run<R: Read>(input: &mut R) -> Result<Counts> {
     let mut counts = replay_rows::nothing();
     for reads in 0..u64::MAX {
         let mut part = io::large_buffer();
-        let n = io::read_full(STDIN_FILENO, &mut part);
+        let filled = streams::fill(input, &mut part);
+        if let Some(failure) = filled.failed {
+            return Err(failure);
+        }
+        let n = filled.count;
         if n == 0 {
-            replay_rows::print(&counts);
-            return;
+            return Ok(counts);
         }
         replay(&part[..n], &mut counts);
     }
+    Ok(counts)
+}
+
+fn main(rt: HostRuntime) -> Result<()> {
+    let counts = run(&mut rt.stdin())?;
+    replay_rows::print(&mut rt.stdout(), &counts)
 }

@@ -1,7 +1,7 @@
 // Counts of rows by their table and kind.
 ghost use Rattle.std.specs.Prelude.{◌+◌, ◌≤◌};
 
-use libc::STDOUT_FILENO;
+use std::io::{Result, Write};
 
 const KINDS: u32 = 32;
 
@@ -38,28 +38,29 @@ pub fn count(counts: &mut Counts, table: u32, kind: u32, differs: bool, noticed:
     counts[i + 2] = one_more(counts[i + 2], noticed);
 }
 
-fn line(table: u32, kind: u32, rows: u32, differ: u32, noticed: u32) {
-    io::write_all(STDOUT_FILENO, b"table ");
-    io::print_decimal(STDOUT_FILENO, table as u64);
-    io::write_all(STDOUT_FILENO, b", kind ");
-    io::print_decimal(STDOUT_FILENO, kind as u64);
-    io::write_all(STDOUT_FILENO, b": rows ");
-    io::print_decimal(STDOUT_FILENO, rows as u64);
-    io::write_all(STDOUT_FILENO, b", differ ");
-    io::print_decimal(STDOUT_FILENO, differ as u64);
-    io::write_all(STDOUT_FILENO, b", noticed ");
-    io::print_decimal(STDOUT_FILENO, noticed as u64);
-    io::write_all(STDOUT_FILENO, b"\n");
+fn line<W: Write>(
+    out: &mut W,
+    table: u32,
+    kind: u32,
+    rows: u32,
+    differ: u32,
+    noticed: u32,
+) -> Result<()> {
+    writeln!(
+        out,
+        "table {table}, kind {kind}: rows {rows}, differ {differ}, noticed {noticed}"
+    )
 }
 
 // A line for each kind that has rows.
-pub fn print(counts: &Counts) {
+pub fn print<W: Write>(out: &mut W, counts: &Counts) -> Result<()> {
     for k in 0u32..512u32 {
         let table = k / KINDS;
         let kind = k % KINDS;
         let i = place(table, kind);
         if counts[i] > 0 {
-            line(table, kind, counts[i], counts[i + 1], counts[i + 2]);
+            line(out, table, kind, counts[i], counts[i + 1], counts[i + 2])?;
         }
     }
+    Ok(())
 }

@@ -1,107 +1,150 @@
 // Prints the monthly report over the batches in the files that its arguments name, in their order; without an argument standard input is the one
 // batch. A file that cannot be read is told on standard error under its name, and then nothing is printed. It reads in parts of 64 KiB.
-use libc::STDIN_FILENO;
-use report_counts::Report;
+#![tactic(auto)]
 
-// The report so far, whether there is more to read, and whether a read failed.
+use report_counts::Report;
+use std::env::{Env, FillError};
+use std::fs;
+use std::io::{Error, ErrorKind, Read, Result, Write};
+use std::rt::Files;
+use std::str::from_utf8;
+use streams::tell_failure;
+
+// Linux's numbers of errors: a name that is too long, and one that is no text.
+const NAME_TOO_LONG: i32 = 36;
+
+const NO_TEXT: i32 = 84;
+
+// The report so far, and whether there is more to read.
 #[derive(Clone, Copy)]
 struct Step {
     report: Report,
     more: bool,
-    failed: bool,
-}
-
-fn failed(name: &[u8], report: Report) -> Step {
-    os::fail(name);
-    Step {
-        report,
-        more: false,
-        failed: true,
-    }
 }
 
 // Works the next part of an open batch into its report.
-fn next_part(fd: i32, name: &[u8], so_far: Report) -> Step {
+fn next_part<R: Read>(input: &mut R, so_far: Report) -> Result<Step> {
     let mut buffer = io::large_buffer();
-    let filled = streams::fill(fd, &mut buffer);
-    if filled.failed {
-        return failed(name, so_far);
+    let filled = streams::fill(input, &mut buffer);
+    if let Some(failure) = filled.failed {
+        return Err(failure);
     }
     let n = filled.count;
     let added = report_batches::add_part(so_far, &buffer[..n]);
     let report = added.report;
-    Step {
+    Ok(Step {
         report,
         more: !added.last,
-        failed: false,
-    }
+    })
 }
 
 // The report of an open batch. A proved loop has to end, and nothing says that the input does: so the reads are counted, to a number that no run
 // reaches.
-fn batch(fd: i32, name: &[u8]) -> Step {
+fn batch<R: Read>(input: &mut R) -> Result<Report> {
     let mut so_far = report_counts::opened();
     for reads in 0..u64::MAX {
-        let step = next_part(fd, name, so_far);
-        if !step.more {
-            return step;
-        }
+        let step = next_part(input, so_far)?;
         let next = step.report;
         so_far = next;
+        if !step.more {
+            return Ok(so_far);
+        }
     }
-    failed(name, so_far)
+    Err(Error::from(ErrorKind::FileTooLarge))
+}
+
+// A path as the system's calls take it here: text alone.
+fn path(name: &[u8]) -> Result<&str> {
+    match from_utf8(name) {
+        Ok(text) => Ok(text),
+        Err(_) => Err(Error::from_raw_os_error(NO_TEXT)),
+    }
 }
 
 // The batch that a file holds.
-fn file(name: &[u8]) -> Step {
-    let fd = os::open_read(name);
-    if fd < 0 {
-        return failed(name, report_counts::empty());
+fn file<F: Files>(files: &F, name: &[u8]) -> Result<Report> {
+    let mut opened = fs::open(files, path(name)?)?;
+    batch(&mut opened)
+}
+
+// The report of a file, or nothing, and told.
+fn told<F: Files, E: Write>(files: &F, err: &mut E, name: &[u8]) -> Option<Report> {
+    match file(files, name) {
+        Ok(report) => Some(report),
+        Err(failure) => {
+            tell_failure(err, name, failure);
+            None
+        }
     }
-    let step = batch(fd, name);
-    libc::close(fd);
-    step
+}
+
+// What an argument comes to: the report of the file that it names; nothing, and told, where that cannot be read; and there may be no such argument.
+#[derive(Clone, Copy)]
+enum Found {
+    Read(Report),
+    Failed,
+    Missing,
 }
 
 // The batch that an argument names.
-fn named(i: usize) -> Step {
+fn named<S: Files + Env, E: Write>(rt: &S, err: &mut E, i: usize) -> Found {
     let mut name = io::buffer();
-    let n = os::arg(i, &mut name);
-    if os::errno() != 0 {
-        return failed(&name, report_counts::empty());
+    match rt.arg(i, &mut name) {
+        Ok(n) => match told(rt, err, &name[..n]) {
+            Some(report) => Found::Read(report),
+            None => Found::Failed,
+        },
+        Err(FillError::TooLong) => {
+            tell_failure(err, &name, Error::from_raw_os_error(NAME_TOO_LONG));
+            Found::Failed
+        }
+        Err(FillError::NotPresent) => Found::Missing,
     }
-    file(&name[..n])
 }
 
-fn print(report: Report) {
+fn print<W: Write, E: Write>(out: &mut W, err: &mut E, report: Report) {
     let mut text = io::buffer();
     let n = report_lines::write_report(report, &mut text);
-    streams::write_to_output(&text, n);
+    streams::write_to_output(out, err, &text, n);
 }
 
-fn print_files(count: usize) {
+// Prints the report of the files, of which there is at least one.
+fn print_files<S: Files + Env, W: Write, E: Write>(rt: &S, out: &mut W, err: &mut E) {
     let mut whole = report_counts::empty();
-    for i in 1..count {
-        let step = named(i);
-        if step.failed {
-            return;
+    for i in 1..usize::MAX {
+        match named(rt, err, i) {
+            Found::Read(one) => whole = report_counts::merge(whole, one),
+            Found::Failed => return,
+            Found::Missing => {
+                print(out, err, whole);
+                return;
+            }
         }
-        let one = step.report;
-        whole = report_counts::merge(whole, one);
     }
-    print(whole);
 }
 
-fn main() {
-    let count = os::arg_count();
-    if count > 1 {
-        print_files(count);
-        return;
+// Prints the report of standard input as the one batch.
+fn print_input<R: Read, W: Write, E: Write>(input: &mut R, out: &mut W, err: &mut E) {
+    match batch(input) {
+        Ok(one) => print(out, err, report_counts::merge(report_counts::empty(), one)),
+        Err(failure) => tell_failure(err, b"standard input", failure),
     }
-    let step = batch(STDIN_FILENO, b"standard input");
-    if step.failed {
-        return;
+}
+
+// Whether there is no argument.
+fn is_bare<A: Env>(arguments: &A) -> bool {
+    let mut text = [0u8; 1];
+    match arguments.arg(1, &mut text) {
+        Err(FillError::NotPresent) => true,
+        _ => false,
     }
-    let one = step.report;
-    print(report_counts::merge(report_counts::empty(), one));
+}
+
+fn main(rt: HostRuntime) {
+    let mut err = rt.stderr();
+    if is_bare(&rt) {
+        print_input(&mut rt.stdin(), &mut rt.stdout(), &mut err);
+    } else {
+        print_files(&rt, &mut rt.stdout(), &mut err);
+    }
 }

@@ -1,7 +1,10 @@
 // Reads a route as text from standard input, looks at it as a whole and prints its answer, one line. A read that fails is told on standard error, and then
 // nothing is printed.
+#![tactic(auto)]
+
 use model::PART_SIZE;
 use route_read::Reader;
+use std::io::{Read, Write};
 
 // Numbers and lengths that can matter: a slop, 129 of the cart, four for each of 33 waypoints, 129 for each of 32 outlines; one outline more.
 const NUMBERS: usize = 4390;
@@ -15,16 +18,29 @@ struct Step {
     reader: Reader,
 }
 
-fn tell(reader: Reader, floats: &[f32], lengths: &[u32]) {
+fn tell<W: Write, E: Write>(
+    out: &mut W,
+    err: &mut E,
+    reader: Reader,
+    floats: &[f32],
+    lengths: &[u32],
+) {
     let mut text = [0u8; 128];
     let n = route_clearance_text::write_answer(reader, floats, lengths, &mut text);
-    streams::write_to_output(&text, n);
+    streams::write_to_output(out, err, &text, n);
 }
 
-fn next_part(reader: Reader, floats: &mut [f32], lengths: &mut [u32]) -> Step {
+fn next_part<R: Read, W: Write, E: Write>(
+    input: &mut R,
+    out: &mut W,
+    err: &mut E,
+    reader: Reader,
+    floats: &mut [f32],
+    lengths: &mut [u32],
+) -> Step {
     let mut buffer = io::large_buffer();
-    let filled = streams::fill_from_input(&mut buffer);
-    if filled.failed {
+    let filled = streams::fill_from_input(input, err, &mut buffer);
+    if filled.failed.is_some() {
         return Step {
             more: false,
             reader,
@@ -33,7 +49,7 @@ fn next_part(reader: Reader, floats: &mut [f32], lengths: &mut [u32]) -> Step {
     let n = filled.count;
     let after = route_read::read_part(&buffer[..n], reader, floats, lengths);
     if n < PART_SIZE {
-        tell(after, floats, lengths);
+        tell(out, err, after, floats, lengths);
     }
     Step {
         more: n == PART_SIZE,
@@ -42,19 +58,23 @@ fn next_part(reader: Reader, floats: &mut [f32], lengths: &mut [u32]) -> Step {
 }
 
 // A proved loop has to end, and nothing says that the input does: so the reads are counted, to a number that no run reaches.
-fn main() {
-    if !streams::no_argument(b"route_clearance") {
-        return;
-    }
+fn run<R: Read, W: Write, E: Write>(input: &mut R, out: &mut W, err: &mut E) {
     let mut floats = [0.0f32; NUMBERS];
     let mut lengths = [0u32; LENGTHS];
     let mut reader = route_read::no_text();
     for reads in 0..u64::MAX {
-        let step = next_part(reader, &mut floats, &mut lengths);
+        let step = next_part(input, out, err, reader, &mut floats, &mut lengths);
         let after = step.reader;
         reader = after;
         if !step.more {
             return;
         }
+    }
+}
+
+fn main(rt: HostRuntime) {
+    let mut err = rt.stderr();
+    if streams::no_argument(&rt, &mut err, b"route_clearance") {
+        run(&mut rt.stdin(), &mut rt.stdout(), &mut err);
     }
 }

@@ -1,4 +1,6 @@
 // A sweep by numbers: the moves and the sweep that they ask for, and what its answer comes to. For blocks, routes and lists from C alike.
+#![tactic(auto)]
+
 ghost use Rattle.std.specs.Prelude.{◌≡◌, ◌+◌, ◌≤◌};
 ghost use Rattle.std.specs.Float.{binary32};
 ghost use Rattle.model.specs.Work as Work;

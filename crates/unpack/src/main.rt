@@ -1,5 +1,8 @@
 // Reads blocks from standard input and writes the lines of their jobs to standard output; a block that is refused by 9, 10 or 11 is told on standard
 // error, by its number and that one. A read or a write that fails is told there too, and ends the run.
+#![tactic(auto)]
+
+use std::io::{Read, Write};
 
 // So many bytes are read at a time: 76 blocks, whose lines there is room for.
 const PART_SIZE: usize = 38912;
@@ -12,31 +15,38 @@ struct Step {
 }
 
 // The rest of fewer bytes than a block that the input ends in, where it does.
-fn end(rest: usize, blocks: u64, err: &mut [u8]) {
-    let told = unpack_blocks::tell_rest(rest, blocks, err);
-    streams::write_to_error(err, told);
+fn end<E: Write>(err: &mut E, rest: usize, blocks: u64, told: &mut [u8]) {
+    let n = unpack_blocks::tell_rest(rest, blocks, told);
+    streams::write_to_error(err, told, n);
 }
 
-fn next_part(before: u64, out: &mut [u8], err: &mut [u8]) -> Step {
+fn next_part<R: Read, W: Write, E: Write>(
+    input: &mut R,
+    out: &mut W,
+    err: &mut E,
+    before: u64,
+    lines: &mut [u8],
+    told: &mut [u8],
+) -> Step {
     let mut buffer = [0u8; PART_SIZE];
-    let filled = streams::fill_from_input(&mut buffer);
+    let filled = streams::fill_from_input(input, err, &mut buffer);
     let n = filled.count;
-    if filled.failed {
+    if filled.failed.is_some() {
         return Step {
             more: false,
             blocks: before,
         };
     }
-    let unpacked = unpack_blocks::unpack_part(&buffer[..n], before, out, err);
+    let unpacked = unpack_blocks::unpack_part(&buffer[..n], before, lines, told);
     let blocks = unpacked.blocks;
-    if !streams::write_both(out, unpacked.at, err, unpacked.told) {
+    if !streams::write_both(out, err, lines, unpacked.at, told, unpacked.told) {
         return Step {
             more: false,
             blocks,
         };
     }
     if n < PART_SIZE {
-        end(n % 512, blocks, err);
+        end(err, n % 512, blocks, told);
         return Step {
             more: false,
             blocks,
@@ -46,18 +56,22 @@ fn next_part(before: u64, out: &mut [u8], err: &mut [u8]) -> Step {
 }
 
 // A proved loop has to end, and nothing says that the input does: so the reads are counted, to a number that no run reaches.
-fn main() {
-    if !streams::no_argument(b"unpack") {
-        return;
-    }
-    let mut out = io::large_buffer();
-    let mut err = io::large_buffer();
+fn run<R: Read, W: Write, E: Write>(input: &mut R, out: &mut W, err: &mut E) {
+    let mut lines = io::large_buffer();
+    let mut told = io::large_buffer();
     let mut blocks = 0u64;
     for reads in 0..u64::MAX {
-        let step = next_part(blocks, &mut out, &mut err);
+        let step = next_part(input, out, err, blocks, &mut lines, &mut told);
         blocks = step.blocks;
         if !step.more {
             return;
         }
+    }
+}
+
+fn main(rt: HostRuntime) {
+    let mut err = rt.stderr();
+    if streams::no_argument(&rt, &mut err, b"unpack") {
+        run(&mut rt.stdin(), &mut rt.stdout(), &mut err);
     }
 }

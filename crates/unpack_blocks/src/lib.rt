@@ -1,4 +1,6 @@
 // Blocks to lines, part by part.
+#![tactic(auto)]
+
 ghost use Rattle.std.specs.Prelude.{◌≡◌, ◌+◌, ◌≤◌, length};
 ghost use Rattle.text.specs.Put.{Put};
 ghost use Rattle.job_text.specs.Job.{longest_line};
