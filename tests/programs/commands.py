@@ -24,13 +24,9 @@ import tempfile
 ROOT = pathlib.Path(__file__).resolve().parents[2]
 LIMIT = 300  # seconds, for one block
 
-# what stands for rt in the folder of a page: what it proves was proved by the gate
-RT = """#!/bin/sh
-case $1 in
-check) shift; for name; do [ -x "$PROGRAMS/$name" ] || { echo "rt: $name is not among the proved programs" >&2; exit 1; }; done ;;
-version | doc) exec "$REAL_RT" "$@" ;;
-*) echo "rt $*: not run for a page" >&2; exit 1 ;;
-esac
+# what stands for tools/program.sh in the folder of a page: what it proves was proved by the gate
+PROGRAM = """#!/bin/sh
+for name; do [ -x "$PROGRAMS/$name" ] || { echo "$name is not among the proved programs" >&2; exit 1; }; done
 """
 
 
@@ -98,7 +94,7 @@ def proved():
     if os.environ.get("PROGRAMS"):
         return pathlib.Path(os.environ["PROGRAMS"]).resolve()
     named = re.search(r'^every="(.*)"$', (ROOT / "foldflake").read_text(encoding="utf-8"), re.M).group(1).split()
-    if subprocess.run(["rt", "check", *named], cwd=ROOT, stdout=subprocess.DEVNULL).returncode:
+    if subprocess.run(["tools/program.sh", *named], cwd=ROOT, stdout=subprocess.DEVNULL, stderr=subprocess.DEVNULL).returncode:
         sys.exit(f"not proved: one of {' '.join(named)}")
     return ROOT / "target/bin"
 
@@ -107,7 +103,7 @@ def prepare(folder, programs, run):
     """The folder in which a page's commands are run."""
     (folder / "foldflake").symlink_to(ROOT / "foldflake")
     shutil.copytree(ROOT / "examples", folder / "examples")
-    for place, name, text in [("commands", "rt", RT)] + [
+    for place, name, text in [("tools", "program.sh", PROGRAM)] + [
         ("target/bin", program.name, f'#!/bin/sh\nexec {run} "{program}" "$@"\n') for program in sorted(programs.iterdir()) if program.is_file()
     ]:
         (folder / place).mkdir(parents=True, exist_ok=True)
@@ -120,7 +116,7 @@ def run_page(page, found, programs, run):
     with tempfile.TemporaryDirectory() as made:
         folder = pathlib.Path(made)
         prepare(folder, programs, run)
-        env = dict(os.environ, PROGRAMS=str(programs), REAL_RT=shutil.which("rt") or "rt", PATH=f"{folder / 'commands'}:{os.environ['PATH']}")
+        env = dict(os.environ, PROGRAMS=str(programs))
         for line, who, status, lines, stands in found:
             place = f"{page}:{line}: {first(lines)}"
             if who != "run":

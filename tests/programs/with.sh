@@ -12,17 +12,9 @@ else
   run="$kit/bin/qemu-x86_64 $kit/lib/ld-linux-x86-64.so.2 --library-path $kit/lib"
 fi
 
-# proved NAME..: sets `bin`, the folder that has these programs: PROGRAMS where it is set, else target/bin, once they are proved. A run with no input is how rt
-# builds one
+# proved NAME..: sets `bin`, the folder that has these programs: PROGRAMS where it is set, else target/bin, once they are proved
 proved() {
-  if [ -z "${PROGRAMS:-}" ]; then
-    mkdir -p target/bin
-    for program; do
-      rm -f "crates/$program/out/$program"
-      (cd "crates/$program" && rt run < /dev/null > /dev/null 2>&1) || true
-      cp "crates/$program/out/$program" target/bin/ 2> /dev/null || { echo "not proved: $program"; exit 1; }
-    done
-  fi
+  [ -n "${PROGRAMS:-}" ] || tools/program.sh "$@" > /dev/null 2>&1 || { echo "not proved: one of $*"; exit 1; }
   bin="$(cd "${PROGRAMS:-target/bin}" && pwd)"
 }
 

@@ -1,6 +1,6 @@
 -- What the calls over lists of `list_calls64` answer and leave is what those of `list_calls` do, at every format. Assumes nothing.
 use Prim.Native.Nat.{ℕ}
-use mathlib.Core.Bool.{Bool, cond}
+use mathlib.Core.Bool.{cond}
 use mathlib.Core.List.{List}
 use mathlib.Core.Path.{◌≡◌, refl, sym, ◌∙◌}
 use lib.Dec.{ltb}
@@ -11,7 +11,6 @@ use Rattle.model.specs.declared.DistanceAnswer.{DistanceAnswer}
 use Rattle.model.specs.declared.DistanceAnswer.TheVariants as Answer
 use Rattle.model.specs.declared.Distance.{Distance}
 use Rattle.model.specs.declared.Outcome.{Outcome}
-use Rattle.model.specs.declared.Outcome.TheVariants as Outcome
 use Rattle.model.specs.Support.{point}
 use Rattle.model.specs.Work.{sweep_for}
 use Rattle.list_calls.specs.Entry as E

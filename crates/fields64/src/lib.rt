@@ -1,5 +1,7 @@
 // Written by tests/written/wide.py from fields, in f64.
 // The fields that the sheet's lines and a route's line share: the letter of a status, and the floats of a contact.
+#![tactic(auto)]
+
 ghost use Rattle.std.specs.Prelude.{◌≡◌, ◌+◌, ◌≤◌, length};
 ghost use Rattle.model.specs.Sheet.{letter_of};
 ghost use Rattle.text.specs.Put.{Put, where_room};

@@ -1,7 +1,10 @@
 // Written by tests/written/wide.py from sheet, in f64.
 // Prints the sheet, worked in f64, of the batch on standard input, which is read in parts of 64 KiB; the text of a part is written once its blocks are worked. A read or a write
 // that fails is told on standard error and ends the run, with no TOTAL; that no block came is told there too, behind its TOTAL.
+#![tactic(auto)]
+
 use model::Totals;
+use std::io::{Read, Write};
 
 // Whether the run goes on, and the totals so far.
 #[derive(Clone, Copy)]
@@ -18,14 +21,20 @@ fn ended(totals: Totals) -> Worked {
 }
 
 // Writes the text of a part, by room lent for it.
-fn work_part(part: &[u8], text: &mut [u8], t: Totals) -> Worked {
+fn work_part<W: Write, E: Write>(
+    out: &mut W,
+    err: &mut E,
+    part: &[u8],
+    text: &mut [u8],
+    t: Totals,
+) -> Worked {
     let written = sheet_lines64::write_part(part, text, t);
     let totals = written.totals;
-    if !streams::write_to_output(text, written.at) {
+    if !streams::write_to_output(out, err, text, written.at) {
         return ended(totals);
     }
     if written.last & (totals.blocks == 0) {
-        streams::write_to_error(b"standard input: no block came\n", 30);
+        streams::write_to_error(err, b"standard input: no block came\n", 30);
     }
     Worked {
         more: !written.last,
@@ -34,20 +43,24 @@ fn work_part(part: &[u8], text: &mut [u8], t: Totals) -> Worked {
 }
 
 // Reads a part into a lent buffer and works it. What an earlier part left there, and in the text, is not looked at.
-fn next_part(buffer: &mut [u8], text: &mut [u8], t: Totals) -> Worked {
-    let filled = streams::fill_from_input(buffer);
-    if filled.failed {
+fn next_part<R: Read, W: Write, E: Write>(
+    input: &mut R,
+    out: &mut W,
+    err: &mut E,
+    buffer: &mut [u8],
+    text: &mut [u8],
+    t: Totals,
+) -> Worked {
+    let filled = streams::fill_from_input(input, err, buffer);
+    if filled.failed.is_some() {
         return ended(t);
     }
     let n = filled.count;
-    work_part(&buffer[..n], text, t)
+    work_part(out, err, &buffer[..n], text, t)
 }
 
 // The whole run. A proved loop has to end, and nothing says that the input does: so the reads are counted, to a number that no run reaches.
-fn main() {
-    if !streams::no_argument(b"sheet64") {
-        return;
-    }
+fn run<R: Read, W: Write, E: Write>(input: &mut R, out: &mut W, err: &mut E) {
     let mut t = Totals {
         blocks: 0,
         clear: 0,
@@ -58,10 +71,17 @@ fn main() {
     let mut buffer = io::large_buffer();
     let mut text = io::large_buffer();
     for reads in 0..u64::MAX {
-        let worked = next_part(&mut buffer, &mut text, t);
+        let worked = next_part(input, out, err, &mut buffer, &mut text, t);
         t = worked.totals;
         if !worked.more {
             return;
         }
+    }
+}
+
+fn main(rt: HostRuntime) {
+    let mut err = rt.stderr();
+    if streams::no_argument(&rt, &mut err, b"sheet64") {
+        run(&mut rt.stdin(), &mut rt.stdout(), &mut err);
     }
 }

@@ -5,10 +5,8 @@ use mathlib.Core.Bool.{true, false}
 use mathlib.Core.List.{List, [], ◌∷◌, map}
 use lib.ListN.{replicate}
 use lib.Ieee.{Float, nan, binary32, binary64, of_bits, to_bits, add, sub, mul, div, neg, lt, le}
-use Rattle.model.specs.declared.Vector.{Vector}
 use Rattle.model.specs.declared.Sweep.{Sweep}
 use Rattle.model.specs.declared.CheckedPose.{CheckedPose}
-use Rattle.model.specs.declared.CheckedPose.TheVariants as CheckedPose
 use Rattle.model.specs.declared.SweepAnswer.TheVariants as Swept
 use Rattle.model.specs.declared.Status.TheVariants.{Failed}
 use Rattle.model.specs.Root.{root}
@@ -36,7 +34,7 @@ use Rattle.list_calls.specs.Entry.{sweep_fits, sweep_call, sweep_number, cache_o
 use Rattle.foldflake.specs.Entry.{line_to}
 use Rattle.foldflake.specs.Route.{end_number}
 use Rattle.foldflake.specs.Moment.{pose_floats, gap_call, gap_after}
-use Rattle.slips.proofs.Ground.{n0, n1, n2, n3, n4, n5, -n0, -n1, bits, both}
+use Rattle.slips.proofs.Ground.{n0, n1, n2, n3, n4, n5, bits}
 
 abbrev there : List Float
 there = n0 ∷ n0 ∷ []

@@ -1,14 +1,13 @@
 -- The distance call, the separation, a block's work: what each slip would change. By computing.
 use mathlib.Core.Path.{◌≡◌, refl}
 use Prim.Native.Nat.{ℕ}
-use mathlib.Core.Bool.{Bool, true, false}
+use mathlib.Core.Bool.{false}
 use mathlib.Core.List.{List, [], ◌∷◌}
 use lib.Ieee.{Float, nan, binary32, of_bits, to_bits, add, sub, mul, div, neg, lt, le, is_nan}
 use Rattle.model.specs.declared.Pose.{Pose}
 use Rattle.model.specs.declared.Sweep.{Sweep}
 use Rattle.model.specs.declared.SimplexVertex.{SimplexVertex}
 use Rattle.model.specs.declared.SeparationFunction.{SeparationFunction}
-use Rattle.model.specs.declared.SeparationType.{SeparationType}
 use Rattle.model.specs.declared.SeparationType.TheVariants.{Points, FaceA, FaceB}
 use Rattle.model.specs.declared.SimplexCache.{SimplexCache}
 use Rattle.model.specs.declared.SweepTask.{SweepTask}
@@ -21,7 +20,6 @@ use Rattle.model.specs.declared.BlockAnswer.TheVariants as Answer
 use Rattle.model.specs.Root.{root}
 use Rattle.model.specs.Ground.{vector, rotation, pose, abs}
 use Rattle.model.specs.Support.{support_from}
-use Rattle.model.specs.Second.{second_from}
 use Rattle.model.specs.Domain.{bad_parts, refusal_of_pose}
 use Rattle.model.specs.Simplex.{region2, kept, solve, solve_simplex2}
 use Rattle.model.specs.Distance.{cache, all_below, replaced, held, vertex, start_simplex, rounds_from, witness_points, measure, proxy_distance}
@@ -32,8 +30,8 @@ use Rattle.model.specs.SweepToi.{sweep_task, sweep_refusal, sweep_time_of_impact
 use Rattle.model.specs.Corners.{corners_a}
 use Rattle.model.specs.Blocks.{whole_blocks, blocks}
 use Rattle.model.specs.Sheet.{answers}
-use Rattle.model.specs.Work.{move_at, block_answer}
-use Rattle.slips.proofs.Ground.{n0, n1, n2, n3, n4, n5, -n0, -n1, bits, both}
+use Rattle.model.specs.Work.{move_at}
+use Rattle.slips.proofs.Ground.{n0, n1, n2, n3, n4, n5, -n1, bits, both}
 use Rattle.slips.proofs.Geometry as Geometry
 
 abbrev upright : Pose

@@ -1,8 +1,8 @@
 -- The checks of the domain: what each slip would let pass, refuse or number otherwise. By computing.
 use mathlib.Core.Path.{◌≡◌, refl}
 use Prim.Native.Nat.{ℕ}
-use mathlib.Core.Bool.{Bool, true, false}
-use mathlib.Core.List.{List, [], ◌∷◌, map}
+use mathlib.Core.Bool.{true, false}
+use mathlib.Core.List.{[], ◌∷◌, map}
 use lib.ListN.{replicate}
 use lib.Ieee.{Float, nan, binary32, of_bits, add, mul, lt, le}
 use Rattle.model.specs.declared.SimplexCache.{SimplexCache}

@@ -1,25 +1,22 @@
 -- Outlines, solvers, moves and the separation: what each slip would change. By computing.
 use mathlib.Core.Path.{◌≡◌, refl}
 use Prim.Native.Nat.{ℕ}
-use mathlib.Core.Bool.{Bool, true, false}
-use mathlib.Core.List.{List, [], ◌∷◌, map}
-use lib.ListN.{take}
+use mathlib.Core.Bool.{false}
+use mathlib.Core.List.{[], ◌∷◌}
 use lib.Ieee.{Float, nan, binary32, of_bits, to_bits, add, sub, mul, div, neg, lt, le}
-use Rattle.model.specs.declared.Vector.{Vector}
-use Rattle.model.specs.declared.Pose.{Pose}
 use Rattle.model.specs.declared.Sweep.{Sweep}
 use Rattle.model.specs.declared.SimplexVertex.{SimplexVertex}
 use Rattle.model.specs.declared.SupportAnswer.TheVariants.{Refused}
 use Rattle.model.specs.Root.{root}
 use Rattle.model.specs.Ground.{vector, rotation, pose, abs}
 use Rattle.model.specs.Support.{point, support_from, support}
-use Rattle.model.specs.Second.{second_from, support_answer}
+use Rattle.model.specs.Second.{support_answer}
 use Rattle.model.specs.Domain.{bad_parts}
 use Rattle.model.specs.Simplex.{region2, kept, solve_simplex2}
 use Rattle.model.specs.Distance.{cache, all_below, cache_is_valid}
 use Rattle.model.specs.Sweep.{transform_at, shifted}
 use Rattle.model.specs.Separation.{toward}
-use Rattle.slips.proofs.Ground.{n0, n1, n2, n3, n4, n5, -n0, -n1, bits, both}
+use Rattle.slips.proofs.Ground.{n0, n1, n2, n3, n4, -n1, bits, both}
 
 -- ---- outlines: the points (0, 0) and (nan, 1), of which the second never wins along (1, 0)
 pub nan-wins : support binary32 (n0 ∷ n0 ∷ nan ∷ n1 ∷ []) (vector n1 n0) ≡ 0

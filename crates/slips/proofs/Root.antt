@@ -1,7 +1,7 @@
 -- The root: what each slip would change. By computing.
 use mathlib.Core.Path.{◌≡◌, refl}
 use mathlib.Core.Bool.{true, false}
-use Prim.Native.Nat.{ℕ, ◌+◌, ◌*◌, ◌^◌}
+use Prim.Native.Nat.{◌+◌, ◌*◌, ◌^◌}
 use lib.Dec.{leb}
 use lib.ListN.{get_or}
 use lib.Ieee.{binary32, binary64, of_bits, to_bits}

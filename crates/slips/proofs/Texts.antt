@@ -3,27 +3,26 @@ use mathlib.Core.Path.{◌≡◌, refl}
 use Prim.Native.Nat.{ℕ}
 use native.Mathlib.Omega.{arith}
 use borrow.Author.Tests.{le-ltb}
-use mathlib.Core.Bool.{Bool, true, false}
-use mathlib.Core.List.{List, [], ◌∷◌, map}
-use lib.ListN.{length, replicate}
-use lib.Ieee.{Float, nan, binary32, of_bits, lt, eq}
+use mathlib.Core.Bool.{false}
+use mathlib.Core.List.{List, [], ◌∷◌}
+use lib.ListN.{length}
+use lib.Ieee.{nan, of_bits, lt, eq}
 use Rattle.model.specs.declared.Status.TheVariants.{Hit}
-use Rattle.model.specs.declared.Verdict.{Verdict}
 use Rattle.model.specs.declared.BlockAnswer.{BlockAnswer}
 use Rattle.model.specs.declared.BlockAnswer.TheVariants.{Worked}
 use Rattle.model64.specs.declared.BlockAnswer.TheVariants as Wide
 use Rattle.model.specs.Ground.{vector}
 use Rattle.model.specs.Corners.{no_search}
 use Rattle.model.specs.SweepToi.{counts, contact}
-use Rattle.model.specs.Parts.{part_size, is_last}
+use Rattle.model.specs.Parts.{part_size}
 use Rattle.model.specs.Text.{decimal_by, line}
 use Rattle.model.specs.Sheet.{totals, total_line}
 use Rattle.any_contact_search.specs.First.{first_from, said}
 use Rattle.any_contact_search.specs.Search.{searched_to}
 use Rattle.report_counts.specs.declared.most.Most.TheVariants.{Nowhere, At}
-use Rattle.report_counts.specs.Rows.{hit_row, rows_in, times_in, refusal_row}
+use Rattle.report_counts.specs.Rows.{hit_row, rows_in, times_in}
 use Rattle.report_counts.specs.Largest.{larger, largest_from, largest_in, moved}
-use Rattle.report_counts.specs.Report.{report, every_answer, tally_from, bumped_all, counted, together}
+use Rattle.report_counts.specs.Report.{report, every_answer, tally_from, counted, together}
 use Rattle.report_lines.specs.Text.{most_text}
 use Rattle.job_text.specs.Job.{count_at}
 use Rattle.sheet_lines64.specs.Part.{line_for}

@@ -1,5 +1,7 @@
 // Written by tests/written/wide.py from sweep_numbers, in f64.
 // A sweep by numbers: the moves and the sweep that they ask for, and what its answer comes to. For blocks, routes and lists from C alike.
+#![tactic(auto)]
+
 ghost use Rattle.std.specs.Prelude.{◌≡◌, ◌+◌, ◌≤◌};
 ghost use Rattle.std.specs.Float.{binary64};
 ghost use Rattle.model64.specs.Work as Work;
