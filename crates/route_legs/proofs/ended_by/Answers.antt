@@ -1,5 +1,4 @@
 -- `route_legs::ended_by` meets its contract, by what its callees ensure. Assumes nothing.
-use borrow.Author.Rules.{rules}
 use Rattle.route_legs.proofs.ended_by.Goals as goal
 
 pub returns : goal.returns

@@ -1,6 +1,5 @@
 -- `route_legs::leg_move` meets its contract, by what its callees ensure. Assumes nothing.
 use Rattle.route_legs.specs.Route.{leg_move}
-use borrow.Author.Rules.{rules}
 use Rattle.route_legs.proofs.leg_move.Goals as goal
 
 pub returns : goal.returns

@@ -5,7 +5,6 @@ use native.Mathlib.Omega.{arith}
 use lib.ListN.{length}
 use lib.Ieee.{binary32}
 use Rattle.route_legs.proofs.Checks.{sweeps-few, some-outline, no-multiple, too_few, too_many, no-outline, too-many-outlines, lengths_differ, all_right}
-use borrow.Author.Rules.{rules}
 use Rattle.route_legs.proofs.route.Goals as goal
 
 pub returns-then-waypoints-ne0 : goal.returns-then-waypoints-ne0
@@ -36,7 +35,7 @@ returns-then-start_of-stills c = let a = c.args in
     lengths_differ binary32 a.cart.now a.waypoints.now a.stills.now a.lengths.now a.slop
     c.if-waypoints-ne0.false c.if-places-lt2.false
     c.if-places-gt-MOST_WAYPOINTS.false c.if-outlines-eq0.false c.if-outlines-gt-MOST_OUTLINES.false
-    (rw c.start_of_lem.ensures.0 at c.if-start_of-stills.true)
+    (rw c.start_of.ensures.0 at c.if-start_of-stills.true)
 
 pub overflow_mul-sweeps : goal.overflow_mul-sweeps
 overflow_mul-sweeps c = let a = c.args in
@@ -55,19 +54,21 @@ overflow_cast-sweeps c = let a = c.args in
     )
 
 pub walk-requires : goal.walk-requires
-walk-requires c = let a = c.args in (
-  (
-    refl,
-    some-outline _ c.if-outlines-eq0.false,
-    c.if-outlines-gt-MOST_OUTLINES.false,
-    sweeps-few (length a.waypoints.now / 4) (length a.lengths.now) c.if-places-gt-MOST_WAYPOINTS.false c.if-outlines-gt-MOST_OUTLINES.false,
-  ),
-  rw c.start_of_lem.ensures.0 at c.if-start_of-stills.false,
-)
+walk-requires c =
+    let a = c.args in
+    record {
+      outlines_value = (
+        refl,
+        some-outline _ c.if-outlines-eq0.false,
+        c.if-outlines-gt-MOST_OUTLINES.false,
+        sweeps-few (length a.waypoints.now / 4) (length a.lengths.now) c.if-places-gt-MOST_WAYPOINTS.false c.if-outlines-gt-MOST_OUTLINES.false,
+      );
+      lengths_value = rw c.start_of.ensures.0 at c.if-start_of-stills.false;
+    }
 
 pub returns : goal.returns
 returns c = let a = c.args in
     c.walk.ensures ∙ all_right binary32 a.cart.now a.waypoints.now a.stills.now a.lengths.now a.slop
     c.if-waypoints-ne0.false c.if-places-lt2.false
     c.if-places-gt-MOST_WAYPOINTS.false c.if-outlines-eq0.false c.if-outlines-gt-MOST_OUTLINES.false
-    (rw c.start_of_lem.ensures.0 at c.if-start_of-stills.false)
+    (rw c.start_of.ensures.0 at c.if-start_of-stills.false)

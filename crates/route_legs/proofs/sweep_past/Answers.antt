@@ -1,7 +1,6 @@
 -- `route_legs::sweep_past` meets its contract, by what its callees ensure. Assumes nothing.
 use lib.Ieee.{binary32}
 use Rattle.model.proofs.Searches.{answer-as-ever}
-use borrow.Author.Rules.{rules}
 use Rattle.route_legs.proofs.sweep_past.Goals as goal
 
 pub returns : goal.returns

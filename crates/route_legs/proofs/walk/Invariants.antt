@@ -1,10 +1,7 @@
 -- `route_legs::walk` meets its contract: what is left to sweep comes to what the whole does, and the sweeps left fall. Assumes nothing.
-use Rattle.route_legs.proofs.Walks.{at_first, leg-few, outline-few, few-calls-of, swept-in-order, stopped-in-order, ends-here, goes_on, all-passed}
-use mathlib.Core.Path.{◌≡◌, ◌∙◌}
+use mathlib.Core.Path.{◌≡◌}
 use Prim.Native.Nat.{◌≤◌, ◌-◌, ◌*◌}
-use native.Mathlib.Omega.{arith}
 use lib.Ieee.{binary32}
-use borrow.Author.Rules.{rules}
 use Rattle.route_legs.specs.Route.{walk_from}
 use Rattle.route_legs.proofs.walk.Given as goal
 
