@@ -33,7 +33,7 @@ TOUR = "docs/ARCHITECTURE.md"
 ELSEWHERE = ("target/", "query/", "shape/", "/dev/")
 # words in backticks that are no names of the repository: of the published text and of the kit, of the language, of files that a reader makes
 NO_NAMES = {
-    "from_cuboid_half_extents", "ofBits", "toBits", "rattle-kit-5b", "logic",
+    "from_cuboid_half_extents", "ofBits", "toBits", "rattle-kit-5b", "rattle-kit-13f", "dac8208d650f15bf", "logic",
     "requires", "definition",
     "SHEET.html", "PAGE.html", "may.batch", "found.batch", "./-x", "mine.html", "shift.html", "shift-2.batch",
 }

@@ -1,4 +1,6 @@
 // From a block to the verdict on its whole move: its checks, its floats, and the call that they ask for.
+#![tactic(auto)]
+
 ghost use Rattle.std.specs.Prelude.{◌≡◌, ◌≤◌};
 ghost use Rattle.model.specs.Block.{most_points, checked_block};
 ghost use Rattle.clearance_block.specs.Answer.{refused_block, Looked, AnswerBy, AnswerOf};

@@ -9,43 +9,34 @@ use borrow.Author.Rules.{rules}
 use Rattle.fields64.proofs.put_contact.Goals as goal
 
 pub put_float-e2-requires : goal.put_float-e2-requires
-put_float-e2-requires c = let p = c.before.before.before in omega (arith, ends p.put_float-e1.ensures (length-hex _), p.put_float-e1.auto.out)
+put_float-e2-requires c = omega (arith, ends c.put_float-e1.ensures (length-hex _), c.put_float-e1.auto.out)
 
 pub put_float-e3-requires : goal.put_float-e3-requires
-put_float-e3-requires c = let q = c.before.before.before in
-    let p = q.before.before.before.before in
-    omega (arith, ends p.put_float-e1.ensures (length-hex _), p.put_float-e1.auto.out, ends q.put_float-e2.ensures (length-hex _), q.put_float-e2.auto.out)
+put_float-e3-requires c = omega (arith, ends c.put_float-e1.ensures (length-hex _), c.put_float-e1.auto.out, ends c.put_float-e2.ensures (length-hex _), c.put_float-e2.auto.out)
 
 pub put_float-e4-requires : goal.put_float-e4-requires
-put_float-e4-requires c = let r = c.before.before.before in
-    let q = r.before.before.before.before in
-    let p = q.before.before.before.before in
-    omega (
-      arith,
-      ends p.put_float-e1.ensures (length-hex _),
-      p.put_float-e1.auto.out,
-      ends q.put_float-e2.ensures (length-hex _),
-      q.put_float-e2.auto.out,
-      ends r.put_float-e3.ensures (length-hex _),
-      r.put_float-e3.auto.out,
-    )
+put_float-e4-requires c = omega (
+  arith,
+  ends c.put_float-e1.ensures (length-hex _),
+  c.put_float-e1.auto.out,
+  ends c.put_float-e2.ensures (length-hex _),
+  c.put_float-e2.auto.out,
+  ends c.put_float-e3.ensures (length-hex _),
+  c.put_float-e3.auto.out,
+)
 
 pub put_float-requires : goal.put_float-requires
-put_float-requires c = let s = c.before.before.before in
-    let r = s.before.before.before.before in
-    let q = r.before.before.before.before in
-    let p = q.before.before.before.before in
-    omega (
-      arith,
-      ends p.put_float-e1.ensures (length-hex _),
-      p.put_float-e1.auto.out,
-      ends q.put_float-e2.ensures (length-hex _),
-      q.put_float-e2.auto.out,
-      ends r.put_float-e3.ensures (length-hex _),
-      r.put_float-e3.auto.out,
-      ends s.put_float-e4.ensures (length-hex _),
-      s.put_float-e4.auto.out,
-    )
+put_float-requires c = omega (
+  arith,
+  ends c.put_float-e1.ensures (length-hex _),
+  c.put_float-e1.auto.out,
+  ends c.put_float-e2.ensures (length-hex _),
+  c.put_float-e2.auto.out,
+  ends c.put_float-e3.ensures (length-hex _),
+  c.put_float-e3.auto.out,
+  ends c.put_float-e4.ensures (length-hex _),
+  c.put_float-e4.auto.out,
+)
 
 pub returns : goal.returns
 unfolding floats

@@ -1,7 +1,6 @@
 -- Written by tests/written/wide.py from sweep_numbers, in f64.
 -- `sweep_numbers::move_at` meets its contract, by what its callees ensure. Assumes nothing.
 use Rattle.model64.specs.Work.{move_at}
-use borrow.Author.Rules.{rules}
 use Rattle.sweep_numbers64.proofs.move_at.Goals as goal
 
 pub returns : goal.returns

@@ -1,7 +1,6 @@
 -- Written by tests/written/wide.py from sweep_numbers, in f64.
 -- `sweep_numbers::sweep_of` meets its contract, by what its callees ensure. Assumes nothing.
 use Rattle.model64.specs.Work.{sweep_for}
-use borrow.Author.Rules.{rules}
 use Rattle.sweep_numbers64.proofs.sweep_of.Goals as goal
 
 pub returns : goal.returns
