@@ -9,16 +9,16 @@ pub loop-i-init : goal.loop-i-init
 loop-i-init c = (search rules, start_none _, search rules)
 
 pub overflow_cast-start : goal.overflow_cast-start
-overflow_cast-start c = omega (arith, c.shared_slice_known-1.given c.loop-i.i)
+overflow_cast-start c = omega (arith, c.type_inv.lengths c.loop-i.i)
 
 pub overflow_add-start : goal.overflow_add-start
-overflow_add-start c = omega (arith, c.shared_slice_known-1.given c.loop-i.i)
+overflow_add-start c = omega (arith, c.type_inv.lengths c.loop-i.i)
 
 pub loop-i-preserved : goal.loop-i-preserved
 loop-i-preserved c = let l = c.loop-i in (
   search rules,
   rw l.invariant.1 (start-more _ _),
-  omega (arith, c.shared_slice_known-1.given l.i),
+  omega (arith, c.type_inv.lengths l.i),
 )
 
 pub returns : goal.returns
