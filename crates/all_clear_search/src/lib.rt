@@ -1,4 +1,6 @@
 // The first block of a batch that is not proved clear over its whole move: found part by part, and told as a number or `none`.
+#![tactic(auto)]
+
 ghost use Rattle.std.specs.Prelude.{◌≡◌, ◌+◌, ◌/◌, ◌<◌, length};
 ghost use Rattle.model.specs.Block.{block_size};
 ghost use Rattle.model.specs.Blocks.{whole_blocks, blocks};

@@ -1,9 +1,9 @@
 -- In form 2 an exchange of two neighbouring words that differ is refused, where byte 6 stays 2. Assumes nothing.
-use mathlib.Core.Path.{◌≡◌, refl, sym, ap, ◌∙◌, subst}
+use mathlib.Core.Path.{◌≡◌, refl, sym, ap, ◌∙◌}
 use mathlib.Core.Logic.{◌≢◌}
 use mathlib.Core.Bool.{Bool, true, false}
 use mathlib.Core.List.{List, [], ◌∷◌, ◌++◌}
-use Prim.Native.Nat.{ℕ, zero, suc, ◌+◌, ◌-◌, ◌*◌, ◌%◌, ◌≤◌, ◌<◌}
+use Prim.Native.Nat.{ℕ, zero, suc, ◌+◌, ◌*◌, ◌%◌, ◌≤◌, ◌<◌}
 use native.Mathlib.Omega.{arith}
 use native.Mathlib.Nat.{mul-suc}
 use borrow.Author.Tests.{eqb-true, eqb-false, ne_eqb}
@@ -14,7 +14,7 @@ use Rattle.model.specs.Wire.{byte, word}
 use Rattle.model.specs.Block.{known_form, sum_of_words, weighed_words, check_holds, all_zero, block_of, checked_block}
 use Rattle.model.specs.Table.{word4, words}
 use Rattle.block.proofs.Laws.{wrong-check}
-use Rattle.convert_forms.specs.Forms.{with_four, next_first, exchanged}
+use Rattle.convert_forms.specs.Forms.{next_first, exchanged}
 use Rattle.convert_forms.proofs.Bytes.{length-four, byte-below, byte_above, word-here, Agree, same_word, same-weighed}
 use Rattle.convert_forms.proofs.Twice.{Bytes}
 

@@ -1,25 +1,24 @@
 -- A block that passes does so in the other form, with the same answer: its printed line is the same for every number. Assumes nothing.
-use mathlib.Core.Path.{◌≡◌, refl, sym, ap, ◌∙◌}
+use mathlib.Core.Path.{◌≡◌, sym, ap, ◌∙◌}
 use mathlib.Core.Logic.{◌≢◌}
-use mathlib.Core.Bool.{true, false}
+use mathlib.Core.Bool.{true}
 use mathlib.Core.List.{List}
 use Prim.Native.Nat.{ℕ, ◌+◌, ◌-◌, ◌*◌, ◌≤◌, ◌<◌}
 use native.Mathlib.Omega.{arith}
-use lib.Dec.{eqb}
 use lib.Ieee.{Format}
 use lib.ListN.{length}
 use Rattle.model.specs.declared.Block.{Block}
 use Rattle.model.specs.declared.CheckedBlock.TheVariants.{Good}
-use Rattle.model.specs.Wire.{byte, word}
-use Rattle.model.specs.Block.{known_form, check_holds, all_zero, bad_count, zeros_hold, bad_fields, job_of, block_of, most_points, checked_block}
+use Rattle.model.specs.Wire.{byte}
+use Rattle.model.specs.Block.{known_form, bad_fields, job_of, block_of, most_points, checked_block}
 use Rattle.model.specs.Blocks.{is_good}
-use Rattle.model.specs.Work.{floats_at, numbers_of, points_a, points_b, sweep_for, sweep_of, told, block_answer}
+use Rattle.model.specs.Work.{sweep_of, block_answer}
 use Rattle.model.specs.Sheet.{answer_line}
 use Rattle.block.proofs.Laws.{good-counts}
 use Rattle.block.proofs.Passed.{Passed, is-passed, passed-good}
-use Rattle.convert_forms.specs.Forms.{other_number, other_form}
+use Rattle.convert_forms.specs.Forms.{other_form}
 use Rattle.convert_forms.proofs.Bytes.{Agree, same_word, same-zero, same-floats}
-use Rattle.convert_forms.proofs.Twice.{Bytes, other-size, other-same, other-form, other-holds, known-other, twice-unchanged}
+use Rattle.convert_forms.proofs.Twice.{Bytes, other-same, other-form, other-holds, known-other, twice-unchanged}
 
 -- ---- lists that agree before the check but in byte 6
 module _ (b c : List ℕ) (same : (j : ℕ) → j < 508 → j ≢ 6 → byte c j ≡ byte b j) where

@@ -1,5 +1,5 @@
 -- A block built word by word. Assumes nothing.
-use Rattle.std.proofs.Common.{◌≡◌, ℕ, zero, suc, ◌+◌, ◌-◌, ◌*◌, ◌%◌, ◌^◌, ◌≤◌, List, [], ◌∷◌, ◌++◌, length, take, drop, sym, refl, ap, ◌∙◌, append-nil, add-one, arith, length-append}
+use Rattle.std.proofs.Common.{◌≡◌, ℕ, zero, suc, ◌+◌, ◌-◌, ◌*◌, ◌%◌, ◌^◌, List, length, sym, refl, ◌∙◌, append-nil, add-one, arith, length-append}
 use native.Mathlib.Nat.{mod-add-mod}
 use lib.Seq.{drop-length}
 use Rattle.text.specs.Put.{pasted, Put}

@@ -1,5 +1,5 @@
 -- A line compared with what was put. Assumes nothing.
-use Rattle.std.proofs.Common.{◌≡◌, ℕ, ◌+◌, Bool, true, false, ◌&&◌, eqb, List, [], ◌∷◌, ◌++◌, length, take, drop, sym, refl, ap, ◌∙◌, arith, take_at, eq-eqb, eqb-true}
+use Rattle.std.proofs.Common.{◌≡◌, ℕ, ◌+◌, Bool, true, false, eqb, List, [], ◌∷◌, length, take, drop, sym, refl, ◌∙◌, arith, take_at, eq-eqb, eqb-true}
 use Rattle.text.specs.Put.{pasted, Put}
 use Rattle.job_text.specs.Job as Job
 use Rattle.block.proofs.Passed.{both_true}

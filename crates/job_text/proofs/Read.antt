@@ -1,11 +1,11 @@
 -- The numbers read from the line of a block are the block's. Assumes nothing.
-use Rattle.std.proofs.Common.{◌≡◌, ℕ, zero, suc, ◌+◌, ◌*◌, ◌^◌, ◌<◌, ◌≤◌, true, false, ltb, List, [], ◌∷◌, ◌++◌, length, set, replicate, sym, refl, ap, ◌∙◌, add-one, arith, length-append, le-ltb, lt-ltb}
+use Rattle.std.proofs.Common.{◌≡◌, ℕ, zero, suc, ◌+◌, ◌<◌, true, false, ltb, List, [], ◌∷◌, ◌++◌, length, set, replicate, sym, refl, ap, ◌∙◌, arith, le-ltb, lt-ltb}
 use lib.Seq.{sets}
 use Rattle.model.specs.Wire.{byte, word}
 use Rattle.model.specs.Block.{job_of}
-use Rattle.model.specs.Text.{decimal_by, decimal, hex_by, line}
+use Rattle.model.specs.Text.{decimal, hex_by, line}
 use Rattle.text.specs.Read.{stored}
-use Rattle.text.proofs.ReadBack.{Digits, value_of, stored-number, decimal-digits, decimal-value, hex-digits, hex-value}
+use Rattle.text.proofs.ReadBack.{stored-number, decimal-digits, decimal-value, hex-digits, hex-value}
 use Rattle.job_text.proofs.Lines.{length-words, line-is}
 use Rattle.job_text.specs.Job.{place_of, words_of, word_count, hexes, job_line, most_numbers, numbers_of}
 

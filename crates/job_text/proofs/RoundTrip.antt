@@ -1,7 +1,7 @@
 -- From block to line and back, and from line to block and back. Assumes nothing.
-use Rattle.std.proofs.Common.{◌≡◌, ℕ, zero, suc, ◌+◌, ◌-◌, ◌*◌, ◌/◌, ◌%◌, ◌^◌, ◌<◌, ◌≤◌, Bool, true, false, cond, ◌&&◌, eqb, ltb, List, [], ◌∷◌, ◌++◌, length, get_or, take, drop, replicate, sym, refl, ap, ◌∙◌, mod-eq_of_lt, add-one, arith, length-append, take_all, drop-cons, get_or-append-add, take-add, ltb-false, ltb-true, le-ltb, lt-ltb, eq-eqb, ne_eqb, eqb-true}
+use Rattle.std.proofs.Common.{◌≡◌, ℕ, zero, suc, ◌+◌, ◌-◌, ◌*◌, ◌/◌, ◌%◌, ◌^◌, ◌<◌, ◌≤◌, Bool, true, false, cond, eqb, ltb, List, [], ◌∷◌, ◌++◌, length, get_or, take, drop, replicate, sym, refl, ap, ◌∙◌, mod-eq_of_lt, add-one, arith, take_all, drop-cons, get_or-append-add, take-add, ltb-false, ltb-true, le-ltb, lt-ltb, eqb-true}
 use borrow.Author.Tests.{eqb-false}
-use lib.ListN.{get_or-append, get_or-eq_default}
+use lib.ListN.{get_or-append}
 use lib.Seq.{sets, sets-eq, get_or_at}
 use Rattle.model.specs.Wire.{byte, word}
 use Rattle.model.specs.declared.CheckedBlock.TheVariants.{Good}

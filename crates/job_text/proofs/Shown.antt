@@ -1,5 +1,5 @@
 -- Lines that are jobs and lines that are not, computed. Assumes nothing.
-use Rattle.std.proofs.Common.{◌≡◌, ℕ, true, false, List, [], ◌∷◌, ◌++◌, replicate, refl}
+use Rattle.std.proofs.Common.{◌≡◌, ℕ, true, false, List, ◌∷◌, replicate, refl}
 use Rattle.model.specs.Wire.{word}
 use Rattle.model.specs.Block.{sum_of_words, all_zero, checked_block}
 use Rattle.model.specs.Text.{decimal_by, decimal, hex_by, line}

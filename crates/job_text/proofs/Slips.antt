@@ -1,5 +1,5 @@
 -- Slips that look harmless, each with what the definition says where it would show, computed. Assumes nothing.
-use Rattle.std.proofs.Common.{◌≡◌, List, [], ◌∷◌, refl}
+use Rattle.std.proofs.Common.{◌≡◌, [], ◌∷◌, refl}
 use Rattle.model.specs.declared.CheckedBlock.TheVariants.{Refused}
 use Rattle.model.specs.Wire.{word}
 use Rattle.model.specs.Block.{sum_of_words}

@@ -1,7 +1,7 @@
 -- A job's line and its block. The line of a block is given by its fields; a line is a job where it is the line of a block that passes.
 use Rattle.std.specs.Prelude.{ℕ, zero, suc, ◌+◌, ◌-◌, ◌*◌, ◌%◌, ◌^◌, Bool, true, false, cond, ◌&&◌, List, [], ◌∷◌, ◌++◌, replicate, ◌==◌, nat_lt, slice_index}
 use Rattle.model.specs.declared.CheckedBlock.{CheckedBlock}
-use Rattle.model.specs.declared.CheckedBlock.TheVariants.{Good, Refused}
+use Rattle.model.specs.declared.CheckedBlock.TheVariants.{Refused}
 use Rattle.model.specs.Wire.{byte, word}
 use Rattle.model.specs.Block.{job_of, most_points, sum_of_words, checked_block}
 use Rattle.model.specs.Blocks.{is_good}

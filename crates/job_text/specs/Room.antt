@@ -1,5 +1,5 @@
 -- Refusals as text, and how much of the input there is room for.
-use Rattle.std.specs.Prelude.{ℕ, ◌+◌, ◌/◌, cond, List, [], ◌∷◌, ◌++◌, nat_lt}
+use Rattle.std.specs.Prelude.{ℕ, ◌+◌, ◌/◌, cond, List, [], ◌++◌, nat_lt}
 use Rattle.model.specs.Parts.{count_limit}
 use Rattle.text.specs.Put.{number, where_room}
 

@@ -1,4 +1,6 @@
 // The sweep and the distance call over lists of numbers, as programs in C and Rust have them. Nothing is required of the caller.
+#![tactic(auto)]
+
 mod numbers;
 mod tell;
 

@@ -2,19 +2,19 @@
 use mathlib.Core.Path.{◌≡◌, refl, sym, ap, ◌∙◌}
 use mathlib.Core.Bool.{Bool, true, false, cond}
 use mathlib.Core.List.{List, [], ◌∷◌, ◌++◌, append-nil}
-use Prim.Native.Nat.{ℕ, zero, suc, ◌+◌, ◌*◌, ◌/◌, ◌≤◌, ◌<◌}
+use Prim.Native.Nat.{ℕ, ◌+◌, ◌≤◌, ◌<◌}
 use native.Mathlib.Omega.{arith}
 use native.Mathlib.Numerals.{add-one}
-use borrow.Author.Tests.{lt-ltb, le-ltb, ltb-true, ltb-false}
+use borrow.Author.Tests.{ltb-true}
 use lib.Dec.{eqb, ltb}
-use lib.ListN.{length, take, get_or, length-append}
+use lib.ListN.{length, take, get_or}
 use lib.Seq.{length-take-le, take-suc, take_all}
 use Rattle.text.specs.Put.{Put}
 use Rattle.text.proofs.Pasted.{put_then, put-nothing}
 use Rattle.pack_lines.specs.declared.Held.{Held}
 use Rattle.job_text.specs.Job.{block_for, is_job}
 use Rattle.job_text.specs.Room.{refusal, refusal_room, least}
-use Rattle.pack_lines.specs.Pack.{packed, complaint, Run, longer, line_ended, line_on, byte_more, run_over, used_bytes, run_in, Ends}
+use Rattle.pack_lines.specs.Pack.{Run, longer, line_ended, line_on, byte_more, run_over, used_bytes, run_in, Ends}
 use Rattle.job_text.proofs.BlockBuilt.{length-block-for}
 use Rattle.job_text.proofs.Fitting.{length-refusal}
 

@@ -1,6 +1,6 @@
 -- Slips that look harmless, each with what the definition says where it would show, computed. Assumes nothing.
 use mathlib.Core.Path.{◌≡◌, refl}
-use mathlib.Core.List.{List, [], ◌∷◌}
+use mathlib.Core.List.{[], ◌∷◌}
 use Rattle.model.specs.Wire.{word}
 use Rattle.model.specs.Block.{sum_of_words, all_zero, checked_block}
 use Rattle.model.specs.Text.{decimal_by, hex_by, line}

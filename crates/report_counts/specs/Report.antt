@@ -1,5 +1,5 @@
 -- The report of a list of batches, each the list of its answers; one answer more; and two reports put together.
-use Rattle.std.specs.Prelude.{ℕ, zero, suc, ◌+◌, List, [], ◌∷◌, ◌++◌, length, slice_index, slice_set}
+use Rattle.std.specs.Prelude.{ℕ, zero, suc, List, [], ◌∷◌, ◌++◌, length, slice_index, slice_set}
 use Rattle.model.specs.declared.BlockAnswer.{BlockAnswer}
 use Rattle.report_counts.specs.declared.most.Largest.{Largest}
 use Rattle.report_counts.specs.declared.counting.Report.{Report}

@@ -1,4 +1,6 @@
 // From a block to the room that its whole move keeps, and to what is proved of each of its 64 parts.
+#![tactic(auto)]
+
 mod cells;
 mod look;
 mod room;

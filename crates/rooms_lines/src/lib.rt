@@ -1,4 +1,6 @@
 // The lines of a batch's rooms and cells, written into lent bytes.
+#![tactic(auto)]
+
 mod part;
 mod put;
 mod write;

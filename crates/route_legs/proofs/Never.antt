@@ -1,12 +1,11 @@
 -- No sweep of a route is refused by 4 or by 7: the radii are 0, and each leg is swept whole. Assumes nothing.
 use mathlib.Core.Path.{◌≡◌, refl, subst}
-use mathlib.Core.Bool.{Bool, true, false, not, ◌&&◌, ◌||◌, cond}
+use mathlib.Core.Bool.{Bool, true, false, ◌&&◌, ◌||◌, cond}
 use mathlib.Core.List.{List}
 use Prim.Native.Nat.{ℕ, zero, suc}
 use native.Mathlib.Omega.{arith}
 use lib.Ieee.{Float, Format, binary32, binary64, of_bits, lt, le}
 use Rattle.model.specs.declared.Sweep.{Sweep}
-use Rattle.model.specs.declared.SweepAnswer.{SweepAnswer}
 use Rattle.model.specs.declared.SweepAnswer.TheVariants as Swept
 use Rattle.model.specs.Ground.{one}
 use Rattle.model.specs.Ground as Ground

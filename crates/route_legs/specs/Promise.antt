@@ -3,7 +3,6 @@ use Rattle.std.specs.Prelude.{◌≡◌, true, false, List, ◌⊎◌, ℕ, zero
 use Rattle.std.specs.Float.{Format}
 use Rattle.model.specs.declared.SweepAnswer.{SweepAnswer}
 use Rattle.model.specs.declared.SweepAnswer.TheVariants as Sweep
-use Rattle.route_legs.specs.declared.Stop.{Stop}
 use Rattle.route_legs.specs.declared.RouteAnswer.{RouteAnswer}
 use Rattle.route_legs.specs.declared.RouteAnswer.TheVariants.{Clear, Ended, Refused, Wrong}
 use Rattle.route_legs.specs.Route.{outlines, legs, sweep_at, is_separated, calls_of, ended_by, stop}

@@ -1,14 +1,11 @@
 -- A route: a cart goes leg by leg past still outlines, and the first sweep that is not separated ends it.
-use Rattle.std.specs.Prelude.{ℕ, zero, suc, ◌+◌, ◌-◌, ◌*◌, ◌/◌, ◌%◌, Bool, true, false, not, ◌||◌, cond, List, eqb, ltb, length, get_or, take, drop, Float}
+use Rattle.std.specs.Prelude.{ℕ, zero, suc, ◌+◌, ◌-◌, ◌*◌, ◌/◌, ◌%◌, Bool, true, false, ◌||◌, cond, List, eqb, ltb, length, get_or, take, drop, Float}
 use Rattle.std.specs.Float.{Format}
 use Rattle.model.specs.declared.Sweep.{Sweep}
-use Rattle.model.specs.declared.Counts.{Counts}
 use Rattle.model.specs.declared.Outcome.{Outcome}
 use Rattle.model.specs.declared.Outcome.TheVariants as Told
 use Rattle.model.specs.declared.SweepAnswer.{SweepAnswer}
 use Rattle.model.specs.declared.SweepAnswer.TheVariants as Swept
-use Rattle.model.specs.declared.Status.{Status}
-use Rattle.model.specs.declared.Status.TheVariants.{Overlapped, Hit, Separated, Failed}
 use Rattle.model.specs.Ground.{rotation, origin, one}
 use Rattle.model.specs.Ground as Ground
 use Rattle.model.specs.Support.{point}

@@ -1,4 +1,6 @@
 // A route: a cart goes leg by leg past still outlines, and the first sweep that is not separated ends it.
+#![tactic(auto)]
+
 ghost use Rattle.std.specs.Prelude.{◌≡◌, true, false, ◌+◌, ◌*◌, ◌/◌, ◌%◌, ◌≤◌, ◌<◌, length, get_or};
 ghost use Rattle.std.specs.Float.{binary32};
 ghost use Rattle.route_legs.specs.Route as Route;

@@ -2,7 +2,7 @@
 use mathlib.Core.Path.{◌≡◌, refl, sym, ap, ◌∙◌}
 use mathlib.Core.Bool.{Bool, true, false, cond}
 use mathlib.Core.List.{List, [], ◌∷◌, ◌++◌, append_assoc, append-nil}
-use Prim.Native.Nat.{ℕ, zero, suc, ◌+◌, ◌-◌, ◌*◌, ◌/◌, ◌≤◌, ◌<◌}
+use Prim.Native.Nat.{ℕ, zero, suc, ◌+◌, ◌*◌, ◌/◌, ◌≤◌, ◌<◌}
 use native.Mathlib.Omega.{arith}
 use borrow.Author.Tests.{le-leb, lt-ltb, le-ltb, ltb-false}
 use lib.Dec.{ltb}
@@ -12,7 +12,7 @@ use Rattle.runs.specs.Run.{Cut, TextSteps}
 use Rattle.runs.proofs.Whole.{run-makes-whole, text-steps}
 use Rattle.salvage_walk.specs.declared.Walk.{Walk}
 use Rattle.salvage_walk.specs.Walk.{Step, bytes_of, step_at, steps_by, steps, kept_bytes, next, after, run_lines, last_lines, at_start, file_of, text_of}
-use Rattle.salvage_walk.specs.Walk.Step.{kept, skipped}
+use Rattle.salvage_walk.specs.Walk.Step.{skipped}
 use Rattle.salvage_walk.specs.Part.{steps_in, all_bytes, rest_of, place_limit, countable, fits, skipped_on, Stand, stand, part_room, next_stand, is_over, write_by}
 use Rattle.salvage_walk.specs.Part.{tell_by, file_by, text_by}
 use Rattle.salvage_walk.proofs.Steps.{Kind, keeps, skips, kind, behind, whole-inside, first_step, over, walked-by-parts, kept_append, after-append}

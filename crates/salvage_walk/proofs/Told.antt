@@ -2,7 +2,7 @@
 use mathlib.Core.Path.{◌≡◌, refl, sym, ap, ◌∙◌, subst}
 use mathlib.Core.Bool.{Bool, true, false, true≢false}
 use mathlib.Core.List.{List, [], ◌∷◌, ◌++◌, append_assoc, append-nil}
-use Prim.Native.Nat.{ℕ, zero, suc, ◌+◌, ◌-◌, ◌*◌, ◌≤◌, ◌<◌}
+use Prim.Native.Nat.{ℕ, zero, suc, ◌+◌, ◌*◌, ◌≤◌, ◌<◌}
 use native.Mathlib.Omega.{arith}
 use borrow.Author.Tests.{eqb-true, eqb-false, ltb-true, ltb-false}
 use lib.Dec.{eqb, ltb}
@@ -17,7 +17,7 @@ use Rattle.salvage_walk.specs.Walk.{Step, bytes_of, step_at, steps, kept_bytes, 
 use Rattle.salvage_walk.specs.Walk.Step.{kept, skipped}
 use Rattle.salvage_walk.specs.Told.{Run, there, Told, sizes, printed, Salvage}
 use Rattle.salvage_walk.specs.Told.Told.{end, block, run}
-use Rattle.salvage_walk.proofs.Steps.{Kind, keeps, skips, kind, behind, whole-inside, none_left, first_step}
+use Rattle.salvage_walk.proofs.Steps.{Kind, keeps, skips, kind, whole-inside, none_left, first_step}
 use Rattle.salvage_walk.proofs.Laws.{no_run, a-run}
 
 one_size : (n m : ℕ) → (n < m → ⊥) → (m < n → ⊥) → n ≡ m

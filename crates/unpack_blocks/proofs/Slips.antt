@@ -1,6 +1,6 @@
 -- Slips that look harmless, each with what the definition says where it would show, computed. Assumes nothing.
 use mathlib.Core.Path.{◌≡◌, refl}
-use mathlib.Core.List.{List, [], ◌∷◌}
+use mathlib.Core.List.{[], ◌∷◌}
 use Rattle.model.specs.Text.{decimal_by}
 use Rattle.job_text.specs.Room.{refusal}
 use Rattle.unpack_blocks.specs.Unpack.{refusals_of}

@@ -2,9 +2,9 @@
 use mathlib.Core.Path.{◌≡◌, refl, sym, ap, ◌∙◌}
 use mathlib.Core.Bool.{Bool, true, false, cond}
 use mathlib.Core.List.{List, [], ◌∷◌, ◌++◌, append-nil}
-use Prim.Native.Nat.{ℕ, ◌+◌, ◌*◌, ◌/◌, ◌%◌, ◌≤◌, ◌<◌}
+use Prim.Native.Nat.{ℕ, ◌+◌, ◌/◌, ◌%◌, ◌≤◌, ◌<◌}
 use native.Mathlib.Omega.{arith}
-use borrow.Author.Tests.{eq-eqb, ne_eqb, eqb-true, eqb-false, lt-ltb, le-ltb}
+use borrow.Author.Tests.{eqb-true, eqb-false, lt-ltb, le-ltb}
 use lib.Dec.{eqb}
 use lib.ListN.{length, length-append}
 use Rattle.model.specs.Blocks.{whole_blocks, blocks}
@@ -12,23 +12,9 @@ use Rattle.model.specs.Parts.{count_limit, together}
 use Rattle.model.proofs.Blocks.{blocks-in-two-parts, blocks-counted, rest_of, rest-short, all_whole, rest-last}
 use Rattle.runs.specs.Run.{Cut, TextSteps}
 use Rattle.runs.proofs.Whole.{run-makes-whole, text-steps}
-use Rattle.job_text.specs.Room.{refusal, refusal_room, told_for}
+use Rattle.job_text.specs.Room.{refusal, refusal_room}
 use Rattle.job_text.specs.Job.{longest_line}
-use Rattle.unpack_blocks.specs.Unpack.{
-  line_by,
-  refusal_by,
-  lines_of,
-  refusals_of,
-  used_blocks,
-  unpack_out,
-  unpack_told,
-  next_count,
-  is_last,
-  write_by,
-  tell_by,
-  out_by,
-  told_by,
-}
+use Rattle.unpack_blocks.specs.Unpack.{lines_of, refusals_of, used_blocks, unpack_out, unpack_told, next_count, is_last, write_by, tell_by, out_by, told_by}
 use Rattle.unpack_blocks.proofs.Blocks.{lines-append, refusals-append}
 
 -- ---- the blocks of a file are its whole ones and a rest, which has no line and is refused by 9

@@ -1,4 +1,6 @@
 // From a block to its answer: its floats, and what the sweep that they ask for comes to.
+#![tactic(auto)]
+
 ghost use Rattle.std.specs.Prelude.{◌≡◌, ℕ, ◌≤◌, take, length};
 ghost use Rattle.std.specs.Float.{binary32};
 ghost use Rattle.model.specs.Work as Work;

@@ -4,7 +4,6 @@ use Rattle.model.specs.Blocks.{is_good}
 use Rattle.text.proofs.Pasted.{put-nothing}
 use Rattle.text.proofs.Lengths.{roomy}
 use Rattle.convert_forms.proofs.Laws.{put-turned}
-use borrow.Author.Rules.{rules}
 use Rattle.convert_forms.proofs.convert_block.Goals as goal
 
 pub returns-then-good : goal.returns-then-good

@@ -5,7 +5,6 @@ use native.Mathlib.Omega.{arith}
 use native.Mathlib.Nat.{le_antisymm}
 use lib.ListN.{length}
 use borrow.Author.Rules.{rules}
-use Rattle.text.specs.Put.{Put}
 use Rattle.text.proofs.Pasted.{put-nothing}
 use Rattle.model.specs.Blocks.{whole_blocks}
 use Rattle.convert_forms.specs.Convert.{converted, told_from}

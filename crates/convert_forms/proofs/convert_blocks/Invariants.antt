@@ -1,15 +1,10 @@
 -- `convert_forms::convert_blocks` meets its contract: what the blocks so far come to stands at the start of both, and the blocks left fall. Assumes nothing.
 use Prim.Native.Nat.{◌≤◌, ◌+◌, ◌*◌, ◌-◌}
-use mathlib.Core.Path.{◌≡◌, refl, ◌∙◌}
-use native.Mathlib.Omega.{arith}
-use native.Mathlib.Nat.{le_antisymm}
+use mathlib.Core.Path.{◌≡◌}
 use lib.ListN.{length}
-use borrow.Author.Rules.{rules}
 use Rattle.text.specs.Put.{Put}
-use Rattle.text.proofs.Pasted.{put-nothing}
 use Rattle.model.specs.Blocks.{whole_blocks}
 use Rattle.convert_forms.specs.Convert.{converted, told_from}
-use Rattle.convert_forms.proofs.Laws.{file-step, text-step, file-grows, text-grows}
 use Rattle.convert_forms.proofs.convert_blocks.Given as goal
 
 abbrev pub invariant-loop-i : goal.invariant-loop-i

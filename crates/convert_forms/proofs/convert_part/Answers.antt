@@ -5,7 +5,6 @@ use Rattle.model.proofs.Blocks.{whole-counted, rest-counted}
 use Rattle.text.proofs.Pasted.{put-nothing, put_then}
 use Rattle.text.proofs.Lengths.{roomy}
 use Rattle.convert_forms.proofs.Laws.{room_of, whole-converted, whole-told, rest-converted, rest-told}
-use borrow.Author.Rules.{rules}
 use Rattle.convert_forms.proofs.convert_part.Goals as goal
 
 pub returns-then-not-fits : goal.returns-then-not-fits

@@ -1,7 +1,5 @@
 -- `convert_forms::other_form` meets its contract: the block is copied, its form changed, and the check that fits stored. Assumes nothing.
-use mathlib.Core.Path.{refl, ◌∙◌}
 use Rattle.convert_forms.proofs.Laws.{made}
-use borrow.Author.Rules.{rules}
 use Rattle.convert_forms.proofs.other_form.Goals as goal
 
 pub returns : goal.returns

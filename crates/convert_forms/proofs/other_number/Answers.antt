@@ -1,6 +1,5 @@
 -- `convert_forms::other_number` meets its contract, by its two cases. Assumes nothing.
 use borrow.Author.Tests.{eq-eqb, ne_eqb}
-use borrow.Author.Rules.{rules}
 use Rattle.convert_forms.proofs.other_number.Goals as goal
 
 pub returns-then-form-eq0 : goal.returns-then-form-eq0

@@ -1,5 +1,5 @@
 -- `pack_lines::end_line` meets its contract, case by case. Assumes nothing.
-use mathlib.Core.Path.{◌≡◌, refl, sym, ◌∙◌}
+use mathlib.Core.Path.{sym, ◌∙◌}
 use native.Mathlib.Omega.{arith}
 use borrow.Author.Tests.{eq-eqb, ne_eqb}
 use lib.ListN.{length}
@@ -7,7 +7,6 @@ use Rattle.text.proofs.Pasted.{put-nothing}
 use Rattle.text.proofs.Lengths.{roomy}
 use Rattle.job_text.specs.Job.{block_for}
 use Rattle.job_text.proofs.BlockBuilt.{length-block-for}
-use borrow.Author.Rules.{rules}
 use Rattle.pack_lines.proofs.end_line.Goals as goal
 
 pub returns-then-x-ne10 : goal.returns-then-x-ne10

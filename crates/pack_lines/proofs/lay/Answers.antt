@@ -8,7 +8,6 @@ use Rattle.text.proofs.Lengths.{roomy}
 use Rattle.job_text.proofs.Compared.{put-start}
 use Rattle.job_text.proofs.Fitting.{least-right}
 use Rattle.pack_lines.proofs.Runs.{take-least}
-use borrow.Author.Rules.{rules}
 use Rattle.pack_lines.proofs.lay.Goals as goal
 
 pub slice_bounds-old-end : goal.slice_bounds-old-end

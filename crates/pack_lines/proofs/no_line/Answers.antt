@@ -5,7 +5,6 @@ use Prim.Native.Nat.{ℕ}
 use lib.ListN.{replicate}
 use Rattle.text.proofs.Pasted.{put-nothing}
 use Rattle.pack_lines.specs.Pack.{held}
-use borrow.Author.Rules.{rules}
 use Rattle.pack_lines.proofs.no_line.Goals as goal
 
 pub returns : goal.returns

@@ -1,13 +1,12 @@
 -- `pack_lines::pack_part` meets its contract: the places show the run over the bytes so far, and those left fall. Assumes nothing.
-use mathlib.Core.Path.{◌≡◌, refl, sym, ◌∙◌}
-use Prim.Native.Nat.{◌≤◌, ◌+◌, ◌*◌, ◌/◌, ◌-◌, ◌<◌}
+use mathlib.Core.Path.{refl, sym, ◌∙◌}
+use Prim.Native.Nat.{◌≤◌, ◌/◌, ◌<◌}
 use native.Mathlib.Omega.{arith}
 use native.Mathlib.Nat.{le_antisymm}
-use lib.ListN.{length, take, get_or}
+use lib.ListN.{length, take}
 use lib.Seq.{length-take-le}
-use Rattle.pack_lines.specs.Pack.{run_over}
 use Rattle.job_text.proofs.Fitting.{used-fits}
-use Rattle.pack_lines.proofs.Runs.{run_more, Shows, starting, shows-start, shows-byte, goes_further, run-in-is}
+use Rattle.pack_lines.proofs.Runs.{run_more, starting, shows-start, shows-byte, goes_further, run-in-is}
 use borrow.Author.Rules.{rules}
 use Rattle.pack_lines.proofs.pack_part.Goals as goal
 

@@ -1,14 +1,9 @@
 -- `pack_lines::pack_part` meets its contract: the places show the run over the bytes so far, and those left fall. Assumes nothing.
-use mathlib.Core.Path.{◌≡◌, refl, sym, ◌∙◌}
-use Prim.Native.Nat.{◌≤◌, ◌+◌, ◌*◌, ◌/◌, ◌-◌, ◌<◌}
-use native.Mathlib.Omega.{arith}
-use native.Mathlib.Nat.{le_antisymm}
-use lib.ListN.{length, take, get_or}
-use lib.Seq.{length-take-le}
+use mathlib.Core.Path.{◌≡◌}
+use Prim.Native.Nat.{◌≤◌, ◌+◌, ◌*◌, ◌-◌}
+use lib.ListN.{length, take}
 use Rattle.pack_lines.specs.Pack.{run_over}
-use Rattle.job_text.proofs.Fitting.{used-fits}
-use Rattle.pack_lines.proofs.Runs.{run_more, Shows, starting, shows-start, shows-byte, goes_further, run-in-is}
-use borrow.Author.Rules.{rules}
+use Rattle.pack_lines.proofs.Runs.{Shows, starting}
 use Rattle.pack_lines.proofs.pack_part.Given as goal
 
 abbrev pub invariant-loop-i : goal.invariant-loop-i

@@ -1,7 +1,6 @@
 -- `pack_lines::tell_last` meets its contract: nothing where nothing is left, else its refusal. Assumes nothing.
 use borrow.Author.Tests.{eq-eqb, ne_eqb}
 use Rattle.text.proofs.Pasted.{put-nothing}
-use borrow.Author.Rules.{rules}
 use Rattle.pack_lines.proofs.tell_last.Goals as goal
 
 pub returns-then-held-eq0 : goal.returns-then-held-eq0

@@ -1,7 +1,6 @@
 -- `report_lines::put_label` meets its contract: the row's name stands in the text at its place. Assumes nothing.
 use native.Mathlib.Omega.{arith}
 use Rattle.report_lines.proofs.Labels.{label-put, length_label}
-use borrow.Author.Rules.{rules}
 use Rattle.report_lines.proofs.put_label.Goals as goal
 
 pub put_piece-requires : goal.put_piece-requires

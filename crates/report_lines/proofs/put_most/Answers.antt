@@ -1,5 +1,4 @@
 -- `report_lines::put_most` meets its contract, case by case. Assumes nothing.
-use borrow.Author.Rules.{rules}
 use Rattle.report_lines.proofs.put_most.Goals as goal
 
 pub returns-in-Nowhere : goal.returns-in-Nowhere

@@ -1,6 +1,5 @@
 -- `report_lines::put_piece` meets its contract: there is room for the piece. Assumes nothing.
 use Rattle.report_lines.proofs.Labels.{piece-put}
-use borrow.Author.Rules.{rules}
 use Rattle.report_lines.proofs.put_piece.Goals as goal
 
 pub returns : goal.returns

@@ -1,13 +1,9 @@
 -- `report_lines::put_rows` meets its contract: the lines of the rows so far stand there, and the rows left fall. Assumes nothing.
 use Prim.Native.Nat.{◌+◌, ◌*◌, ◌-◌, ◌≤◌}
-use mathlib.Core.Path.{◌≡◌, refl, ◌∙◌}
-use native.Mathlib.Omega.{arith}
+use mathlib.Core.Path.{◌≡◌}
 use lib.ListN.{length}
 use Rattle.text.specs.Put.{Put}
-use Rattle.text.proofs.Pasted.{put-nothing, put_then}
-use Rattle.text.proofs.Lengths.{ends}
-use Rattle.report_lines.proofs.Labels.{first_rows, no_rows, rows_more, all-rows, length-row}
-use borrow.Author.Rules.{rules}
+use Rattle.report_lines.proofs.Labels.{first_rows}
 use Rattle.report_lines.proofs.put_rows.Given as goal
 
 abbrev pub invariant-loop-i : goal.invariant-loop-i

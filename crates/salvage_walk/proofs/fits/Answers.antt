@@ -1,5 +1,4 @@
 -- `salvage_walk::fits` meets its contract: its callee is the last test. Assumes nothing.
-use borrow.Author.Rules.{rules}
 use Rattle.salvage_walk.proofs.fits.Goals as goal
 
 pub returns : goal.returns

@@ -4,7 +4,6 @@ use Prim.Native.Nat.{◌+◌, ◌-◌}
 use native.Mathlib.Omega.{arith}
 use Rattle.model.specs.Blocks.{is_good}
 use Rattle.salvage_walk.proofs.Passing.{good-there, refused-by-7, refused-by-a, refused-by-b}
-use borrow.Author.Rules.{rules}
 use Rattle.salvage_walk.proofs.passes_at.Goals as goal
 
 pub returns-then-bytes-at-ne0 : goal.returns-then-bytes-at-ne0

@@ -1,7 +1,6 @@
 -- `salvage_walk::put_run` meets its contract: two numbers, or nothing. Assumes nothing.
 use Rattle.text.proofs.Pasted.{put-nothing}
 use Rattle.salvage_walk.proofs.Laws.{no_run, a-run, two-numbers}
-use borrow.Author.Rules.{rules}
 use Rattle.salvage_walk.proofs.put_run.Goals as goal
 
 pub returns-then-walk-eq0 : goal.returns-then-walk-eq0

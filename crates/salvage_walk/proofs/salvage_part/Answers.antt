@@ -2,7 +2,6 @@
 use mathlib.Core.Path.{sym, ◌∙◌}
 use native.Mathlib.Omega.{arith}
 use lib.Seq.{take_all, take-length}
-use borrow.Author.Rules.{rules}
 use Rattle.salvage_walk.proofs.salvage_part.Goals as goal
 
 pub returns : goal.returns

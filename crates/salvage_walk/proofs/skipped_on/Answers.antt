@@ -1,7 +1,6 @@
 -- `salvage_walk::skipped_on` meets its contract: what can be counted does not wrap. Assumes nothing.
 use native.Mathlib.Omega.{arith}
 use Rattle.salvage_walk.proofs.Laws.{small}
-use borrow.Author.Rules.{rules}
 use Rattle.salvage_walk.proofs.skipped_on.Goals as goal
 
 pub overflow_add-result : goal.overflow_add-result

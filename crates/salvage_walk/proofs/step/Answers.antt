@@ -3,7 +3,6 @@ use mathlib.Core.Path.{sym, ◌∙◌}
 use Prim.Native.Nat.{◌+◌, ◌-◌}
 use native.Mathlib.Omega.{arith}
 use Rattle.salvage_walk.proofs.Laws.{skipping, keeping}
-use borrow.Author.Rules.{rules}
 use Rattle.salvage_walk.proofs.step.Goals as goal
 
 pub returns-then-not-passes_at : goal.returns-then-not-passes_at

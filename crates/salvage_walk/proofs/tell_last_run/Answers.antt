@@ -6,7 +6,6 @@ use lib.ListN.{length}
 use borrow.Author.Tests.{lt-leb, le-leb}
 use Rattle.text.proofs.Pasted.{put-nothing}
 use Rattle.salvage_walk.proofs.Laws.{small, and-false}
-use borrow.Author.Rules.{rules}
 use Rattle.salvage_walk.proofs.tell_last_run.Goals as goal
 
 pub returns-then-text-lt42 : goal.returns-then-text-lt42

@@ -1,11 +1,11 @@
 -- `salvage_walk::walk_on` meets its contract: the steps so far are the first of all, and what is left falls. Assumes nothing.
-use mathlib.Core.Path.{◌≡◌, refl}
-use Prim.Native.Nat.{◌+◌, ◌-◌, ◌≤◌}
+use mathlib.Core.Path.{refl}
+use Prim.Native.Nat.{◌+◌, ◌≤◌}
 use native.Mathlib.Omega.{arith}
 use borrow.Author.Rules.{rules}
 use lib.ListN.{length, drop, length-drop}
 use Rattle.salvage_walk.proofs.Steps.{goes}
-use Rattle.salvage_walk.proofs.Laws.{fits-room, Walked, begun, room_for, one_more, finished}
+use Rattle.salvage_walk.proofs.Laws.{fits-room, begun, room_for, one_more, finished}
 use Rattle.salvage_walk.proofs.walk_on.Goals as goal
 
 pub loop-reached-init : goal.loop-reached-init

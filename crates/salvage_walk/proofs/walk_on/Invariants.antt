@@ -1,11 +1,8 @@
 -- `salvage_walk::walk_on` meets its contract: the steps so far are the first of all, and what is left falls. Assumes nothing.
-use mathlib.Core.Path.{◌≡◌, refl}
-use Prim.Native.Nat.{◌+◌, ◌-◌, ◌≤◌}
-use native.Mathlib.Omega.{arith}
-use borrow.Author.Rules.{rules}
-use lib.ListN.{length, drop, length-drop}
-use Rattle.salvage_walk.proofs.Steps.{goes}
-use Rattle.salvage_walk.proofs.Laws.{fits-room, Walked, begun, room_for, one_more, finished}
+use mathlib.Core.Path.{◌≡◌}
+use Prim.Native.Nat.{◌-◌}
+use lib.ListN.{length}
+use Rattle.salvage_walk.proofs.Laws.{Walked}
 use Rattle.salvage_walk.proofs.walk_on.Given as goal
 
 abbrev pub invariant-loop-reached : goal.invariant-loop-reached

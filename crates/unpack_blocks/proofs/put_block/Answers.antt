@@ -1,12 +1,11 @@
 -- `unpack_blocks::put_block` meets its contract, case by case. Assumes nothing.
-use mathlib.Core.Path.{◌≡◌, sym, ap, ◌∙◌}
+use mathlib.Core.Path.{sym, ap, ◌∙◌}
 use Rattle.text.proofs.Pasted.{put-nothing}
 use Rattle.text.proofs.Lengths.{roomy}
 use Rattle.model.specs.Blocks.{is_good}
 use Rattle.unpack_blocks.specs.Unpack.{unpacked, refused}
 use Rattle.job_text.proofs.Passed.{what-passed}
 use Rattle.unpack_blocks.proofs.Blocks.{line-there}
-use borrow.Author.Rules.{rules}
 use Rattle.unpack_blocks.proofs.put_block.Goals as goal
 
 pub returns-in-Good : goal.returns-in-Good

@@ -1,7 +1,6 @@
 -- `unpack_blocks::tell_rest` meets its contract: nothing where nothing is left, else its refusal. Assumes nothing.
 use borrow.Author.Tests.{eq-eqb, ne_eqb}
 use Rattle.text.proofs.Pasted.{put-nothing}
-use borrow.Author.Rules.{rules}
 use Rattle.unpack_blocks.proofs.tell_rest.Goals as goal
 
 pub returns-then-rest-eq0 : goal.returns-then-rest-eq0

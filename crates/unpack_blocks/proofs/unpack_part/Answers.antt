@@ -1,10 +1,9 @@
 -- `unpack_blocks::unpack_part` meets its contract: both texts of the blocks so far stand at the start, and those left fall. Assumes nothing.
-use mathlib.Core.Path.{◌≡◌, refl, sym, ◌∙◌}
+use mathlib.Core.Path.{◌≡◌, refl, ◌∙◌}
 use Prim.Native.Nat.{◌≤◌, ◌+◌, ◌*◌, ◌/◌, ◌-◌}
 use native.Mathlib.Omega.{arith}
 use native.Mathlib.Nat.{le_antisymm}
 use lib.ListN.{length}
-use Rattle.text.specs.Put.{Put}
 use Rattle.text.proofs.Pasted.{put-nothing}
 use Rattle.text.proofs.Lengths.{ends}
 use Rattle.model.specs.Blocks.{whole_blocks}

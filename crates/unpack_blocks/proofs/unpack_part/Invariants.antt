@@ -1,17 +1,10 @@
 -- `unpack_blocks::unpack_part` meets its contract: both texts of the blocks so far stand at the start, and those left fall. Assumes nothing.
-use mathlib.Core.Path.{◌≡◌, refl, sym, ◌∙◌}
-use Prim.Native.Nat.{◌≤◌, ◌+◌, ◌*◌, ◌/◌, ◌-◌}
-use native.Mathlib.Omega.{arith}
-use native.Mathlib.Nat.{le_antisymm}
+use mathlib.Core.Path.{◌≡◌}
+use Prim.Native.Nat.{◌≤◌, ◌*◌, ◌-◌}
 use lib.ListN.{length}
 use Rattle.text.specs.Put.{Put}
-use Rattle.text.proofs.Pasted.{put-nothing}
-use Rattle.text.proofs.Lengths.{ends}
 use Rattle.model.specs.Blocks.{whole_blocks}
 use Rattle.unpack_blocks.specs.Unpack.{lines_of, refusals_of}
-use Rattle.job_text.proofs.Fitting.{used-fits, count_fits}
-use Rattle.unpack_blocks.proofs.Blocks.{lines_more, refusals-more, length-unpacked, length-refused}
-use borrow.Author.Rules.{rules}
 use Rattle.unpack_blocks.proofs.unpack_part.Given as goal
 
 abbrev pub invariant-loop-i : goal.invariant-loop-i

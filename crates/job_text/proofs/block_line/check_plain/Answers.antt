@@ -1,5 +1,5 @@
 -- `job_text::block_line::check_plain` meets its contract, by its tests and what its callees ensure. Assumes nothing.
-use Rattle.std.proofs.Common.{rules, eq-eqb, ne_eqb}
+use Rattle.std.proofs.Common.{eq-eqb, ne_eqb}
 use Rattle.job_text.specs.Job.{plain_block}
 use Rattle.job_text.proofs.block_line.check_plain.Goals as goal
 

@@ -1,5 +1,5 @@
 -- `job_text::block_line::place_of` meets its contract, by its tests. Assumes nothing.
-use Rattle.std.proofs.Common.{rules, le-ltb, lt-ltb}
+use Rattle.std.proofs.Common.{le-ltb, lt-ltb}
 use Rattle.job_text.proofs.block_line.place_of.Goals as goal
 
 pub returns-then-j-lt24 : goal.returns-then-j-lt24

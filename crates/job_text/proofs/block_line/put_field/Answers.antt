@@ -1,6 +1,5 @@
 -- `job_text::block_line::put_field` meets its contract, by what its callees ensure. Assumes nothing.
 use Rattle.text.proofs.Lengths.{roomy}
-use Rattle.std.proofs.Common.{rules}
 use Rattle.job_text.proofs.block_line.put_field.Goals as goal
 
 pub returns : goal.returns

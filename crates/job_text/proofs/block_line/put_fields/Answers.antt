@@ -1,6 +1,5 @@
 -- `job_text::block_line::put_fields` meets its contract: the words so far stand one after the other, and those left fall. Assumes nothing.
-use Rattle.std.proofs.Common.{◌≡◌, ◌+◌, ◌-◌, ◌*◌, ◌≤◌, length, sym, refl, ◌∙◌, le_antisymm, arith, rules}
-use Rattle.text.specs.Put.{Put}
+use Rattle.std.proofs.Common.{refl, ◌∙◌, le_antisymm, arith, rules}
 use Rattle.text.proofs.Pasted.{put-nothing}
 use Rattle.text.proofs.Lengths.{length-hex}
 use Rattle.model.specs.Wire.{byte, word}

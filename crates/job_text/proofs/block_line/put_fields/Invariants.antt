@@ -1,12 +1,8 @@
 -- `job_text::block_line::put_fields` meets its contract: the words so far stand one after the other, and those left fall. Assumes nothing.
-use Rattle.std.proofs.Common.{◌≡◌, ◌+◌, ◌-◌, ◌*◌, ◌≤◌, length, sym, refl, ◌∙◌, le_antisymm, arith, rules}
+use Rattle.std.proofs.Common.{◌≡◌, ◌+◌, ◌-◌, ◌*◌, ◌≤◌, length}
 use Rattle.text.specs.Put.{Put}
-use Rattle.text.proofs.Pasted.{put-nothing}
-use Rattle.text.proofs.Lengths.{length-hex}
-use Rattle.model.specs.Wire.{byte, word}
-use Rattle.job_text.specs.Job.{place_of, words_of}
+use Rattle.job_text.specs.Job.{words_of}
 use Rattle.job_text.specs.Pieces.{spaced}
-use Rattle.job_text.proofs.Lines.{fields-more}
 use Rattle.job_text.proofs.block_line.put_fields.Given as goal
 
 abbrev pub invariant-loop-j : goal.invariant-loop-j

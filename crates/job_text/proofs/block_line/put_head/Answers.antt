@@ -1,5 +1,5 @@
 -- `job_text::block_line::put_head` meets its contract: three numbers, one after the other. Assumes nothing.
-use Rattle.std.proofs.Common.{arith, rules}
+use Rattle.std.proofs.Common.{arith}
 use Rattle.text.proofs.Pasted.{put_then}
 use Rattle.text.proofs.Lengths.{length-number, ends, roomy}
 use Rattle.job_text.specs.Pieces.{head_of}

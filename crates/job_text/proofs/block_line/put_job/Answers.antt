@@ -1,5 +1,5 @@
 -- `job_text::block_line::put_job` meets its contract: nothing where a count is none of an outline or there is no room, else the line. Assumes nothing.
-use Rattle.std.proofs.Common.{◌≡◌, ◌+◌, ◌<◌, ◌≤◌, length, sym, ◌∙◌, arith, rules, le-ltb, lt-ltb}
+use Rattle.std.proofs.Common.{◌+◌, ◌<◌, ◌≤◌, length, arith, le-ltb, lt-ltb}
 use Rattle.model.specs.Wire.{byte}
 use Rattle.text.proofs.Pasted.{put-nothing}
 use Rattle.job_text.proofs.block_line.put_job.Goals as goal

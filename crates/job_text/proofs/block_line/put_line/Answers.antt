@@ -1,5 +1,5 @@
 -- `job_text::block_line::put_line` meets its contract: the numbers, the words but one, and the last. Assumes nothing.
-use Rattle.std.proofs.Common.{◌≡◌, suc, ◌+◌, ◌*◌, sym, ◌∙◌, arith, rules}
+use Rattle.std.proofs.Common.{◌+◌, ◌*◌, arith}
 use Rattle.text.proofs.Pasted.{put_then}
 use Rattle.text.proofs.Lengths.{ends}
 use Rattle.job_text.proofs.Lines.{length-head, length_fields, job-line-is}

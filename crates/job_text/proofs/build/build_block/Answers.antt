@@ -1,6 +1,5 @@
 -- `job_text::build::build_block` meets its contract: the words so far stand at the start, their sum has wrapped as it goes. Assumes nothing.
-use Rattle.std.proofs.Common.{◌≡◌, ◌-◌, ◌*◌, ◌%◌, ◌^◌, ◌≤◌, length, sym, refl, ◌∙◌, le_antisymm, arith, rules}
-use Rattle.text.specs.Put.{Put}
+use Rattle.std.proofs.Common.{◌≡◌, refl, ◌∙◌, le_antisymm, arith, rules}
 use Rattle.text.proofs.Pasted.{put-nothing}
 use Rattle.job_text.specs.Job.{first_words, sum_of_first}
 use Rattle.job_text.proofs.BlockBuilt.{words_more, sum_more, whole-block}

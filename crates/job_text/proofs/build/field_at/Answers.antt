@@ -1,5 +1,5 @@
 -- `job_text::build::field_at` meets its contract: past the end the list has 0. Assumes nothing.
-use Rattle.std.proofs.Common.{sym, rules}
+use Rattle.std.proofs.Common.{sym}
 use lib.ListN.{get_or-eq_default}
 use Rattle.job_text.proofs.build.field_at.Goals as goal
 

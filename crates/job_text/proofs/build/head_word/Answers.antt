@@ -1,5 +1,5 @@
 -- `job_text::build::head_word` meets its contract, by its tests and what its callees ensure. Assumes nothing.
-use Rattle.std.proofs.Common.{rules, eq-eqb, ne_eqb}
+use Rattle.std.proofs.Common.{eq-eqb, ne_eqb}
 use Rattle.job_text.proofs.build.head_word.Goals as goal
 
 pub returns-then-i-eq0 : goal.returns-then-i-eq0

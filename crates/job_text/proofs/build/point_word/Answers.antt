@@ -1,5 +1,5 @@
 -- `job_text::build::point_word` meets its contract, by its test. Assumes nothing.
-use Rattle.std.proofs.Common.{rules, le-ltb, lt-ltb}
+use Rattle.std.proofs.Common.{le-ltb, lt-ltb}
 use Rattle.job_text.proofs.build.point_word.Goals as goal
 
 pub returns-then-p-n : goal.returns-then-p-n

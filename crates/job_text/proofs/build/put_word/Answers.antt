@@ -1,6 +1,5 @@
 -- `job_text::build::put_word` meets its contract, by what its callees ensure. Assumes nothing.
 use Rattle.text.proofs.Lengths.{roomy}
-use Rattle.std.proofs.Common.{rules}
 use Rattle.job_text.proofs.build.put_word.Goals as goal
 
 pub returns : goal.returns

@@ -1,5 +1,5 @@
 -- `job_text::build::word_at` meets its contract, by its tests and what its callees ensure. Assumes nothing.
-use Rattle.std.proofs.Common.{rules, le-ltb, lt-ltb}
+use Rattle.std.proofs.Common.{le-ltb, lt-ltb}
 use Rattle.job_text.specs.Job.{word_at}
 use Rattle.job_text.proofs.build.word_at.Goals as goal
 

@@ -1,5 +1,5 @@
 -- `job_text::job::has_line` meets its contract, case by case. Assumes nothing.
-use Rattle.std.proofs.Common.{◌≡◌, sym, ap, ◌∙◌, rules}
+use Rattle.std.proofs.Common.{sym, ap, ◌∙◌}
 use Rattle.model.specs.Blocks.{is_good}
 use Rattle.job_text.proofs.Passed.{what-passed}
 use Rattle.job_text.proofs.job.has_line.Goals as goal

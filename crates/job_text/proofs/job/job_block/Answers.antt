@@ -1,5 +1,5 @@
 -- `job_text::job::job_block` meets its contract, by what its callees ensure. Assumes nothing.
-use Rattle.std.proofs.Common.{◌≡◌, ap, ◌∙◌, rules}
+use Rattle.std.proofs.Common.{ap, ◌∙◌}
 use Rattle.job_text.specs.Job.{block_from, block_for, is_job}
 use Rattle.job_text.proofs.job.job_block.Goals as goal
 

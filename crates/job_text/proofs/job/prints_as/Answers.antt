@@ -1,5 +1,5 @@
 -- `job_text::job::prints_as` meets its contract: what was put at the start of the bytes is the line. Assumes nothing.
-use Rattle.std.proofs.Common.{◌≡◌, sym, ◌∙◌, arith, length-take-le, rules}
+use Rattle.std.proofs.Common.{sym, arith, length-take-le}
 use Rattle.job_text.proofs.Lines.{length-job}
 use Rattle.job_text.proofs.Compared.{put-start, same-is}
 use Rattle.job_text.proofs.job.prints_as.Goals as goal

@@ -1,5 +1,5 @@
 -- `job_text::room::least` meets its contract, by its test. Assumes nothing.
-use Rattle.std.proofs.Common.{rules, le-ltb, lt-ltb}
+use Rattle.std.proofs.Common.{le-ltb, lt-ltb}
 use Rattle.job_text.proofs.room.least.Goals as goal
 
 pub returns-then-b-a : goal.returns-then-b-a

@@ -1,5 +1,5 @@
 -- `job_text::room::put_both` meets its contract: two numbers, one after the other. Assumes nothing.
-use Rattle.std.proofs.Common.{arith, rules}
+use Rattle.std.proofs.Common.{arith}
 use Rattle.text.proofs.Pasted.{put_then}
 use Rattle.text.proofs.Lengths.{length-number, ends, roomy}
 use Rattle.job_text.specs.Room.{refusal}

@@ -1,5 +1,5 @@
 -- `job_text::room::put_refusal` meets its contract: nothing where there is no room, else the refusal. Assumes nothing.
-use Rattle.std.proofs.Common.{◌+◌, ◌<◌, ◌≤◌, length, arith, rules, le-ltb, lt-ltb}
+use Rattle.std.proofs.Common.{◌+◌, ◌<◌, ◌≤◌, length, arith, le-ltb, lt-ltb}
 use Rattle.text.proofs.Pasted.{put-nothing}
 use Rattle.job_text.proofs.room.put_refusal.Goals as goal
 

@@ -1,5 +1,5 @@
 -- `job_text::room::tell_refusal` meets its contract: nothing where there is no count left, else the refusal where there is room. Assumes nothing.
-use Rattle.std.proofs.Common.{rules, le-ltb, lt-ltb}
+use Rattle.std.proofs.Common.{le-ltb, lt-ltb}
 use Rattle.text.proofs.Pasted.{put-nothing}
 use Rattle.job_text.proofs.room.tell_refusal.Goals as goal
 

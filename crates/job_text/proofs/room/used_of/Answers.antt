@@ -1,5 +1,5 @@
 -- `job_text::room::used_of` meets its contract, by its test and what its callee ensures. Assumes nothing.
-use Rattle.std.proofs.Common.{rules, le-ltb, lt-ltb}
+use Rattle.std.proofs.Common.{le-ltb, lt-ltb}
 use Rattle.job_text.proofs.room.used_of.Goals as goal
 
 pub returns-then-before-lt-COUNT_LIMIT : goal.returns-then-before-lt-COUNT_LIMIT

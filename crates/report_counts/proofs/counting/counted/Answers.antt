@@ -1,6 +1,5 @@
 -- `report_counts::counting::counted` meets its contract: its parts are those of the definition. Assumes nothing.
 use Rattle.report_counts.specs.Report.{counted}
-use Rattle.std.proofs.Common.{rules}
 use Rattle.report_counts.proofs.counting.counted.Goals as goal
 
 pub returns : goal.returns

@@ -1,6 +1,5 @@
 -- `report_counts::counting::in_rows` meets its contract: row after row. Assumes nothing.
 use Rattle.report_counts.specs.Report.{bumped_all}
-use Rattle.std.proofs.Common.{rules}
 use Rattle.report_counts.proofs.counting.in_rows.Goals as goal
 
 pub returns : goal.returns

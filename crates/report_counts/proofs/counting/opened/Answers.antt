@@ -2,7 +2,6 @@
 use Rattle.report_counts.specs.Rows.{rows_in, times_in}
 use Rattle.report_counts.specs.Largest.{larger, largest_from, largest_in}
 use Rattle.report_counts.specs.Report.{report, every_answer, tally_from}
-use Rattle.std.proofs.Common.{rules}
 use Rattle.report_counts.proofs.counting.opened.Goals as goal
 
 pub returns : goal.returns

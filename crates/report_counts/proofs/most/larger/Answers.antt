@@ -1,5 +1,5 @@
 -- `report_counts::most::larger` meets its contract, case by case. Assumes nothing.
-use Rattle.std.proofs.Common.{rules, le-ltb, lt-ltb}
+use Rattle.std.proofs.Common.{le-ltb, lt-ltb}
 use Rattle.report_counts.specs.Largest.{larger}
 use Rattle.report_counts.proofs.most.larger.Goals as goal
 

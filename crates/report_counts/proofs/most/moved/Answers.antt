@@ -1,6 +1,5 @@
 -- `report_counts::most::moved` meets its contract, case by case. Assumes nothing.
 use Rattle.report_counts.specs.Largest.{moved}
-use Rattle.std.proofs.Common.{rules}
 use Rattle.report_counts.proofs.most.moved.Goals as goal
 
 pub returns-in-Nowhere : goal.returns-in-Nowhere

@@ -1,5 +1,5 @@
 -- `report_counts::rows::refusal_row` meets its contract, test by test. Assumes nothing.
-use Rattle.std.proofs.Common.{rules, le-ltb, lt-ltb, eq-eqb, ne_eqb}
+use Rattle.std.proofs.Common.{le-ltb, lt-ltb, eq-eqb, ne_eqb}
 use Rattle.report_counts.specs.Rows.{refusal_row}
 use Rattle.report_counts.proofs.rows.refusal_row.Goals as goal
 

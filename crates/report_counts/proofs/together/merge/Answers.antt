@@ -1,6 +1,5 @@
 -- `report_counts::together::merge` meets its contract: its parts are those of the definition. Assumes nothing.
 use Rattle.report_counts.specs.Report.{together}
-use Rattle.std.proofs.Common.{rules}
 use Rattle.report_counts.proofs.together.merge.Goals as goal
 
 pub returns : goal.returns

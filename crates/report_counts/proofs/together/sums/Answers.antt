@@ -1,6 +1,5 @@
 -- `report_counts::together::sums` meets its contract: the rows so far are sums, the others still the first list's. Assumes nothing.
-use Rattle.std.proofs.Common.{◌≡◌, ◌-◌, ◌≤◌, ◌++◌, length, take, drop, rules}
-use Rattle.report_counts.specs.Report.{sums}
+use Rattle.std.proofs.Common.{◌≡◌, length, rules}
 use Rattle.report_counts.proofs.Sums.{one_more, all-summed}
 use Rattle.report_counts.proofs.together.sums.Goals as goal
 

@@ -1,7 +1,6 @@
 -- `report_counts::together::sums` meets its contract: the rows so far are sums, the others still the first list's. Assumes nothing.
-use Rattle.std.proofs.Common.{◌≡◌, ◌-◌, ◌≤◌, ◌++◌, length, take, drop, rules}
+use Rattle.std.proofs.Common.{◌≡◌, ◌-◌, ◌≤◌, ◌++◌, length, take, drop}
 use Rattle.report_counts.specs.Report.{sums}
-use Rattle.report_counts.proofs.Sums.{one_more, all-summed}
 use Rattle.report_counts.proofs.together.sums.Given as goal
 
 abbrev pub invariant-loop-i : goal.invariant-loop-i

@@ -1,0 +1,15 @@
+-- `clearance_lines::write::put_told` meets its contract, case by case. Assumes nothing.
+use borrow.Author.Rules.{rules}
+use Rattle.clearance_lines.proofs.write.put_told.Goals as goal
+
+pub returns-in-Refused : goal.returns-in-Refused
+returns-in-Refused c = rw c.in-Refused.is c.put_number.ensures
+
+pub returns-in-Clear : goal.returns-in-Clear
+returns-in-Clear c = rw c.in-Clear.is c.put_clear.ensures
+
+pub returns-in-Touch : goal.returns-in-Touch
+returns-in-Touch c = rw c.in-Touch.is c.put_touch.ensures
+
+pub returns-in-Open : goal.returns-in-Open
+returns-in-Open c = rw c.in-Open.is c.put_open.ensures

@@ -1,0 +1,14 @@
+-- `rooms_block::rooms_checked` meets its contract, by whether the block passed. Assumes nothing.
+use mathlib.Core.Path.{sym, ◌∙◌}
+use Rattle.block.proofs.Laws.{good-counts}
+use borrow.Author.Rules.{rules}
+use Rattle.rooms_block.proofs.rooms_checked.Goals as goal
+
+pub rooms_along-requires : goal.rooms_along-requires
+rooms_along-requires c = good-counts _ _ (sym c.check_block-checked.ensures ∙ c.in-Good.is)
+
+pub returns-in-Good : goal.returns-in-Good
+returns-in-Good c = rw (sym c.check_block-checked.ensures ∙ c.in-Good.is) c.rooms_along.ensures
+
+pub returns-in-Refused : goal.returns-in-Refused
+returns-in-Refused c = rw (sym c.check_block-checked.ensures ∙ c.in-Refused.is) c.refused.ensures
