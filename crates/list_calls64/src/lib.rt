@@ -1,5 +1,7 @@
 // Written by tests/written/wide.py from list_calls, in f64.
 // The sweep and the distance call over lists of numbers, as programs in C and Rust have them. Nothing is required of the caller.
+#![tactic(auto)]
+
 mod numbers;
 mod tell;
 

@@ -1,5 +1,7 @@
 // Written by tests/written/wide.py from work, in f64.
 // From a block to its answer: its floats, and what the sweep that they ask for comes to.
+#![tactic(auto)]
+
 mod taken;
 
 ghost use Rattle.std.specs.Prelude.{◌≡◌, ℕ, ◌≤◌, take, length};

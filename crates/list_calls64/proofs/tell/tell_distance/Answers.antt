@@ -1,0 +1,10 @@
+-- Written by tests/written/wide.py from list_calls, in f64.
+-- `list_calls::tell::tell_distance` meets its contract, case by case. Assumes nothing.
+use Rattle.list_calls64.proofs.tell.tell_distance.Goals as goal
+
+pub put_measured-requires : goal.put_measured-requires
+put_measured-requires c = let p = c.requires in
+    (p.0, p.1, simp c.in-Measured.is at p.2)
+
+pub returns-in-Measured : goal.returns-in-Measured
+returns-in-Measured c = simp c.in-Measured.is c.put_measured.ensures

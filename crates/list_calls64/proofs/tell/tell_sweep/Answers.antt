@@ -1,0 +1,6 @@
+-- Written by tests/written/wide.py from list_calls, in f64.
+-- `list_calls::tell::tell_sweep` meets its contract, case by case. Assumes nothing.
+use Rattle.list_calls64.proofs.tell.tell_sweep.Goals as goal
+
+pub returns-in-Found : goal.returns-in-Found
+returns-in-Found c = simp c.in-Found.is c.put_verdict.ensures
