@@ -1,4 +1,6 @@
 // A look at a planned move over lists of numbers, as programs in C and Rust have them. Nothing is required of the caller.
+#![tactic(auto)]
+
 ghost use Rattle.std.specs.Prelude.{◌≡◌, [], ◌∷◌, ◌≤◌, length};
 ghost use Rattle.std.specs.Float.{binary32};
 ghost use Rattle.clearance_lists.specs.Entry.{cleared_number, fraction_at, fractions_after, pieces_after, Few, ClearanceTold};

@@ -4,23 +4,16 @@
 
 use std::io::{Read, Write};
 use std::os::fd::AsFd;
+use std::process::ExitCode;
 use std::random::RandomSource;
 use std::rt::Files;
+use streams::Stopped;
 
-// Whether the run goes on, whether something failed, and how many blocks came.
+// Whether the run goes on, and how many blocks came.
 #[derive(Clone, Copy)]
 struct Step {
     more: bool,
-    failed: bool,
     blocks: u64,
-}
-
-fn failed() -> Step {
-    Step {
-        more: false,
-        failed: true,
-        blocks: 0,
-    }
 }
 
 // Converts what was read, and writes what it comes to.
@@ -31,21 +24,16 @@ fn write_part<W: Write, E: Write, F: Write>(
     to: &mut F,
     part: &[u8],
     before: u64,
-) -> Step {
+) -> Result<Step, Stopped> {
     let mut file = io::large_buffer();
     let mut text = io::buffer();
     let converted = convert_forms::convert_part(part, before, &mut file, &mut text);
-    if !streams::write_to(to, err, name, &file, converted.file) {
-        return failed();
-    }
-    if !streams::write_to_output(out, err, &text, converted.text) {
-        return failed();
-    }
-    Step {
+    streams::write_to(to, err, name, &file, converted.file)?;
+    streams::write_to_output(out, err, &text, converted.text)?;
+    Ok(Step {
         more: !converted.last,
-        failed: false,
         blocks: converted.blocks,
-    }
+    })
 }
 
 fn next_part<R: Read, W: Write, E: Write, F: Write>(
@@ -55,17 +43,17 @@ fn next_part<R: Read, W: Write, E: Write, F: Write>(
     name: &[u8],
     to: &mut F,
     before: u64,
-) -> Step {
+) -> Result<Step, Stopped> {
     let mut buffer = io::large_buffer();
     let filled = streams::fill_from_input(input, err, &mut buffer);
     if filled.failed.is_some() {
-        return failed();
+        return Err(Stopped::Told);
     }
     let n = filled.count;
     write_part(out, err, name, to, &buffer[..n], before)
 }
 
-// Whether all parts were converted. A proved loop has to end, and nothing says that the input does: so the reads are counted, to a number that no
+// Converts all parts. A proved loop has to end, and nothing says that the input does: so the reads are counted, to a number that no
 // run reaches.
 fn convert<R: Read, W: Write, E: Write, F: Write>(
     input: &mut R,
@@ -73,16 +61,31 @@ fn convert<R: Read, W: Write, E: Write, F: Write>(
     err: &mut E,
     name: &[u8],
     to: &mut F,
-) -> bool {
+) -> Result<(), Stopped> {
     let mut before = 0u64;
     for reads in 0..u64::MAX {
-        let step = next_part(input, out, err, name, to, before);
+        let step = next_part(input, out, err, name, to, before)?;
         before = step.blocks;
         if !step.more {
-            return !step.failed;
+            return Ok(());
         }
     }
-    false
+    Err(Stopped::Told)
+}
+
+// Puts what was collected in the place of the file.
+fn finish<E: Write, S: Files>(
+    err: &mut E,
+    rt: &S,
+    name: &[u8],
+    beside: &[u8],
+    file: &mut S::File,
+) -> Result<(), Stopped> {
+    if outfile::finish(rt, err, name, beside, file) {
+        Ok(())
+    } else {
+        Err(Stopped::Told)
+    }
 }
 
 // Collects what is to be written, and puts it in the place of the file.
@@ -93,12 +96,14 @@ fn replace<R: Read, W: Write, E: Write, S: Files + RandomSource>(
     rt: &S,
     name: &[u8],
     beside: &mut [u8],
-) {
-    if let Some(begun) = outfile::begin(rt, err, name, beside) {
-        let mut file = begun;
-        if convert(input, out, err, name, &mut file) {
-            outfile::finish(rt, err, name, beside, &mut file);
+) -> Result<(), Stopped> {
+    match outfile::begin(rt, err, name, beside) {
+        Some(begun) => {
+            let mut file = begun;
+            convert(input, out, err, name, &mut file)?;
+            finish(err, rt, name, beside, &mut file)
         }
+        None => Err(Stopped::Told),
     }
 }
 
@@ -108,23 +113,25 @@ fn run<R: Read + AsFd, W: Write + AsFd, E: Write, S: Files + RandomSource>(
     err: &mut E,
     rt: &S,
     name: &[u8],
-) {
+) -> Result<(), Stopped> {
     if !streams::streams_open(input, out, err) {
-        return;
+        return Err(Stopped::Told);
     }
     if !outfile::may_be_replaced(rt, err, name) {
-        return;
+        return Err(Stopped::Told);
     }
     let mut beside = io::buffer();
     let size = outfile::name_beside(name, &mut beside);
-    replace(input, out, err, rt, name, &mut beside[..size]);
+    replace(input, out, err, rt, name, &mut beside[..size])
 }
 
-fn main(rt: HostRuntime) {
+fn main(rt: HostRuntime) -> ExitCode {
     let mut err = rt.stderr();
     let mut name = io::buffer();
     let n = outfile::argument(&rt, &mut err, b"convert", &mut name);
-    if n > 0 {
-        run(&mut rt.stdin(), &mut rt.stdout(), &mut err, &rt, &name[..n]);
+    if n == 0 {
+        return ExitCode::SUCCESS;
     }
+    let (mut input, mut out) = (rt.stdin(), rt.stdout());
+    streams::status(run(&mut input, &mut out, &mut err, &rt, &name[..n]))
 }

@@ -4,6 +4,8 @@
 
 use pack_lines::Held;
 use std::io::{Read, Write};
+use std::process::ExitCode;
+use streams::Stopped;
 
 // So many bytes are read at a time: were each of them to end a line, there is room for all that they come to.
 const PART_SIZE: usize = 128;
@@ -23,20 +25,17 @@ fn pack_part<W: Write, E: Write>(
     held: Held,
     blocks: &mut [u8],
     told: &mut [u8],
-) -> Step {
+) -> Result<Held, Stopped> {
     let packed = pack_lines::pack_part(part, held, blocks, told);
     let line = packed.held;
-    let written = streams::write_both(out, err, blocks, packed.at, told, packed.told);
-    Step {
-        more: written,
-        held: line,
-    }
+    streams::write_both(out, err, blocks, packed.at, told, packed.told)?;
+    Ok(line)
 }
 
 // The line without its newline that the input ends in, where it does.
-fn end<E: Write>(err: &mut E, held: Held, told: &mut [u8]) {
+fn end<E: Write>(err: &mut E, held: Held, told: &mut [u8]) -> Result<(), Stopped> {
     let n = pack_lines::tell_last(held, told);
-    streams::write_to_error(err, told, n);
+    streams::write_to_error(err, told, n)
 }
 
 fn next_part<R: Read, W: Write, E: Write>(
@@ -46,48 +45,47 @@ fn next_part<R: Read, W: Write, E: Write>(
     held: Held,
     blocks: &mut [u8],
     told: &mut [u8],
-) -> Step {
+) -> Result<Step, Stopped> {
     let mut buffer = [0u8; PART_SIZE];
     let filled = streams::fill_from_input(input, err, &mut buffer);
     if filled.failed.is_some() {
-        return Step { more: false, held };
+        return Err(Stopped::Told);
     }
     let n = filled.count;
-    let step = pack_part(out, err, &buffer[..n], held, blocks, told);
-    let line = step.held;
+    let line = pack_part(out, err, &buffer[..n], held, blocks, told)?;
     if n < PART_SIZE {
-        if step.more {
-            end(err, line, told);
-        }
-        return Step {
-            more: false,
-            held: line,
-        };
+        end(err, line, told)?;
     }
-    Step {
-        more: step.more,
+    Ok(Step {
+        more: n == PART_SIZE,
         held: line,
-    }
+    })
 }
 
 // A proved loop has to end, and nothing says that the input does: so the reads are counted, to a number that no run reaches.
-fn run<R: Read, W: Write, E: Write>(input: &mut R, out: &mut W, err: &mut E) {
+fn run<R: Read, W: Write, E: Write>(
+    input: &mut R,
+    out: &mut W,
+    err: &mut E,
+) -> Result<(), Stopped> {
     let mut blocks = io::large_buffer();
     let mut told = io::large_buffer();
     let mut held = pack_lines::no_line();
     for reads in 0..u64::MAX {
-        let step = next_part(input, out, err, held, &mut blocks, &mut told);
+        let step = next_part(input, out, err, held, &mut blocks, &mut told)?;
         let line = step.held;
         held = line;
         if !step.more {
-            return;
+            return Ok(());
         }
     }
+    Ok(())
 }
 
-fn main(rt: HostRuntime) {
+fn main(rt: HostRuntime) -> ExitCode {
     let mut err = rt.stderr();
-    if streams::no_argument(&rt, &mut err, b"pack") {
-        run(&mut rt.stdin(), &mut rt.stdout(), &mut err);
+    if !streams::no_argument(&rt, &mut err, b"pack") {
+        return ExitCode::SUCCESS;
     }
+    streams::status(run(&mut rt.stdin(), &mut rt.stdout(), &mut err))
 }

@@ -5,6 +5,8 @@
 
 use rooms_lines::Tally;
 use std::io::{Read, Write};
+use std::process::ExitCode;
+use streams::Stopped;
 
 // Whether the run goes on, and the totals so far.
 #[derive(Clone, Copy)]
@@ -13,28 +15,24 @@ struct Worked {
     totals: Tally,
 }
 
-fn ended(totals: Tally) -> Worked {
-    Worked {
-        more: false,
-        totals,
-    }
-}
-
 // Writes the text of a part.
-fn work_part<W: Write, E: Write>(out: &mut W, err: &mut E, part: &[u8], t: Tally) -> Worked {
+fn work_part<W: Write, E: Write>(
+    out: &mut W,
+    err: &mut E,
+    part: &[u8],
+    t: Tally,
+) -> Result<Worked, Stopped> {
     let mut text = io::large_buffer();
     let written = rooms_lines::write_part(part, &mut text, t);
     let totals = written.totals;
-    if !streams::write_to_output(out, err, &text, written.at) {
-        return ended(totals);
-    }
+    streams::write_to_output(out, err, &text, written.at)?;
     if written.last & (totals.blocks == 0) {
-        streams::write_to_error(err, b"standard input: no block came\n", 30);
+        streams::write_to_error(err, b"standard input: no block came\n", 30)?;
     }
-    Worked {
+    Ok(Worked {
         more: !written.last,
         totals,
-    }
+    })
 }
 
 fn next_part<R: Read, W: Write, E: Write>(
@@ -42,34 +40,40 @@ fn next_part<R: Read, W: Write, E: Write>(
     out: &mut W,
     err: &mut E,
     t: Tally,
-) -> Worked {
+) -> Result<Worked, Stopped> {
     let mut buffer = io::large_buffer();
     let filled = streams::fill_from_input(input, err, &mut buffer);
     if filled.failed.is_some() {
-        return ended(t);
+        return Err(Stopped::Told);
     }
     let n = filled.count;
     work_part(out, err, &buffer[..n], t)
 }
 
 // A proved loop has to end, and nothing says that the input does: so the reads are counted, to a number that no run reaches.
-fn run<R: Read, W: Write, E: Write>(input: &mut R, out: &mut W, err: &mut E) {
+fn run<R: Read, W: Write, E: Write>(
+    input: &mut R,
+    out: &mut W,
+    err: &mut E,
+) -> Result<(), Stopped> {
     let mut t = Tally {
         blocks: 0,
         refused: 0,
     };
     for reads in 0..u64::MAX {
-        let worked = next_part(input, out, err, t);
+        let worked = next_part(input, out, err, t)?;
         t = worked.totals;
         if !worked.more {
-            return;
+            return Ok(());
         }
     }
+    Ok(())
 }
 
-fn main(rt: HostRuntime) {
+fn main(rt: HostRuntime) -> ExitCode {
     let mut err = rt.stderr();
-    if streams::no_argument(&rt, &mut err, b"rooms") {
-        run(&mut rt.stdin(), &mut rt.stdout(), &mut err);
+    if !streams::no_argument(&rt, &mut err, b"rooms") {
+        return ExitCode::SUCCESS;
     }
+    streams::status(run(&mut rt.stdin(), &mut rt.stdout(), &mut err))
 }

@@ -4,6 +4,8 @@
 use model::PART_SIZE;
 use route_read::Reader;
 use std::io::{Read, Write};
+use std::process::ExitCode;
+use streams::Stopped;
 
 // Numbers and lengths that can matter: a slop, 129 of the cart, four for each of 33 waypoints, 129 for each of 32 outlines; one outline more.
 const NUMBERS: usize = 4390;
@@ -23,10 +25,10 @@ fn tell<W: Write, E: Write>(
     reader: Reader,
     floats: &[f32],
     lengths: &[u32],
-) {
+) -> Result<(), Stopped> {
     let mut text = [0u8; 128];
     let n = route_text::write_answer(reader, floats, lengths, &mut text);
-    streams::write_to_output(out, err, &text, n);
+    streams::write_to_output(out, err, &text, n)
 }
 
 fn next_part<R: Read, W: Write, E: Write>(
@@ -36,44 +38,47 @@ fn next_part<R: Read, W: Write, E: Write>(
     reader: Reader,
     floats: &mut [f32],
     lengths: &mut [u32],
-) -> Step {
+) -> Result<Step, Stopped> {
     let mut buffer = io::large_buffer();
     let filled = streams::fill_from_input(input, err, &mut buffer);
     if filled.failed.is_some() {
-        return Step {
-            more: false,
-            reader,
-        };
+        return Err(Stopped::Told);
     }
     let n = filled.count;
     let after = route_read::read_part(&buffer[..n], reader, floats, lengths);
     if n < PART_SIZE {
-        tell(out, err, after, floats, lengths);
+        tell(out, err, after, floats, lengths)?;
     }
-    Step {
+    Ok(Step {
         more: n == PART_SIZE,
         reader: after,
-    }
+    })
 }
 
 // A proved loop has to end, and nothing says that the input does: so the reads are counted, to a number that no run reaches.
-fn run<R: Read, W: Write, E: Write>(input: &mut R, out: &mut W, err: &mut E) {
+fn run<R: Read, W: Write, E: Write>(
+    input: &mut R,
+    out: &mut W,
+    err: &mut E,
+) -> Result<(), Stopped> {
     let mut floats = [0.0f32; NUMBERS];
     let mut lengths = [0u32; LENGTHS];
     let mut reader = route_read::no_text();
     for reads in 0..u64::MAX {
-        let step = next_part(input, out, err, reader, &mut floats, &mut lengths);
+        let step = next_part(input, out, err, reader, &mut floats, &mut lengths)?;
         let after = step.reader;
         reader = after;
         if !step.more {
-            return;
+            return Ok(());
         }
     }
+    Ok(())
 }
 
-fn main(rt: HostRuntime) {
+fn main(rt: HostRuntime) -> ExitCode {
     let mut err = rt.stderr();
-    if streams::no_argument(&rt, &mut err, b"route") {
-        run(&mut rt.stdin(), &mut rt.stdout(), &mut err);
+    if !streams::no_argument(&rt, &mut err, b"route") {
+        return ExitCode::SUCCESS;
     }
+    streams::status(run(&mut rt.stdin(), &mut rt.stdout(), &mut err))
 }

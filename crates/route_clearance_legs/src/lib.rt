@@ -1,4 +1,6 @@
 // A route looked at as a whole: each leg past each still outline, in `route`'s order, until one is not clear. What is said of the pairs holds at every moment.
+#![tactic(auto)]
+
 ghost use Rattle.std.specs.Prelude.{◌≡◌, true, false, ◌+◌, ◌*◌, ◌/◌, ◌%◌, ◌≤◌, ◌<◌, length, get_or};
 ghost use Rattle.std.specs.Float.{binary32};
 ghost use Rattle.route_legs.specs.Route as Route;

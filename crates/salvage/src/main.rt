@@ -5,25 +5,17 @@
 use salvage_walk::Walk;
 use std::io::{Read, Write};
 use std::os::fd::AsFd;
+use std::process::ExitCode;
 use std::random::RandomSource;
 use std::rt::Files;
+use streams::Stopped;
 
-// Whether the run goes on, whether something failed, how many bytes stand at the start of the buffer, and the walk so far.
+// Whether the run goes on, how many bytes stand at the start of the buffer, and the walk so far.
 #[derive(Clone, Copy)]
 struct Turn {
     more: bool,
-    failed: bool,
     left: usize,
     walk: Walk,
-}
-
-fn failed(walk: Walk) -> Turn {
-    Turn {
-        more: false,
-        failed: true,
-        left: 0,
-        walk,
-    }
 }
 
 // Walks so many bytes of the buffer, and writes what they come to.
@@ -35,27 +27,22 @@ fn write_part<W: Write, E: Write, F: Write>(
     buffer: &mut [u8],
     count: usize,
     walk: Walk,
-) -> Turn {
+) -> Result<Turn, Stopped> {
     let mut file = io::large_buffer();
     let mut text = io::large_buffer();
     let more = count == buffer.len();
     let salvaged = salvage_walk::salvage_part(buffer, count, walk, &mut file, &mut text);
     let walk = salvaged.walk;
     if !salvaged.done {
-        return failed(walk);
+        return Err(Stopped::Told);
     }
-    if !streams::write_to(to, err, name, &file, salvaged.file) {
-        return failed(walk);
-    }
-    if !streams::write_to_output(out, err, &text, salvaged.text) {
-        return failed(walk);
-    }
-    Turn {
+    streams::write_to(to, err, name, &file, salvaged.file)?;
+    streams::write_to_output(out, err, &text, salvaged.text)?;
+    Ok(Turn {
         more,
-        failed: false,
         left: salvaged.left,
         walk,
-    }
+    })
 }
 
 fn next_part<R: Read, W: Write, E: Write, F: Write>(
@@ -67,13 +54,13 @@ fn next_part<R: Read, W: Write, E: Write, F: Write>(
     buffer: &mut [u8],
     left: usize,
     walk: Walk,
-) -> Turn {
+) -> Result<Turn, Stopped> {
     if left > buffer.len() {
-        return failed(walk);
+        return Err(Stopped::Told);
     }
     let filled = streams::fill_from_input(input, err, &mut buffer[left..]);
     if filled.failed.is_some() {
-        return failed(walk);
+        return Err(Stopped::Told);
     }
     write_part(out, err, name, to, buffer, left + filled.count, walk)
 }
@@ -86,7 +73,7 @@ fn walk_all<R: Read, W: Write, E: Write, F: Write>(
     err: &mut E,
     name: &[u8],
     to: &mut F,
-) -> Turn {
+) -> Result<Turn, Stopped> {
     let mut buffer = io::large_buffer();
     let mut left: usize = 0;
     let mut walk = Walk {
@@ -95,26 +82,61 @@ fn walk_all<R: Read, W: Write, E: Write, F: Write>(
         run: 0,
     };
     for reads in 0..u64::MAX {
-        let turned = next_part(input, out, err, name, to, &mut buffer, left, walk);
+        let turned = next_part(input, out, err, name, to, &mut buffer, left, walk)?;
         if !turned.more {
-            return turned;
+            return Ok(turned);
         }
         left = turned.left;
         walk = turned.walk;
     }
-    failed(walk)
+    Err(Stopped::Told)
 }
 
-fn tell_last_run<W: Write, E: Write>(out: &mut W, err: &mut E, left: usize, walk: Walk) -> bool {
+fn tell_last_run<W: Write, E: Write>(
+    out: &mut W,
+    err: &mut E,
+    left: usize,
+    walk: Walk,
+) -> Result<(), Stopped> {
     let mut text = io::buffer();
     let n = salvage_walk::tell_last_run(left, walk, &mut text);
     streams::write_to_output(out, err, &text, n)
 }
 
-fn tell_total<W: Write, E: Write>(out: &mut W, err: &mut E, left: usize, walk: Walk) -> bool {
+fn tell_total<W: Write, E: Write>(
+    out: &mut W,
+    err: &mut E,
+    left: usize,
+    walk: Walk,
+) -> Result<(), Stopped> {
     let mut text = io::buffer();
     let n = salvage_walk::tell_total(left, walk, &mut text);
     streams::write_to_output(out, err, &text, n)
+}
+
+// Tells the totals of what was prepared, and then puts it in the place of the file; takes it back where they cannot be told.
+fn finish<W: Write, E: Write, S: Files>(
+    out: &mut W,
+    err: &mut E,
+    rt: &S,
+    name: &[u8],
+    beside: &[u8],
+    file: &mut S::File,
+    turned: Turn,
+) -> Result<(), Stopped> {
+    match tell_total(out, err, turned.left, turned.walk) {
+        Ok(()) => {
+            if outfile::put_in_place(rt, err, name, beside, file) {
+                Ok(())
+            } else {
+                Err(Stopped::Told)
+            }
+        }
+        Err(stopped) => {
+            outfile::abandon(rt, beside);
+            Err(stopped)
+        }
+    }
 }
 
 // Walks the input and tells the runs. The totals come when all is written, and then the file takes its place.
@@ -126,23 +148,13 @@ fn salvage<R: Read, W: Write, E: Write, S: Files>(
     name: &[u8],
     beside: &[u8],
     file: &mut S::File,
-) {
-    let turned = walk_all(input, out, err, name, file);
-    let walk = turned.walk;
-    if turned.failed {
-        return;
-    }
-    if !tell_last_run(out, err, turned.left, walk) {
-        return;
-    }
+) -> Result<(), Stopped> {
+    let turned = walk_all(input, out, err, name, file)?;
+    tell_last_run(out, err, turned.left, turned.walk)?;
     if !outfile::prepare(rt, err, name, beside, file) {
-        return;
+        return Err(Stopped::Told);
     }
-    if tell_total(out, err, turned.left, walk) {
-        outfile::put_in_place(rt, err, name, beside, file);
-    } else {
-        outfile::abandon(rt, beside);
-    }
+    finish(out, err, rt, name, beside, file, turned)
 }
 
 // Collects what is to be written, and puts it in the place of the file.
@@ -153,10 +165,13 @@ fn replace<R: Read, W: Write, E: Write, S: Files + RandomSource>(
     rt: &S,
     name: &[u8],
     beside: &mut [u8],
-) {
-    if let Some(begun) = outfile::begin(rt, err, name, beside) {
-        let mut file = begun;
-        salvage(input, out, err, rt, name, beside, &mut file);
+) -> Result<(), Stopped> {
+    match outfile::begin(rt, err, name, beside) {
+        Some(begun) => {
+            let mut file = begun;
+            salvage(input, out, err, rt, name, beside, &mut file)
+        }
+        None => Err(Stopped::Told),
     }
 }
 
@@ -166,23 +181,25 @@ fn run<R: Read + AsFd, W: Write + AsFd, E: Write, S: Files + RandomSource>(
     err: &mut E,
     rt: &S,
     name: &[u8],
-) {
+) -> Result<(), Stopped> {
     if !streams::streams_open(input, out, err) {
-        return;
+        return Err(Stopped::Told);
     }
     if !outfile::may_be_replaced(rt, err, name) {
-        return;
+        return Err(Stopped::Told);
     }
     let mut beside = io::buffer();
     let size = outfile::name_beside(name, &mut beside);
-    replace(input, out, err, rt, name, &mut beside[..size]);
+    replace(input, out, err, rt, name, &mut beside[..size])
 }
 
-fn main(rt: HostRuntime) {
+fn main(rt: HostRuntime) -> ExitCode {
     let mut err = rt.stderr();
     let mut name = io::buffer();
     let n = outfile::argument(&rt, &mut err, b"salvage", &mut name);
-    if n > 0 {
-        run(&mut rt.stdin(), &mut rt.stdout(), &mut err, &rt, &name[..n]);
+    if n == 0 {
+        return ExitCode::SUCCESS;
     }
+    let (mut input, mut out) = (rt.stdin(), rt.stdout());
+    streams::status(run(&mut input, &mut out, &mut err, &rt, &name[..n]))
 }

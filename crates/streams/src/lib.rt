@@ -1,13 +1,15 @@
 // What the programs share: reading until a buffer is full, writing, and taking no arguments, with every fault told on standard error.
 #![tactic(auto)]
 
-ghost use Rattle.std.specs.Prelude.{◌≤◌, ◌<◌, ◌≡◌, length, take, IsNone, IsTrue, OnOk};
+ghost use Rattle.std.specs.Prelude.{◌≤◌, ◌<◌, ◌≡◌, length, take, IsNone, IsTrue, OnOk, Err};
+ghost use Rattle.std.specs.Process.{exit_status};
 ghost use Rattle.io.specs.Counts.{IsPrefixLen};
 ghost use Rattle.std.specs.Io.KnownBytes.{Appends, Consumes, IsAtEnd};
 
 use std::env::{Env, FillError};
-use std::io::{Cursor, Error, ErrorKind, Read, Result, Write};
+use std::io::{Cursor, Error, ErrorKind, Read, Write};
 use std::os::fd::AsFd;
+use std::process::ExitCode;
 use std::str::from_utf8;
 
 // How many bytes stand at the start of the buffer, and the error of a read that failed.
@@ -92,8 +94,38 @@ pub fn tell_failure<E: Write>(err: &mut E, what: &[u8], failure: Error) {
     tell(err, b"\n");
 }
 
+// Why a run ends early: of a fault, which is told, or since the reader of a pipe is gone, and then nobody is told.
+#[derive(Clone, Copy, PartialEq, Eq)]
+pub enum Stopped {
+    Told,
+    PipeClosed,
+}
+
+// What a program that the system ends for a closed pipe has as its exit status.
+const PIPE_STATUS: u8 = 141;
+
+// The exit status of a run: 0, also where a fault was told; of a closed pipe that which the system would give.
+pub fn status(run: Result<(), Stopped>) -> ExitCode
+    ensures closed { run ≡ Err Stopped.PipeClosed → exit_status result ≡ 141 }
+    ensures open { (run ≡ Err Stopped.PipeClosed → ⊥) → exit_status result ≡ 0 }
+{
+    match run {
+        Err(Stopped::PipeClosed) => ExitCode::from(PIPE_STATUS),
+        _ => ExitCode::SUCCESS,
+    }
+}
+
+// Tells a write that failed under a name, but for that to a closed pipe.
+fn stop<E: Write>(err: &mut E, name: &[u8], failure: Error) -> Stopped {
+    if failure.kind() == ErrorKind::BrokenPipe {
+        return Stopped::PipeClosed;
+    }
+    tell_failure(err, name, failure);
+    Stopped::Told
+}
+
 // Writes the first n bytes of a text; an error where it has not so many, or they could not all be written.
-fn write_first<W: Write>(to: &mut W, text: &[u8], n: usize) -> Result<()>
+fn write_first<W: Write>(to: &mut W, text: &[u8], n: usize) -> std::io::Result<()>
     ensures { OnOk result (n ≤ length text.now × Appends (W.contents to.old) (W.contents to.new) (take n text.now)) }
 {
     if n <= text.len() {
@@ -103,44 +135,43 @@ fn write_first<W: Write>(to: &mut W, text: &[u8], n: usize) -> Result<()>
     }
 }
 
-// Writes the first n bytes of a text; false, and told under a name, where they could not all be written.
+// Writes the first n bytes of a text; an error, and told under a name, where they could not all be written.
 pub fn write_to<W: Write, E: Write>(
     to: &mut W,
     err: &mut E,
     name: &[u8],
     text: &[u8],
     n: usize,
-) -> bool
-    ensures written { IsTrue result → n ≤ length text.now × Appends (W.contents to.old) (W.contents to.new) (take n text.now) }
-    ensures quiet { IsTrue result → err.new ≡ err.old }
+) -> Result<(), Stopped>
+    ensures written { OnOk result (n ≤ length text.now × Appends (W.contents to.old) (W.contents to.new) (take n text.now)) }
+    ensures quiet { OnOk result (err.new ≡ err.old) }
 {
     match write_first(to, text, n) {
-        Ok(()) => true,
-        Err(failure) => {
-            tell_failure(err, name, failure);
-            false
-        }
+        Ok(()) => Ok(()),
+        Err(failure) => Err(stop(err, name, failure)),
     }
 }
 
 // The same to standard output.
-pub fn write_to_output<W: Write, E: Write>(out: &mut W, err: &mut E, text: &[u8], n: usize) -> bool
-    ensures written { IsTrue result → n ≤ length text.now × Appends (W.contents out.old) (W.contents out.new) (take n text.now) }
-    ensures quiet { IsTrue result → err.new ≡ err.old }
+pub fn write_to_output<W: Write, E: Write>(
+    out: &mut W,
+    err: &mut E,
+    text: &[u8],
+    n: usize,
+) -> Result<(), Stopped>
+    ensures written { OnOk result (n ≤ length text.now × Appends (W.contents out.old) (W.contents out.new) (take n text.now)) }
+    ensures quiet { OnOk result (err.new ≡ err.old) }
 {
     write_to(out, err, b"standard output", text, n)
 }
 
 // The same to standard error.
-pub fn write_to_error<E: Write>(err: &mut E, text: &[u8], n: usize) -> bool
-    ensures { IsTrue result → n ≤ length text.now × Appends (E.contents err.old) (E.contents err.new) (take n text.now) }
+pub fn write_to_error<E: Write>(err: &mut E, text: &[u8], n: usize) -> Result<(), Stopped>
+    ensures { OnOk result (n ≤ length text.now × Appends (E.contents err.old) (E.contents err.new) (take n text.now)) }
 {
     match write_first(err, text, n) {
-        Ok(()) => true,
-        Err(failure) => {
-            tell_failure(err, b"standard error", failure);
-            false
-        }
+        Ok(()) => Ok(()),
+        Err(failure) => Err(stop(err, b"standard error", failure)),
     }
 }
 
@@ -152,13 +183,11 @@ pub fn write_both<W: Write, E: Write>(
     n: usize,
     told: &[u8],
     m: usize,
-) -> bool
-    ensures written { IsTrue result → n ≤ length text.now × Appends (W.contents out.old) (W.contents out.new) (take n text.now) }
-    ensures told { IsTrue result → m ≤ length told.now × Appends (E.contents err.old) (E.contents err.new) (take m told.now) }
+) -> Result<(), Stopped>
+    ensures written { OnOk result (n ≤ length text.now × Appends (W.contents out.old) (W.contents out.new) (take n text.now)) }
+    ensures told { OnOk result (m ≤ length told.now × Appends (E.contents err.old) (E.contents err.new) (take m told.now)) }
 {
-    if !write_to_output(out, err, text, n) {
-        return false;
-    }
+    write_to_output(out, err, text, n)?;
     write_to_error(err, told, m)
 }
 

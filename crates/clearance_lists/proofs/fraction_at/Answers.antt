@@ -1,0 +1,8 @@
+-- The float of the place's pattern. Assumes nothing.
+use mathlib.Core.Path.{ap, ◌∙◌}
+use lib.Ieee.{binary32, of_bits}
+use borrow.Author.Rules.{rules}
+use Rattle.clearance_lists.proofs.fraction_at.Goals as goal
+
+pub returns : goal.returns
+returns c = c.from_bits.ensures ∙ ap (of_bits binary32) c.place_bits.ensures
