@@ -1,6 +1,6 @@
 -- `route_text::write_answer` meets its contract, by its tests and what its callees ensure. Assumes nothing.
-use mathlib.Core.Path.{ap}
 use mathlib.Core.Bool.{not}
+use mathlib.Core.Path.{ap}
 use borrow.Author.Tests.{lt-ltb}
 use Rattle.text.proofs.Pasted.{put-nothing}
 use Rattle.route_text.proofs.Lines.{told-no-route, told-route}

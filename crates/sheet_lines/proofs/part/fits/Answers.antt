@@ -1,0 +1,6 @@
+-- `sheet_lines::part::fits` meets its contract, by what its callee ensures. Assumes nothing.
+use borrow.Author.Rules.{rules}
+use Rattle.sheet_lines.proofs.part.fits.Goals as goal
+
+pub returns : goal.returns
+returns c = simp c.countable.ensures
