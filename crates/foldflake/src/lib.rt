@@ -1,4 +1,6 @@
 // The entry points for programs in C and Rust, over numbers and slices. Nothing is required of the caller.
+#![tactic(auto)]
+
 mod built;
 mod tell_moment;
 mod tell_route;
