@@ -1,4 +1,6 @@
 // The first contact of a batch: found part by part, and told as a number or `none`.
+#![tactic(auto)]
+
 ghost use Rattle.std.specs.Prelude.{◌≡◌, ◌/◌, ◌<◌, length};
 ghost use Rattle.std.specs.Float.{binary32};
 ghost use Rattle.model.specs.Block.{block_size};

@@ -1,4 +1,6 @@
 // Batches worked into a report: a batch part by part, and whole batches that stand in memory.
+#![tactic(auto)]
+
 ghost use Rattle.std.specs.Prelude.{◌≡◌, ◌+◌, ◌/◌, ◌%◌, length};
 ghost use Rattle.std.specs.Float.{binary32};
 ghost use Rattle.model.specs.Block.{block_size};

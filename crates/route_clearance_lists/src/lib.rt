@@ -1,4 +1,6 @@
 // A route looked at as a whole, over lists of numbers, as programs in C and Rust have them. Nothing is required of the caller.
+#![tactic(auto)]
+
 ghost use Rattle.std.specs.Prelude.{◌≡◌, [], ◌∷◌, ◌≤◌, length};
 ghost use Rattle.route_clearance_legs.specs.Promise.{pieces_told};
 ghost use Rattle.route_clearance_lists.specs.Entry.{route_number, end_words, fractions_after, place_after, RouteClearanceTold};

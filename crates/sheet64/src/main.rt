@@ -5,19 +5,14 @@
 
 use model::Totals;
 use std::io::{Read, Write};
+use std::process::ExitCode;
+use streams::Stopped;
 
 // Whether the run goes on, and the totals so far.
 #[derive(Clone, Copy)]
 struct Worked {
     more: bool,
     totals: Totals,
-}
-
-fn ended(totals: Totals) -> Worked {
-    Worked {
-        more: false,
-        totals,
-    }
 }
 
 // Writes the text of a part, by room lent for it.
@@ -27,19 +22,17 @@ fn work_part<W: Write, E: Write>(
     part: &[u8],
     text: &mut [u8],
     t: Totals,
-) -> Worked {
+) -> Result<Worked, Stopped> {
     let written = sheet_lines64::write_part(part, text, t);
     let totals = written.totals;
-    if !streams::write_to_output(out, err, text, written.at) {
-        return ended(totals);
-    }
+    streams::write_to_output(out, err, text, written.at)?;
     if written.last & (totals.blocks == 0) {
-        streams::write_to_error(err, b"standard input: no block came\n", 30);
+        streams::write_to_error(err, b"standard input: no block came\n", 30)?;
     }
-    Worked {
+    Ok(Worked {
         more: !written.last,
         totals,
-    }
+    })
 }
 
 // Reads a part into a lent buffer and works it. What an earlier part left there, and in the text, is not looked at.
@@ -50,17 +43,21 @@ fn next_part<R: Read, W: Write, E: Write>(
     buffer: &mut [u8],
     text: &mut [u8],
     t: Totals,
-) -> Worked {
+) -> Result<Worked, Stopped> {
     let filled = streams::fill_from_input(input, err, buffer);
     if filled.failed.is_some() {
-        return ended(t);
+        return Err(Stopped::Told);
     }
     let n = filled.count;
     work_part(out, err, &buffer[..n], text, t)
 }
 
 // The whole run. A proved loop has to end, and nothing says that the input does: so the reads are counted, to a number that no run reaches.
-fn run<R: Read, W: Write, E: Write>(input: &mut R, out: &mut W, err: &mut E) {
+fn run<R: Read, W: Write, E: Write>(
+    input: &mut R,
+    out: &mut W,
+    err: &mut E,
+) -> Result<(), Stopped> {
     let mut t = Totals {
         blocks: 0,
         clear: 0,
@@ -71,17 +68,19 @@ fn run<R: Read, W: Write, E: Write>(input: &mut R, out: &mut W, err: &mut E) {
     let mut buffer = io::large_buffer();
     let mut text = io::large_buffer();
     for reads in 0..u64::MAX {
-        let worked = next_part(input, out, err, &mut buffer, &mut text, t);
+        let worked = next_part(input, out, err, &mut buffer, &mut text, t)?;
         t = worked.totals;
         if !worked.more {
-            return;
+            return Ok(());
         }
     }
+    Ok(())
 }
 
-fn main(rt: HostRuntime) {
+fn main(rt: HostRuntime) -> ExitCode {
     let mut err = rt.stderr();
-    if streams::no_argument(&rt, &mut err, b"sheet64") {
-        run(&mut rt.stdin(), &mut rt.stdout(), &mut err);
+    if !streams::no_argument(&rt, &mut err, b"sheet64") {
+        return ExitCode::SUCCESS;
     }
+    streams::status(run(&mut rt.stdin(), &mut rt.stdout(), &mut err))
 }

@@ -1,4 +1,6 @@
 // The lines of the sheet, written into lent bytes.
+#![tactic(auto)]
+
 mod answer;
 mod part;
 mod put;

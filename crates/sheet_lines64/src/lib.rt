@@ -1,5 +1,7 @@
 // Written by tests/written/wide.py from sheet_lines, in f64.
 // The lines of the sheet, written into lent bytes.
+#![tactic(auto)]
+
 mod answer;
 mod part;
 mod put;
