@@ -3,10 +3,10 @@ use mathlib.Core.Path.{◌≡◌, refl, sym, ap, ◌∙◌}
 use mathlib.Core.Bool.{Bool, true, false, cond, ◌&&◌}
 use mathlib.Core.List.{List, [], ◌∷◌, ◌++◌, map, map-append}
 use mathlib.Core.Logic.{◌⊎◌, inl, inr, ⊎_elim}
-use Prim.Native.Nat.{ℕ, zero, suc, ◌+◌, ◌^◌, ◌≤◌, ◌<◌}
+use Prim.Native.Nat.{ℕ, suc, ◌+◌, ◌^◌, ◌≤◌, ◌<◌}
 use native.Mathlib.Omega.{arith}
 use native.Mathlib.Nat.{mod-eq_of_lt}
-use borrow.Author.Tests.{lt-ltb, le-ltb, ltb-true, ltb-false, eq-eqb, ne_eqb, eqb-true, eqb-false}
+use borrow.Author.Tests.{lt-ltb, le-ltb, eq-eqb, ne_eqb, eqb-true, eqb-false}
 use lib.Dec.{T, eqb, ltb}
 use lib.Ieee.{Float, binary32, of_bits, to_bits, fits}
 use lib.Ieee.Bits.{of_bits-to_bits, to_bits-lt}
@@ -17,17 +17,17 @@ use Rattle.model.specs.declared.Counts.{Counts}
 use Rattle.model.specs.declared.Verdict.{Verdict}
 use Rattle.model.specs.declared.BlockAnswer.{BlockAnswer}
 use Rattle.model.specs.declared.BlockAnswer.TheVariants.{Worked, Refused}
-use Rattle.model.specs.Text.{decimal, hex_by, line}
+use Rattle.model.specs.Text.{decimal, hex_by}
 use Rattle.model.specs.Sheet.{letter_of, worked_fields, corner_fields, worked_line, refused_line, answer_line, answers}
-use Rattle.model.specs.Counted.{after_blanks, printed_letter, lines_one_by_one, sheet_lines}
+use Rattle.model.specs.Counted.{lines_one_by_one, sheet_lines}
 use Rattle.model.proofs.Counted.{letter-printed, a-line-each}
-use Rattle.model.proofs.SweepToi.{Bounded, at-most-160-searches, at-most-8000-root-steps}
+use Rattle.model.proofs.SweepToi.{at-most-160-searches, at-most-8000-root-steps}
 use Rattle.text.proofs.ReadBack.{Digits, decimal-digits, hex-digits}
 use Rattle.numerals.specs.Numerals.{said_from, word_from}
 use Rattle.numerals.proofs.Numerals.{print-says, hex-says}
 use Rattle.report_counts.specs.declared.most.Most.{Most}
-use Rattle.report_counts.specs.declared.most.Most.TheVariants.{Nowhere, At}
-use Rattle.report_counts.specs.Rows.{status_row, hit_row, refusal_row, detail_by, group_row, detail_row, rows_of, rows_in, times_in}
+use Rattle.report_counts.specs.declared.most.Most.TheVariants.{Nowhere}
+use Rattle.report_counts.specs.Rows.{status_row, hit_row, refusal_row, detail_by, detail_row, rows_of, rows_in, times_in}
 use Rattle.report_counts.specs.Largest.{hold}
 use Rattle.report_counts.specs.Report.{every_answer, report}
 use Rattle.report_counts.proofs.Tally.{times-append, rows_append, get_d-tally, hit-rows, refusal-past}
@@ -36,7 +36,7 @@ use Rattle.report_batches.proofs.AsSheet.{all_lines}
 use Rattle.report_batches.specs.Told.{Given, Place, in_batch, in_batches, shown_at, Told, Firsts, calls_of, searches_of, steps_of}
 use Rattle.report_batches.specs.Told as OfPlaces
 use Rattle.report_batches.proofs.Firsts.{firsts}
-use Rattle.report_from_lines.specs.Printed.{up_to_blank, field_at, number_at, block_printed, refusal_printed, fraction_printed, count_of, is_hit_in, is_refused_by}
+use Rattle.report_from_lines.specs.Printed.{field_at, number_at, block_printed, refusal_printed, fraction_printed, count_of, is_hit_in, is_refused_by}
 use Rattle.report_from_lines.specs.Printed.{Printed, on_sheet, printed_behind, shows, FirstLargest, none, first, FromLines}
 use Rattle.report_from_lines.proofs.Fields.{Each, field_is}
 use Rattle.report_from_lines.proofs.Worked.{Small, Fair, EachFair, file-fair}

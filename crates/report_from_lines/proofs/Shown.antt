@@ -1,11 +1,10 @@
 -- Two printed lines, read by computing. Assumes nothing.
 use mathlib.Core.Path.{◌≡◌, refl}
-use mathlib.Core.Bool.{true, false}
 use mathlib.Core.List.{List, [], ◌∷◌}
 use Prim.Native.Nat.{ℕ}
 use lib.Ieee.{of_bits, lt, eq}
 use Rattle.model.specs.Text.{decimal_by, decimal, hex_by, line}
-use Rattle.model.specs.Counted.{after_blanks, how_many}
+use Rattle.model.specs.Counted.{after_blanks}
 use Rattle.numerals.specs.Numerals.{said_from, word_from}
 use Rattle.report_counts.specs.declared.most.Most.TheVariants.{Nowhere, At}
 use Rattle.report_counts.specs.Rows.{hit_row}

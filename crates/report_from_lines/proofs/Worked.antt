@@ -1,10 +1,9 @@
 -- What is known of every answer of a file: its counts are small, its fraction is one of binary32, and a refusal has a number of the list. Assumes nothing.
-use mathlib.Core.Path.{◌≡◌, refl}
 use mathlib.Core.Bool.{Bool, true, false, cond}
 use mathlib.Core.List.{List, [], ◌∷◌, map}
-use Prim.Native.Nat.{ℕ, zero, suc, ◌+◌, ◌*◌, ◌%◌}
+use Prim.Native.Nat.{ℕ, zero, suc, ◌+◌, ◌%◌}
 use lib.Dec.{T, eqb}
-use lib.Ieee.{Float, nan, Format, binary32, of_bits, fits, sub, lt, le}
+use lib.Ieee.{Float, nan, Format, binary32, fits, sub, lt, le}
 use lib.Ieee.Fits.{cond-fits, nan-fits, add-fits, mul-fits}
 use lib.Ieee.Bits.{of_bits-fits}
 use lib.ListN.{length, get_or}
@@ -15,7 +14,6 @@ use Rattle.model.specs.declared.Sweep.{Sweep}
 use Rattle.model.specs.declared.SweepTask.{SweepTask}
 use Rattle.model.specs.declared.SimplexCache.{SimplexCache}
 use Rattle.model.specs.declared.SeparationFunction.{SeparationFunction}
-use Rattle.model.specs.declared.MinSeparation.{MinSeparation}
 use Rattle.model.specs.declared.Closest.{Closest}
 use Rattle.model.specs.declared.RootSearch.{RootSearch}
 use Rattle.model.specs.declared.Corners.{Corners}
@@ -24,7 +22,6 @@ use Rattle.model.specs.declared.Contact.{Contact}
 use Rattle.model.specs.declared.SweepAnswer.{SweepAnswer}
 use Rattle.model.specs.declared.SweepAnswer.TheVariants.{Overlapped, Hit, Separated, Failed}
 use Rattle.model.specs.declared.SweepAnswer.TheVariants as Answered
-use Rattle.model.specs.declared.Swept.{Swept}
 use Rattle.model.specs.declared.BlockAnswer.{BlockAnswer}
 use Rattle.model.specs.declared.BlockAnswer.TheVariants.{Worked, Refused}
 use Rattle.model.specs.Ground.{abs}
@@ -32,10 +29,10 @@ use Rattle.model.specs.Ground as Ground
 use Rattle.model.specs.Support.{point}
 use Rattle.model.specs.Separation.{new_separation, evaluate, find_min_separation}
 use Rattle.model.specs.SweepToi.{PushEnd, ended, moved, onward, max_root_iterations, max_push_back_iterations, called, searched, stepped, nowhere, there, failed_at}
-use Rattle.model.specs.SweepToi.{found, tried, low, high, closest_at, root_from, push_from, advance_by, advance_from, advance}
+use Rattle.model.specs.SweepToi.{found, tried, low, high, closest_at, root_from, push_from, advance_by, advance_from}
 use Rattle.model.specs.SweepToi.{sweep_task, sweep_refusal, sweep_by, sweep_time_of_impact}
 use Rattle.model.specs.Corners.{sweep}
-use Rattle.model.specs.Block.{block_of, checked_block}
+use Rattle.model.specs.Block.{checked_block}
 use Rattle.model.specs.Blocks.{blocks}
 use Rattle.model.specs.Work.{floats_at, numbers_of, points_a, points_b, move_at, sweep_for, sweep_of, told_by, of_job, answer_by, block_answer}
 use Rattle.model.specs.Sheet.{answer_of, answers}

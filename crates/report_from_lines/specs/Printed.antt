@@ -1,6 +1,6 @@
 -- What a reader finds on the printed lines of sheets: the fields of a line, the lines that he counts, and the largest number that one shows. A line is
 -- looked at as text alone.
-use Rattle.std.specs.Prelude.{◌≡◌, ℕ, ◌+◌, ◌≤◌, ◌<◌, ◌^◌, Bool, cond, ◌&&◌, List, [], ◌∷◌, ◌++◌, map, eqb, ltb, length, get_or, Float}
+use Rattle.std.specs.Prelude.{◌≡◌, ℕ, ◌+◌, ◌≤◌, ◌<◌, Bool, cond, ◌&&◌, List, [], ◌∷◌, ◌++◌, map, eqb, ltb, length, get_or, Float}
 use Rattle.std.specs.Float.{binary32}
 use Rattle.std.specs.Float.Ieee.{of_bits}
 use Rattle.model.specs.Counted.{after_blanks, printed_letter, sheet_lines}
@@ -9,7 +9,6 @@ use Rattle.report_counts.specs.declared.most.Most.{Most}
 use Rattle.report_counts.specs.declared.most.Most.TheVariants.{Nowhere, At}
 use Rattle.report_counts.specs.declared.counting.Report.{Report}
 use Rattle.report_counts.specs.Rows.{hit_row, refusal_row}
-use Rattle.report_counts.specs.Largest.{hold}
 use Rattle.report_batches.specs.Told.{Given, AtMost, Below}
 
 -- ---- fields

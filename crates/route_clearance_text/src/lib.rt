@@ -1,4 +1,6 @@
 // The answer of a route that was read as text and looked at as a whole, as a line.
+#![tactic(auto)]
+
 ghost use Rattle.std.specs.Prelude.{◌≡◌, ◌+◌, ◌≤◌, length};
 ghost use Rattle.text.specs.Put.{Put};
 ghost use Rattle.route_text.specs.Answer as Route;

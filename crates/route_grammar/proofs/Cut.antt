@@ -2,7 +2,7 @@
 -- Assumes nothing.
 use mathlib.Core.Path.{◌≡◌, refl, sym, ap, ◌∙◌}
 use mathlib.Core.Bool.{Bool, true, false, cond, ◌||◌}
-use mathlib.Core.List.{List, [], ◌∷◌, ◌++◌, map}
+use mathlib.Core.List.{List, [], ◌∷◌, map}
 use mathlib.Core.Logic.{◌⊎◌, inl, inr}
 use Prim.Native.Nat.{ℕ, zero, suc, ◌+◌, ◌-◌, ◌*◌, ◌/◌, ◌%◌, ◌≤◌, ◌<◌}
 use native.Mathlib.Omega.{arith}
@@ -10,7 +10,7 @@ use native.Mathlib.Nat.{mod-lt}
 use borrow.Author.Tests.{lt-ltb, le-ltb, ltb-true, ltb-false, eq-eqb, ne_eqb}
 use lib.Dec.{eqb, ltb}
 use lib.Ieee.{Float, Format}
-use lib.ListN.{length, take, drop, get_or, length-append, length-map, get_or-map}
+use lib.ListN.{length, take, get_or, length-append, length-map, get_or-map}
 use lib.Seq.{take_all, length-take-le, take-append_seam, drop-append-add}
 use Rattle.model.specs.declared.Sweep.{Sweep}
 use Rattle.model.specs.declared.SweepAnswer.{SweepAnswer}

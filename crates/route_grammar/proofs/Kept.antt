@@ -1,13 +1,13 @@
 -- A route's text read: what is kept of it in lent lists of any length, byte by byte. Assumes nothing.
 use mathlib.Core.Path.{◌≡◌, refl, sym, ap, ◌∙◌}
-use mathlib.Core.Bool.{Bool, true, false, cond, ◌&&◌}
+use mathlib.Core.Bool.{Bool, true, false, cond}
 use mathlib.Core.List.{List, [], ◌∷◌, ◌++◌, map, append-nil, append_assoc}
-use mathlib.Core.Logic.{◌⊎◌, inl, inr}
-use Prim.Native.Nat.{ℕ, zero, suc, ◌+◌, ◌-◌, ◌*◌, ◌/◌, ◌%◌, ◌^◌, ◌≤◌, ◌<◌}
+use mathlib.Core.Logic.{inl, inr}
+use Prim.Native.Nat.{ℕ, suc, ◌+◌, ◌-◌, ◌*◌, ◌/◌, ◌%◌, ◌^◌, ◌≤◌, ◌<◌}
 use native.Mathlib.Omega.{arith}
 use native.Mathlib.Nat.{mod-eq_of_lt}
-use borrow.Author.Tests.{lt-ltb, le-ltb, ltb-true, ltb-false, eq-eqb, ne_eqb}
-use lib.Dec.{eqb, ltb}
+use borrow.Author.Tests.{lt-ltb, le-ltb, ltb-true, ltb-false, ne_eqb}
+use lib.Dec.{ltb}
 use lib.Ieee.{Float, binary32, of_bits}
 use lib.ListN.{length, take, set}
 use lib.Seq.{take-nil}
@@ -22,7 +22,6 @@ use Rattle.route_line.specs.declared.Line.{Line}
 use Rattle.route_line.specs.Line.{line, between, word_end, most_words, name, takes_word, is_whole, one_more, named, in_name, after_word, in_word, line_after}
 use Rattle.route_line.specs.Text.{words_text, line_text, Way, way_words, ways_text, stills_text, route_text}
 use Rattle.route_read.specs.declared.Kept.{Kept}
-use Rattle.route_read.specs.declared.Reader.{Reader}
 use Rattle.route_read.specs.Read.{kept, reader, no_text, Run, run, byte_more, reader_after, floats_after, lengths_of, run_over, cart_end, way_end, is_still, next_line}
 use Rattle.route_read.proofs.Runs.{read-in-two-parts}
 use Rattle.route_grammar.specs.Grammar.{numbers, way_numbers, joined, sizes, Fit, FitWays, FitStills}

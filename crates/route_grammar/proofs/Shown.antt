@@ -1,8 +1,8 @@
 -- A short route's text, read by computing: the numbers of the cart, of the waypoints and of the outline, each where it is looked for. Assumes nothing.
 use mathlib.Core.Path.{◌≡◌, refl}
-use mathlib.Core.List.{List, [], ◌∷◌}
+use mathlib.Core.List.{[], ◌∷◌}
 use Prim.Native.Nat.{ℕ}
-use lib.Ieee.{Float, nan, binary32, of_bits}
+use lib.Ieee.{nan}
 use lib.ListN.{replicate, take}
 use Rattle.model.specs.Text.{hex_by}
 use Rattle.route_line.specs.Line.{named, in_name, after_word, in_word, line_after}

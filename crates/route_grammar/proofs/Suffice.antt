@@ -1,25 +1,21 @@
 -- Lent lists of 4,390 numbers and 33 lengths suffice: what is kept of any route's text has the answer of that route. Assumes nothing.
 use mathlib.Core.Path.{◌≡◌, refl, sym, ap, ◌∙◌}
-use mathlib.Core.Bool.{Bool, true, false, cond}
+use mathlib.Core.Bool.{Bool, true, false}
 use mathlib.Core.List.{List, [], ◌∷◌, ◌++◌, map, append_assoc}
 use mathlib.Core.Logic.{◌⊎◌, inl, inr}
 use Prim.Native.Nat.{ℕ, zero, suc, ◌+◌, ◌-◌, ◌*◌, ◌/◌, ◌%◌, ◌^◌, ◌≤◌, ◌<◌}
 use native.Mathlib.Omega.{arith}
 use borrow.Author.Tests.{le-ltb, ltb-true, ltb-false}
-use lib.Dec.{eqb, ltb}
-use lib.Ieee.{Float, nan, binary32, of_bits}
-use lib.ListN.{length, take, drop, get_or, length-append, length-drop, length-map}
+use lib.Dec.{ltb}
+use lib.Ieee.{Float, binary32, of_bits}
+use lib.ListN.{length, take, drop, length-append, length-drop, length-map}
 use lib.Seq.{take_all, take_at, drop_at, length-take-le}
 use Rattle.model.specs.Support.{point}
-use Rattle.route_legs.specs.declared.RouteAnswer.{RouteAnswer}
-use Rattle.route_legs.specs.declared.RouteAnswer.TheVariants.{Wrong}
 use Rattle.route_legs.specs.Route.{route}
 use Rattle.route_line.specs.declared.Kind.TheVariants.{Cart, At, Still}
 use Rattle.route_line.specs.declared.Line.{Line}
-use Rattle.route_line.specs.Line.{line, between, is_route}
-use Rattle.route_line.specs.Text.{Way, way_words, route_text}
-use Rattle.route_read.specs.declared.Kept.{Kept}
-use Rattle.route_read.specs.declared.Reader.{Reader}
+use Rattle.route_line.specs.Line.{line, between}
+use Rattle.route_line.specs.Text.{Way, route_text}
 use Rattle.route_read.specs.Read.{kept, no_text, Run, run, run_over}
 use Rattle.route_text.specs.Answer.{longest_line, least, cut, whole_end, route_of, answer_line, answer_of, answer_text, answer_by}
 use Rattle.route_text.proofs.Run.{run-answers-whole}
@@ -27,7 +23,7 @@ use Rattle.runs.specs.Run.{Cut}
 use Rattle.model.specs.Parts.{together}
 use Rattle.route_grammar.specs.Grammar.{numbers, way_numbers, joined, sizes, route_for, Fit, FitWays, FitStills, enough_numbers, enough_lengths}
 use Rattle.route_grammar.specs.Grammar.{ShortLines, Within, Handed}
-use Rattle.route_grammar.proofs.Kept.{filled, stored, holding, firsts_of, Ready, behind-cart, behind-way, Done, no-still, behind-still, Between}
+use Rattle.route_grammar.proofs.Kept.{filled, stored, holding, firsts_of, behind-cart, behind-way, Done, no-still, behind-still}
 use Rattle.route_grammar.proofs.Kept.{holds, text-run}
 use Rattle.route_grammar.proofs.Cut.{as-many-sizes, route-cut, wrong-16, wrong-17}
 

@@ -1,15 +1,14 @@
 -- A text that is not told by 14 is the text of some route: the reader's states, looked at from the end of the text backwards. Assumes nothing.
 use mathlib.Core.Path.{◌≡◌, refl, sym, ap, ◌∙◌}
-use mathlib.Core.Bool.{Bool, true, false, cond, ◌&&◌}
-use mathlib.Core.List.{List, [], ◌∷◌, ◌++◌, append-nil, append_assoc}
+use mathlib.Core.Bool.{Bool, true, false, cond}
+use mathlib.Core.List.{List, [], ◌∷◌, ◌++◌, append_assoc}
 use mathlib.Core.Logic.{◌⊎◌, inl, inr}
 use Prim.Native.Nat.{ℕ, zero, suc, ◌+◌, ◌-◌, ◌*◌, ◌%◌, ◌^◌, ◌≤◌, ◌<◌}
 use native.Mathlib.Omega.{arith}
-use borrow.Author.Tests.{lt-ltb, le-ltb, ltb-true, ltb-false, eq-eqb, ne_eqb, eqb-true, eqb-false}
+use borrow.Author.Tests.{lt-ltb, le-ltb, ltb-true, ltb-false, ne_eqb, eqb-true}
 use lib.Dec.{eqb, ltb}
 use lib.Ieee.{Float}
-use lib.ListN.{length, drop, get_or, length-append}
-use lib.Seq.{drop-cons, drop-length}
+use lib.ListN.{length, length-append}
 use Rattle.model.specs.Text.{hex_by}
 use Rattle.text.specs.Read.{hex_digit}
 use Rattle.numerals.specs.Numerals.{Capital, Capitals, word_from}
@@ -17,14 +16,14 @@ use Rattle.numerals.proofs.Numerals.{more-hex, word_below}
 use Rattle.route_line.specs.declared.Kind.{Kind}
 use Rattle.route_line.specs.declared.Kind.TheVariants.{Nothing, Slop, Cart, At, Still}
 use Rattle.route_line.specs.declared.Line.{Line}
-use Rattle.route_line.specs.Line.{line, between, word_end, name, next_kind, at_or_still, takes_word, is_whole, one_more, named, in_name, after_word, in_word, line_after}
-use Rattle.route_line.specs.Line.{has_cart, is_route, place_if, place_after_word}
-use Rattle.route_line.specs.Text.{words_text, line_text, Way, way_words, ways_text, stills_text, route_text}
+use Rattle.route_line.specs.Line.{line, between, word_end, name, takes_word, is_whole, one_more, named, in_name, after_word, in_word, line_after}
+use Rattle.route_line.specs.Line.{is_route, place_if}
+use Rattle.route_line.specs.Text.{words_text, line_text, Way, way_words, ways_text, stills_text}
 use Rattle.route_read.specs.declared.Reader.{Reader}
 use Rattle.route_read.specs.Read.{Run, run, no_text, byte_more, reader_after, run_over, next_line}
 use Rattle.route_text.specs.Answer.{no_route_line, answer_text}
 use Rattle.route_grammar.specs.Grammar.{Fit, FitWays, FitStills, RouteText}
-use Rattle.route_grammar.proofs.Kept.{count_from, Taken, Between, holds, Ready, behind-cart, behind-way, Done, no-still, behind-still, text-run}
+use Rattle.route_grammar.proofs.Kept.{count_from, Taken, holds, behind-cart, behind-way, Done, no-still, behind-still, text-run}
 
 -- ---- the line alone
 unfoldable over : Line → List ℕ → Line

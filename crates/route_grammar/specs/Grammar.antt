@@ -1,13 +1,11 @@
 -- A route by its numbers, and the text that has them. `route_text` of `route_line` says how a route is written.
-use Rattle.std.specs.Prelude.{◌≡◌, ℕ, ◌+◌, ◌^◌, ◌≤◌, ◌<◌, List, [], ◌∷◌, ◌++◌, map, length, take, Float}
+use Rattle.std.specs.Prelude.{◌≡◌, ℕ, ◌^◌, ◌≤◌, ◌<◌, List, [], ◌∷◌, ◌++◌, map, length, take, Float}
 use Rattle.std.specs.Float.{binary32}
 use Rattle.std.specs.Float.Ieee.{of_bits}
 use Rattle.route_legs.specs.declared.RouteAnswer.{RouteAnswer}
 use Rattle.route_legs.specs.Route.{route}
 use Rattle.route_line.specs.Text.{Way, way_words, route_text}
 use Rattle.model.specs.Support.{point}
-use Rattle.route_read.specs.declared.Kept.{Kept}
-use Rattle.route_read.specs.declared.Reader.{Reader}
 use Rattle.route_read.specs.Read.{Run}
 use Rattle.route_text.specs.Answer.{cut}
 

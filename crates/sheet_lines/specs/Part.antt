@@ -1,5 +1,5 @@
 -- A part of the input worked into lent bytes: what there is room for, what is written, and whether it was the last part.
-use Rattle.std.specs.Prelude.{◌≡◌, ℕ, ◌+◌, ◌/◌, ◌<◌, Bool, true, ◌&&◌, cond, List, [], ◌∷◌, ◌++◌, ltb, leb, length}
+use Rattle.std.specs.Prelude.{ℕ, ◌+◌, ◌/◌, ◌<◌, Bool, true, ◌&&◌, cond, List, [], ltb, leb, length}
 use Rattle.std.specs.Float.{binary32}
 use Rattle.model.specs.declared.BlockAnswer.{BlockAnswer}
 use Rattle.model.specs.declared.Totals.{Totals}

@@ -1,7 +1,6 @@
 -- `gaps_lines::fractions::put_gap` meets its contract, by what its callees ensure. Assumes nothing.
 use Rattle.gaps_lines.specs.Gaps.{gap_at}
 use Rattle.gaps_lines.specs.Pieces.{gap_text}
-use borrow.Author.Rules.{rules}
 use Rattle.gaps_lines.proofs.fractions.put_gap.Goals as goal
 
 pub returns : goal.returns

@@ -1,10 +1,7 @@
 -- `gaps_lines::fractions::put_gaps` meets its contract: the gaps so far stand from the place on, and those left fall. Assumes nothing.
-use Prim.Native.Nat.{◌≤◌, ◌+◌, ◌*◌, ◌-◌}
 use mathlib.Core.Path.{◌≡◌, refl, ◌∙◌}
 use native.Mathlib.Omega.{arith}
 use native.Mathlib.Nat.{le_antisymm}
-use lib.ListN.{length}
-use Rattle.text.specs.Put.{Put}
 use Rattle.text.proofs.Pasted.{put-nothing, put_then}
 use Rattle.gaps_lines.specs.Pieces.{gap_texts}
 use Rattle.gaps_lines.proofs.Pieces.{length-gap, gaps-more, gaps-are}

@@ -1,14 +1,9 @@
 -- `gaps_lines::fractions::put_gaps` meets its contract: the gaps so far stand from the place on, and those left fall. Assumes nothing.
 use Prim.Native.Nat.{◌≤◌, ◌+◌, ◌*◌, ◌-◌}
-use mathlib.Core.Path.{◌≡◌, refl, ◌∙◌}
-use native.Mathlib.Omega.{arith}
-use native.Mathlib.Nat.{le_antisymm}
+use mathlib.Core.Path.{◌≡◌}
 use lib.ListN.{length}
 use Rattle.text.specs.Put.{Put}
-use Rattle.text.proofs.Pasted.{put-nothing, put_then}
 use Rattle.gaps_lines.specs.Pieces.{gap_texts}
-use Rattle.gaps_lines.proofs.Pieces.{length-gap, gaps-more, gaps-are}
-use borrow.Author.Rules.{rules}
 use Rattle.gaps_lines.proofs.fractions.put_gaps.Given as goal
 
 abbrev pub invariant-loop-k : goal.invariant-loop-k

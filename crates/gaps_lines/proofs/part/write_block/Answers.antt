@@ -1,7 +1,6 @@
 -- `gaps_lines::part::write_block` meets its contract: the two cases are those of the block's answer. Assumes nothing.
 use mathlib.Core.Path.{refl, sym, ◌∙◌}
 use Rattle.gaps_lines.proofs.Parts.{worked-counts}
-use borrow.Author.Rules.{rules}
 use Rattle.gaps_lines.proofs.part.write_block.Goals as goal
 
 pub put_worked-end-requires : goal.put_worked-end-requires

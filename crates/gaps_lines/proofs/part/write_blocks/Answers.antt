@@ -9,11 +9,9 @@ use lib.Ieee.{binary32}
 use Rattle.model.specs.Blocks.{whole_blocks}
 use Rattle.model.specs.Parts.{count_limit}
 use Rattle.model.specs.Work.{block_answer}
-use Rattle.text.specs.Put.{Put}
 use Rattle.text.proofs.Pasted.{put-nothing}
 use Rattle.text.proofs.Lengths.{ends}
-use Rattle.gaps_lines.specs.Gaps.{longest_line, lines_from, tally_from}
-use Rattle.gaps_lines.specs.Part.{Below}
+use Rattle.gaps_lines.specs.Gaps.{lines_from, tally_from}
 use Rattle.gaps_lines.proofs.Pieces.{length-line}
 use Rattle.gaps_lines.proofs.Parts.{below_less, below_more, line_step, tally-step}
 use borrow.Author.Rules.{rules}

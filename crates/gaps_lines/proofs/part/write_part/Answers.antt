@@ -9,7 +9,6 @@ use borrow.Author.Tests.{lt-ltb, le-ltb}
 use Rattle.text.proofs.Pasted.{put-nothing, put_then}
 use Rattle.text.proofs.Lengths.{ends}
 use Rattle.gaps_lines.proofs.Parts.{fits-room, below_less, length_rest, all_lines, all-tally}
-use borrow.Author.Rules.{rules}
 use Rattle.gaps_lines.proofs.part.write_part.Goals as goal
 
 pub returns-then-not-fits : goal.returns-then-not-fits

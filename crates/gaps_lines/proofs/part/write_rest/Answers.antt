@@ -2,7 +2,6 @@
 use mathlib.Core.Path.{refl}
 use borrow.Author.Tests.{eq-eqb, ne_eqb}
 use Rattle.text.proofs.Pasted.{put-nothing}
-use borrow.Author.Rules.{rules}
 use Rattle.gaps_lines.proofs.part.write_rest.Goals as goal
 
 pub returns-then-rest-eq0 : goal.returns-then-rest-eq0

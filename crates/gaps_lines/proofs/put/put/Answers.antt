@@ -1,7 +1,6 @@
 -- `gaps_lines::put::put` meets its contract: there is room. Assumes nothing.
 use lib.ListN.{length}
 use Rattle.text.proofs.Lengths.{roomy}
-use borrow.Author.Rules.{rules}
 use Rattle.gaps_lines.proofs.put.put.Goals as goal
 
 pub returns : goal.returns

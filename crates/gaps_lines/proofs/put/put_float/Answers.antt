@@ -1,6 +1,5 @@
 -- `gaps_lines::put::put_float` meets its contract: its text is that of the pattern, and there is room. Assumes nothing.
 use Rattle.text.proofs.Lengths.{roomy}
-use borrow.Author.Rules.{rules}
 use Rattle.gaps_lines.proofs.put.put_float.Goals as goal
 
 pub returns : goal.returns

@@ -1,6 +1,5 @@
 -- `gaps_lines::put::put_number` meets its contract: there is room. Assumes nothing.
 use Rattle.text.proofs.Lengths.{roomy}
-use borrow.Author.Rules.{rules}
 use Rattle.gaps_lines.proofs.put.put_number.Goals as goal
 
 pub returns : goal.returns

@@ -1,5 +1,4 @@
 -- `sheet_lines::answer::counted` meets its contract, case by case. Assumes nothing.
-use borrow.Author.Rules.{rules}
 use Rattle.sheet_lines.proofs.answer.counted.Goals as goal
 
 pub returns-in-Worked : goal.returns-in-Worked

@@ -1,5 +1,4 @@
 -- `sheet_lines::answer::one_worked` meets its contract, case by case. Assumes nothing.
-use borrow.Author.Rules.{rules}
 use Rattle.sheet_lines.proofs.answer.one_worked.Goals as goal
 
 pub returns-in-Overlapped : goal.returns-in-Overlapped

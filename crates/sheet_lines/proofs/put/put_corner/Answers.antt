@@ -1,6 +1,5 @@
 -- `sheet_lines::put::put_corner` meets its contract, by whether there is a corner. Assumes nothing.
 use Rattle.sheet_lines.proofs.Pieces.{no-corner-is, a-corner-is}
-use borrow.Author.Rules.{rules}
 use Rattle.sheet_lines.proofs.put.put_corner.Goals as goal
 
 pub returns-then-i-eq-NO_CORNER : goal.returns-then-i-eq-NO_CORNER

@@ -1,6 +1,5 @@
 -- `sheet_lines::write::put_answer` meets its contract, case by case. Assumes nothing.
 use Rattle.sheet_lines.proofs.Pieces.{refused-is}
-use borrow.Author.Rules.{rules}
 use Rattle.sheet_lines.proofs.write.put_answer.Goals as goal
 
 pub returns-in-Worked : goal.returns-in-Worked
