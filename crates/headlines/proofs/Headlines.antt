@@ -404,7 +404,7 @@ use Rattle.clearance_lines.proofs.Folds.{totals-add-up as totals-add-up-clearanc
 use Rattle.clearance_sheet.proofs.Alike.{refused-alike}
 use Rattle.clearance_sheet.proofs.Alike.{file-alike}
 use Rattle.clearance_sheet.specs.Alike.{Alike}
-use Rattle.clearance_sheet.proofs.Alike.{same_line as same-line-clearance-sheet}
+use Rattle.clearance_sheet.proofs.Alike.{same_line as same_line-clearance-sheet}
 use Rattle.clearance_sheet.proofs.Alike.{same-totals}
 -- a place of k 2^24-ths is printed as the f32 that is exactly k / 2^24
 use Rattle.places.proofs.Exact.{place-exact}

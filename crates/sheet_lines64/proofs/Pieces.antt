@@ -3,10 +3,10 @@
 use mathlib.Core.Path.{◌≡◌, refl}
 use mathlib.Core.Bool.{Bool, true, false, cond}
 use mathlib.Core.List.{List, [], ◌∷◌, ◌++◌, append_assoc}
-use Prim.Native.Nat.{ℕ, zero, suc, ◌+◌, ◌*◌, ◌/◌, ◌%◌, ◌≤◌}
+use Prim.Native.Nat.{ℕ, ◌≤◌}
 use native.Mathlib.Omega.{arith}
 use borrow.Author.Tests.{eq-eqb, ne_eqb}
-use lib.Dec.{eqb, ltb}
+use lib.Dec.{eqb}
 use lib.Ieee.{binary64}
 use lib.ListN.{length, length-append}
 use Rattle.model.specs.declared.SupportPair.{SupportPair}
@@ -18,7 +18,7 @@ use Rattle.model.specs.declared.Totals.{Totals}
 use Rattle.model.specs.Sheet.{letter_of, refused_line, total_line}
 use Rattle.model64.specs.Sheet.{worked_line, answer_line}
 use Rattle.model.specs.Separation.{no_index}
-use Rattle.model.specs.Text.{decimal_by, decimal, hex_by, line}
+use Rattle.model.specs.Text.{decimal, line}
 use Rattle.text.specs.Put.{number}
 use Rattle.text.proofs.Lengths.{length-number}
 use Rattle.fields64.specs.Floats.{floats}

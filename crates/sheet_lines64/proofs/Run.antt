@@ -1,7 +1,7 @@
 -- Written by tests/written/wide.py from sheet_lines, in f64.
 -- A run of `write_part` over a file cut into whole parts and a shorter last one gives the sheet of the file. Assumes nothing.
-use mathlib.Core.Path.{◌≡◌, refl, sym, ap, ◌∙◌}
-use mathlib.Core.Bool.{Bool, true, false}
+use mathlib.Core.Path.{◌≡◌, refl, sym}
+use mathlib.Core.Bool.{true, false}
 use mathlib.Core.List.{List, ◌++◌}
 use Prim.Native.Nat.{ℕ, ◌+◌, ◌/◌, ◌%◌, ◌≤◌, ◌<◌}
 use native.Mathlib.Omega.{arith}
@@ -9,9 +9,9 @@ use borrow.Author.Tests.{lt-ltb, le-ltb, le-leb}
 use lib.Ieee.{binary64}
 use lib.ListN.{length, length-append}
 use Rattle.model.specs.declared.Totals.{Totals}
-use Rattle.model.specs.Parts.{together, count_limit, part_size, is_last}
+use Rattle.model.specs.Parts.{together, count_limit, part_size}
 use Rattle.model.specs.Sheet.{none}
-use Rattle.model.specs.Sheet.{answers, totals_from, part_text, sheet}
+use Rattle.model.specs.Sheet.{answers, part_text, sheet}
 use Rattle.model.proofs.Sheet.{Sums, totals-add-up, blocks-counted, answers-of-whole, part-first}
 use Rattle.runs.specs.Run.{Cut}
 use Rattle.runs.proofs.Whole.{run-makes-whole, text-steps}

@@ -1,6 +1,6 @@
 -- Written by tests/written/wide.py from sheet_lines, in f64.
 -- A part of the input worked into lent bytes: what there is room for, what is written, and whether it was the last part.
-use Rattle.std.specs.Prelude.{◌≡◌, ℕ, ◌+◌, ◌/◌, ◌<◌, Bool, true, ◌&&◌, cond, List, [], ◌∷◌, ◌++◌, ltb, leb, length}
+use Rattle.std.specs.Prelude.{ℕ, ◌+◌, ◌/◌, ◌<◌, Bool, true, ◌&&◌, cond, List, [], ltb, leb, length}
 use Rattle.std.specs.Float.{binary64}
 use Rattle.model64.specs.declared.BlockAnswer.{BlockAnswer}
 use Rattle.model.specs.declared.Totals.{Totals}

@@ -1,6 +1,5 @@
 -- Written by tests/written/wide.py from sheet_lines, in f64.
 -- `sheet_lines::answer::one_worked` meets its contract, case by case. Assumes nothing.
-use borrow.Author.Rules.{rules}
 use Rattle.sheet_lines64.proofs.answer.one_worked.Goals as goal
 
 pub returns-in-Overlapped : goal.returns-in-Overlapped

@@ -1,17 +1,13 @@
 -- Written by tests/written/wide.py from sheet_lines, in f64.
 -- `sheet_lines::part::write_blocks` meets its contract: the lines of the blocks so far stand at the start, the totals are theirs, and the blocks left fall. Assumes nothing.
 use borrow.Author.Rules.{rules}
-use Prim.Native.Nat.{◌≤◌, ◌+◌, ◌*◌, ◌-◌}
+use Prim.Native.Nat.{◌+◌, ◌*◌, ◌-◌}
 use mathlib.Core.Path.{◌≡◌, refl, ◌∙◌}
 use native.Mathlib.Omega.{arith}
 use native.Mathlib.Nat.{le_antisymm}
-use lib.ListN.{length}
-use lib.Ieee.{binary64}
 use Rattle.model.specs.Blocks.{whole_blocks}
-use Rattle.model64.specs.Sheet.{whole_answers, lines_from, totals_from}
-use Rattle.text.specs.Put.{Put}
+use Rattle.model64.specs.Sheet.{lines_from, totals_from}
 use Rattle.model.specs.Parts.{count_limit}
-use Rattle.sheet_lines64.specs.Part.{Below, longest_line}
 use Rattle.text.proofs.Pasted.{put-nothing}
 use Rattle.text.proofs.Lengths.{ends}
 use Rattle.sheet_lines64.proofs.Pieces.{length-line}

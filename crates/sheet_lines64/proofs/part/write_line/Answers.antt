@@ -2,7 +2,6 @@
 -- `sheet_lines::part::write_line` meets its contract: nothing where there is no room, else the line. Assumes nothing.
 use borrow.Author.Tests.{lt-ltb, le-ltb}
 use Rattle.text.proofs.Pasted.{put-nothing}
-use borrow.Author.Rules.{rules}
 use Rattle.sheet_lines64.proofs.part.write_line.Goals as goal
 
 pub returns-then-out-lt-LONGEST_LINE : goal.returns-then-out-lt-LONGEST_LINE

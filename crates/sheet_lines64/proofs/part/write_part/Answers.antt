@@ -1,6 +1,6 @@
 -- Written by tests/written/wide.py from sheet_lines, in f64.
 -- `sheet_lines::part::write_part` meets its contract: nothing where there is no room; else the blocks, the rest and, after the last part, the totals. Assumes nothing.
-use mathlib.Core.Path.{◌≡◌, refl, sym, ◌∙◌}
+use mathlib.Core.Path.{refl, sym, ◌∙◌}
 use mathlib.Core.List.{append-nil}
 use Prim.Native.Nat.{◌%◌}
 use native.Mathlib.Omega.{arith}
@@ -9,7 +9,6 @@ use borrow.Author.Tests.{lt-ltb, le-ltb}
 use Rattle.text.proofs.Pasted.{put-nothing, put_then}
 use Rattle.text.proofs.Lengths.{ends}
 use Rattle.sheet_lines64.proofs.Parts.{fits-room, below_less, length_rest, all_lines, all-totals}
-use borrow.Author.Rules.{rules}
 use Rattle.sheet_lines64.proofs.part.write_part.Goals as goal
 
 pub returns-then-not-fits : goal.returns-then-not-fits

@@ -5,7 +5,6 @@ use mathlib.Core.List.{append-nil}
 use borrow.Author.Tests.{eq-eqb, ne_eqb}
 use Rattle.model64.specs.Sheet.{lines_from, totals_from}
 use Rattle.text.proofs.Pasted.{put-nothing}
-use borrow.Author.Rules.{rules}
 use Rattle.sheet_lines64.proofs.part.write_rest.Goals as goal
 
 pub returns-then-rest-eq0 : goal.returns-then-rest-eq0

@@ -2,7 +2,6 @@
 -- `sheet_lines::put::put` meets its contract: there is room. Assumes nothing.
 use lib.ListN.{length}
 use Rattle.text.proofs.Lengths.{roomy}
-use borrow.Author.Rules.{rules}
 use Rattle.sheet_lines64.proofs.put.put.Goals as goal
 
 pub returns : goal.returns

@@ -2,7 +2,6 @@
 -- `sheet_lines::put::put_contact` meets its contract: there is room. Assumes nothing.
 use Rattle.text.proofs.Lengths.{roomy}
 use Rattle.fields64.specs.Floats.{contact_room}
-use borrow.Author.Rules.{rules}
 use Rattle.sheet_lines64.proofs.put.put_contact.Goals as goal
 
 pub returns : goal.returns

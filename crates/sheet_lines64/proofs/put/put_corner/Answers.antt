@@ -1,7 +1,6 @@
 -- Written by tests/written/wide.py from sheet_lines, in f64.
 -- `sheet_lines::put::put_corner` meets its contract, by whether there is a corner. Assumes nothing.
 use Rattle.sheet_lines64.proofs.Pieces.{no-corner-is, a-corner-is}
-use borrow.Author.Rules.{rules}
 use Rattle.sheet_lines64.proofs.put.put_corner.Goals as goal
 
 pub returns-then-i-eq-NO_CORNER : goal.returns-then-i-eq-NO_CORNER

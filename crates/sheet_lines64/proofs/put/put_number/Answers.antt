@@ -1,7 +1,6 @@
 -- Written by tests/written/wide.py from sheet_lines, in f64.
 -- `sheet_lines::put::put_number` meets its contract: there is room. Assumes nothing.
 use Rattle.text.proofs.Lengths.{roomy}
-use borrow.Author.Rules.{rules}
 use Rattle.sheet_lines64.proofs.put.put_number.Goals as goal
 
 pub returns : goal.returns

@@ -1,7 +1,6 @@
 -- Written by tests/written/wide.py from sheet_lines, in f64.
 -- `sheet_lines::write::put_answer` meets its contract, case by case. Assumes nothing.
 use Rattle.sheet_lines64.proofs.Pieces.{refused-is}
-use borrow.Author.Rules.{rules}
 use Rattle.sheet_lines64.proofs.write.put_answer.Goals as goal
 
 pub returns-in-Worked : goal.returns-in-Worked

@@ -8,7 +8,6 @@ use Rattle.text.proofs.Pasted.{put_then}
 use Rattle.text.proofs.Lengths.{length-number, ends}
 use Rattle.fields64.proofs.Lengths.{length-floats}
 use Rattle.sheet_lines64.proofs.Pieces.{length_three, worked-is}
-use borrow.Author.Rules.{rules}
 use Rattle.sheet_lines64.proofs.write.put_worked.Goals as goal
 
 pub put_number-e2-requires : goal.put_number-e2-requires
