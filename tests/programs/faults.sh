@@ -3,11 +3,11 @@
 # status, the first line on standard error, and that what was printed does not pass for a finished sheet. Exit status 1 where one differs.
 # Which programs are run, and how, is said in tests/programs/with.sh and build-examples.sh; SHEET names another program to try in the place of `sheet`.
 #
-# - `sheet` ends with status 0 even then: a Rattle program cannot set another. C and Rust end with 1, for an argument with 2.
+# - `sheet` ends with status 0 even then. C and Rust end with 1, for an argument with 2.
 # - Rust adds `(os error N)` to the system's text, which is taken off here.
 # - Rust's start-up opens /dev/null where the input is closed, so that its example sees no input and prints the sheet of none.
 # - Where a pipe is closed early the system ends a program (status 141), unless the signal is ignored, as Rust's start-up does: then the write
-#   fails, and that is told.
+#   fails, and that is told. Rattle's start-up ignores it too, and `sheet` then ends as the system would end it, without a word.
 set -u
 cd "$(dirname "$0")/../.."
 . tests/programs/with.sh
@@ -62,7 +62,9 @@ for kind in sheet $kinds; do
   text=""; [ $kind = rust ] && text="standard output: Broken pipe"
   expect "a pipe closed early" "${piped[$kind]}" "$text"
   (trap '' PIPE; timeout 60 $this < "$work/long" 2> "$work/err") | head -n 1 > "$work/out"; ended=${PIPESTATUS[0]}
-  expect "the same, the signal ignored" "$status" "standard output: Broken pipe"
+  text="standard output: Broken pipe"; [ $kind = sheet ] && { status=${piped[sheet]}; text=""; }
+  expect "the same, the signal ignored" "$status" "$text"
+  status=${faulty[$kind]}
 
   # what is left of the input after the run is all of it
   { timeout 60 $this word > "$work/out" 2> "$work/err"; ended=$?; cat > "$work/left"; } < "$work/batch"
