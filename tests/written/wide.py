@@ -75,7 +75,7 @@ PATCHES = [
 
 HAND = {
     'work64': ['src/taken.rt', 'proofs/floats_at/', 'proofs/taken/'],
-    'replay64': ['src/main.rt', 'src/table.rt', 'proofs/pool/numbers/'],
+    'replay64': ['src/main.rt', 'src/table.rt'],
 }
 
 
