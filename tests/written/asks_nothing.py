@@ -12,7 +12,7 @@ import promises
 
 def main():
     looked_at, asking = 0, []
-    for crate in re.findall(r"^(\w+):", promises.CRATES.read_text(), re.M):
+    for crate in re.findall(r"^(\w+)(?: staticlib)?:", promises.CRATES.read_text(), re.M):
         library = promises.ROOT / f"crates/{crate}/src/lib.rt"
         for way, header in promises.public(library) if library.exists() else ():
             looked_at += 1

@@ -32,7 +32,7 @@ def fault(crate, edit):
 
 
 def main():
-    listed = set(re.findall(r"^(\w+):", (ROOT / "crates.txt").read_text(encoding="utf-8"), re.M))
+    listed = set(re.findall(r"^(\w+)(?: staticlib)?:", (ROOT / "crates.txt").read_text(encoding="utf-8"), re.M))
     edits = sorted(ROOT.glob("crates/*/must-fail/*"))
     wrong = 0
     for edit in edits:

@@ -78,7 +78,7 @@ def written():
             text.append(f"use {path}.{{{shown}}}\n")
             if crate not in crates:
                 crates.append(crate)
-    order = re.findall(r"^(\w+):", (names.ROOT / "crates.txt").read_text(encoding="utf-8"), re.M)
+    order = re.findall(r"^(\w+)(?: staticlib)?:", (names.ROOT / "crates.txt").read_text(encoding="utf-8"), re.M)
     line = "headlines: " + " ".join(c for c in order if c in crates)
     return "".join(text), line
 

@@ -220,7 +220,7 @@ def promise_faults(lines, by_file, by_crate):
 
 def tour_faults(page):
     """The list of crates at the top of the tour against crates.txt."""
-    crates = re.findall(r"^(\w+):", (ROOT / "crates.txt").read_text(encoding="utf-8"), re.M)
+    crates = re.findall(r"^(\w+)(?: staticlib)?:", (ROOT / "crates.txt").read_text(encoding="utf-8"), re.M)
     text = (ROOT / page).read_text(encoding="utf-8")
     listed = re.search(r"^```\n(.*?)^```", text, re.M | re.S).group(1)
     for number, line in enumerate(listed.split("\n"), text[: text.index(listed)].count("\n") + 1):
