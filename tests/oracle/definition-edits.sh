@@ -51,15 +51,15 @@ try e23-keeps-2-3 Simplex.antt refused \
 try support-takes-last Support.antt refused \
   '(cond (lt value v) i best) (cond (lt value v) v value)' '(cond (lt v value) best i) (cond (lt v value) value v)'
 try cache-on-touching Distance.antt refused \
-  'cacheBy Touching pair c r = c' 'cacheBy Touching pair c r = written pair c (r .simplex) (r .count)'
+  'cache_by Touching pair c r = c' 'cache_by Touching pair c r = written pair c r.simplex r.count'
 try nineteen-rounds Distance.antt passes \
-  'maxIterations = 20' 'maxIterations = 19'
+  'max_iterations = 20' 'max_iterations = 19'
 try eighteen-rounds Distance.antt refused \
-  'maxIterations = 20' 'maxIterations = 18'
+  'max_iterations = 20' 'max_iterations = 18'
 try region-strictly Simplex.antt refused \
-  'notAbove x = le x (Ground.zero f)' 'notAbove x = lt x (Ground.zero f)'
+  'not_above x = le x (Ground.zero f)' 'not_above x = lt x (Ground.zero f)'
 try support-along-d Distance.antt refused \
   'support f outline_b (inverse_rotate f pose.rotation (negate d))' 'support f outline_b (inverse_rotate f pose.rotation d)'
 try settled-writes-one Distance.antt refused \
-  'cacheBy Settled pair c r = written pair c (r .simplex) (r .count)' 'cacheBy Settled pair c r = written pair c (r .simplex) 1'
+  'cache_by Settled pair c r = written pair c r.simplex r.count' 'cache_by Settled pair c r = written pair c r.simplex 1'
 exit $bad

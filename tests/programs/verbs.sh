@@ -214,8 +214,8 @@ ln -s "$root/foldflake" "$work/link"; ends "by a link" 0 "" "$work/link" sheet e
 
 # a proof that fails: told, status 2, and no program is run; by another kit's name, which makes every program one that is to be proved
 mkdir "$work/kit"
-printf '#!/bin/sh\ncase $1 in version) echo another ;; run) echo "rt: sheet is not proved"; exit 1 ;; esac\n' > "$work/kit/rt"; chmod +x "$work/kit/rt"
-ends "a proof that fails" 2 "a program is not proved: see $PWD/target/foldflake.log" env -u PROGRAMS PATH="$work/kit:$PATH" ./foldflake sheet "$clear"
+printf '#!/bin/sh\ncase $1 in version) echo another ;; check) echo "rt: sheet is not proved"; exit 1 ;; esac\n' > "$work/kit/rt"; chmod +x "$work/kit/rt"
+ends "a proof that fails" 2 "rt check ended with status 1: see $PWD/target/foldflake.log" env -u PROGRAMS PATH="$work/kit:$PATH" ./foldflake sheet "$clear"
 nothing "a proof that fails"; grep -q '^rt: sheet is not proved$' "$work/told" || wrong "a proof that fails: $(cat "$work/told")"
 
 # install and uninstall

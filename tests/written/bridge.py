@@ -26,7 +26,7 @@ def plain(text):
 def imports(text, crate):
     """What a name of a file stands for: alone, (crate, module, name); before a dot, (crate, module, None). And the names that it hands on."""
     known, handed_on = {}, {}
-    use = r"^\s*(?:ghost )?(unfoldable pub |pub )?use Rattle.(\w+)(?:·specs)?\.specs\.([\w.-]+?)(?:\.\{([^}]*)\}| as (\w+))?;?$"
+    use = r"^\s*(?:ghost )?(unfoldable pub |pub )?use Rattle\.(\w+)\.specs\.([\w.-]+?)(?:\.\{([^}]*)\}| as (\w+))?;?$"
     for public, owner, module, names, alias in re.findall(use, text, re.M):
         if names:
             for name in names.split(","):
