@@ -1,11 +1,9 @@
 -- A record of model as the record of the f64 crates with the same parts. A value of `lib.Ieee` belongs to no width, so no part changes.
-use Rattle.std.specs.Prelude.{List, map}
+use Rattle.std.specs.Prelude.{List, map, Result, Ok, Err}
 use Rattle.model.specs.declared.Vector.{Vector}
 use Rattle.model.specs.declared.Rotation.{Rotation}
 use Rattle.model.specs.declared.Pose.{Pose}
 use Rattle.model.specs.declared.Sweep.{Sweep}
-use Rattle.model.specs.declared.CheckedPose.{CheckedPose}
-use Rattle.model.specs.declared.CheckedPose.TheVariants as CheckedPose
 use Rattle.model.specs.declared.SimplexVertex.{SimplexVertex}
 use Rattle.model.specs.declared.Solved.{Solved}
 use Rattle.model.specs.declared.Rounds.{Rounds}
@@ -20,8 +18,6 @@ use Rattle.model.specs.declared.SweepTask.{SweepTask}
 use Rattle.model.specs.declared.Closest.{Closest}
 use Rattle.model.specs.declared.RootSearch.{RootSearch}
 use Rattle.model.specs.declared.Contact.{Contact}
-use Rattle.model.specs.declared.DistanceAnswer.{DistanceAnswer}
-use Rattle.model.specs.declared.DistanceAnswer.TheVariants as DistanceAnswer
 use Rattle.model.specs.declared.SweepAnswer.{SweepAnswer}
 use Rattle.model.specs.declared.SweepAnswer.TheVariants as SweepAnswer
 use Rattle.model.specs.declared.Swept.{Swept}
@@ -30,12 +26,11 @@ use Rattle.model.specs.declared.Outcome.{Outcome}
 use Rattle.model.specs.declared.Outcome.TheVariants as Outcome
 use Rattle.model.specs.declared.BlockAnswer.{BlockAnswer}
 use Rattle.model.specs.declared.BlockAnswer.TheVariants as BlockAnswer
+use Rattle.model.specs.declared.Refusal.{Refusal}
 use Rattle.model64.specs.declared.Vector.{Vector as Vector64}
 use Rattle.model64.specs.declared.Rotation.{Rotation as Rotation64}
 use Rattle.model64.specs.declared.Pose.{Pose as Pose64}
 use Rattle.model64.specs.declared.Sweep.{Sweep as Sweep64}
-use Rattle.model64.specs.declared.CheckedPose.{CheckedPose as CheckedPose64}
-use Rattle.model64.specs.declared.CheckedPose.TheVariants as CheckedPose64
 use Rattle.model64.specs.declared.SimplexVertex.{SimplexVertex as SimplexVertex64}
 use Rattle.model64.specs.declared.Solved.{Solved as Solved64}
 use Rattle.model64.specs.declared.Rounds.{Rounds as Rounds64}
@@ -50,8 +45,6 @@ use Rattle.model64.specs.declared.SweepTask.{SweepTask as SweepTask64}
 use Rattle.model64.specs.declared.Closest.{Closest as Closest64}
 use Rattle.model64.specs.declared.RootSearch.{RootSearch as RootSearch64}
 use Rattle.model64.specs.declared.Contact.{Contact as Contact64}
-use Rattle.model64.specs.declared.DistanceAnswer.{DistanceAnswer as DistanceAnswer64}
-use Rattle.model64.specs.declared.DistanceAnswer.TheVariants as DistanceAnswer64
 use Rattle.model64.specs.declared.SweepAnswer.{SweepAnswer as SweepAnswer64}
 use Rattle.model64.specs.declared.SweepAnswer.TheVariants as SweepAnswer64
 use Rattle.model64.specs.declared.Swept.{Swept as Swept64}
@@ -74,9 +67,9 @@ abbrev pub sweep64 : Sweep → Sweep64
 sweep64 w =
     record { local_center = vector64 w.local_center; c1 = vector64 w.c1; c2 = vector64 w.c2; q1 = rotation64 w.q1; q2 = rotation64 w.q2 }
 
-abbrev pub checked_pose64 : CheckedPose → CheckedPose64
-checked_pose64 (CheckedPose.Good p) = CheckedPose64.Good (pose64 p)
-checked_pose64 (CheckedPose.Refused n) = CheckedPose64.Refused n
+abbrev pub checked_pose64 : Result Pose Refusal → Result Pose Refusal
+checked_pose64 (Ok p) = Ok (pose64 p)
+checked_pose64 (Err r) = Err r
 
 abbrev pub vertex64 : SimplexVertex → SimplexVertex64
 vertex64 v =
@@ -108,9 +101,9 @@ output64 o = record {
 abbrev pub measurement64 : Measurement → Measurement64
 measurement64 m = record { output = output64 m.output; cache = m.cache }
 
-abbrev pub answer64 : DistanceAnswer → DistanceAnswer64
-answer64 (DistanceAnswer.Measured o) = DistanceAnswer64.Measured (output64 o)
-answer64 (DistanceAnswer.Refused n) = DistanceAnswer64.Refused n
+abbrev pub answer64 : Result ProxyDistanceOutput Refusal → Result ProxyDistanceOutput Refusal
+answer64 (Ok o) = Ok (output64 o)
+answer64 (Err r) = Err r
 
 abbrev pub distance64 : Distance → Distance64
 distance64 d = record { answer = answer64 d.answer; cache = d.cache }

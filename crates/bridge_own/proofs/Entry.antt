@@ -5,12 +5,13 @@ use mathlib.Core.List.{List}
 use mathlib.Core.Path.{◌≡◌, refl, sym, ◌∙◌}
 use lib.Dec.{ltb}
 use lib.Ieee.{Float, Format}
+use Rattle.std.proofs.Common.{Result, Ok, Err}
 use Rattle.model.specs.declared.Contact.{Contact}
 use Rattle.model.specs.declared.SimplexCache.{SimplexCache}
-use Rattle.model.specs.declared.DistanceAnswer.{DistanceAnswer}
-use Rattle.model.specs.declared.DistanceAnswer.TheVariants as Answer
 use Rattle.model.specs.declared.Distance.{Distance}
 use Rattle.model.specs.declared.Outcome.{Outcome}
+use Rattle.model.specs.declared.Refusal.{Refusal}
+use Rattle.model.specs.declared.ProxyDistanceOutput.{ProxyDistanceOutput}
 use Rattle.model.specs.Support.{point}
 use Rattle.model.specs.Work.{sweep_for}
 use Rattle.list_calls.specs.Entry as E
@@ -65,17 +66,17 @@ module _ (f : Format) (a b ns out : List Float) (counts : List ℕ) where
   )
 
 -- ---- the distance
-distance-number-same : (x : DistanceAnswer) → E64.distance_number (answer64 x) ≡ E.distance_number x
-distance-number-same (Answer.Measured o) = refl
-distance-number-same (Answer.Refused k) = refl
+distance-number-same : (x : Result ProxyDistanceOutput Refusal) → E64.distance_number (answer64 x) ≡ E.distance_number x
+distance-number-same (Ok o) = refl
+distance-number-same (Err r) = refl
 
-cache-after-same : (x : DistanceAnswer) (c : SimplexCache) (words : List ℕ) → E64.cache_after (answer64 x) c words ≡ E.cache_after x c words
-cache-after-same (Answer.Measured o) c words = refl
-cache-after-same (Answer.Refused k) c words = refl
+cache-after-same : (x : Result ProxyDistanceOutput Refusal) (c : SimplexCache) (words : List ℕ) → E64.cache_after (answer64 x) c words ≡ E.cache_after x c words
+cache-after-same (Ok o) c words = refl
+cache-after-same (Err r) c words = refl
 
-output-after-same : (x : DistanceAnswer) (out : List Float) → E64.output_after (answer64 x) out ≡ E.output_after x out
-output-after-same (Answer.Measured o) out = refl
-output-after-same (Answer.Refused k) out = refl
+output-after-same : (x : Result ProxyDistanceOutput Refusal) (out : List Float) → E64.output_after (answer64 x) out ≡ E.output_after x out
+output-after-same (Ok o) out = refl
+output-after-same (Err r) out = refl
 
 module _ (f : Format) (a b ns : List Float) (radii pair : ℕ) (words : List ℕ) (out : List Float) where
   abbrev d : Distance

@@ -4,8 +4,8 @@ ghost use Rattle.list_calls.specs.Entry.{contact_floats, contact_in, counts_word
 ghost use Rattle.list_calls.specs.Entry.{output_number, output_floats, cache_words, rounds_of, distance_number, output_after, cache_after};
 
 use model::{
-    Contact, Corners, Counts, Distance, DistanceAnswer, Ending, Outcome, ProxyDistanceOutput,
-    SimplexCache, Status, Verdict,
+    Contact, Corners, Counts, Distance, Ending, Outcome, ProxyDistanceOutput, SimplexCache, Status,
+    Verdict,
 };
 
 fn store_contact(out: &mut [f32], c: Contact)
@@ -150,7 +150,7 @@ pub fn tell_distance(d: Distance, words: &mut [u32], out: &mut [f32]) -> u32
     let answer = d.answer;
     let cache = d.cache;
     match answer {
-        DistanceAnswer::Measured(o) => put_measured(words, out, o, cache),
-        DistanceAnswer::Refused(number) => number,
+        Ok(o) => put_measured(words, out, o, cache),
+        Err(refused) => refused.number,
     }
 }
