@@ -24,8 +24,8 @@ told-number : (k : ℕ) (x : Result Unit Refusal) → x ≡ checked k → (j : �
 told-number k x is j ej = go k x is ej
   where
     go : (k : ℕ) (x : Result Unit Refusal) → x ≡ checked k → j ≡ refusal x → j ≡ k
-    go k (Ok tt) is e = e ∙ passed (λ n. n) (λ n. n) (λ n. refl) k Ok tt is refl
-    go k (Err r) is e = refused (λ r.number. r.number) (λ r.number. r.number) (λ r.number. refl) k (Err r) is r.number refl j e
+    go k (Ok tt) is e = e ∙ passed (λ n. n) (λ n. n) (λ n. refl) k (Ok tt) is refl
+    go k (Err r) is e = refused (λ n. n) (λ n. n) (λ n. refl) k (Err r) is r refl j e
 
 module _ (a b : List Float) (radii limits : Vector) (wa wb : Sweep) (from : Float) where
   abbrev first : ℕ
