@@ -9,13 +9,14 @@ use borrow.Author.Tests.{eqb-true, lt-ltb, le-ltb}
 use lib.Dec.{eqb, ltb}
 use lib.ListN.{length, get_or}
 use lib.Ieee.{Float, binary64}
+use Rattle.std.proofs.Common.{Result, Ok, Err}
 use Rattle.model64.specs.declared.Outcome.{Outcome}
 use Rattle.model.specs.declared.SimplexCache.{SimplexCache}
 use Rattle.model.specs.declared.Ending.{Ending}
 use Rattle.model.specs.declared.Ending.TheVariants.{Touching, Settled, RoundLimit}
-use Rattle.model64.specs.declared.DistanceAnswer.{DistanceAnswer}
-use Rattle.model64.specs.declared.DistanceAnswer.TheVariants.{Measured, Refused}
 use Rattle.model64.specs.declared.Distance.{Distance}
+use Rattle.model.specs.declared.Refusal.{Refusal}
+use Rattle.model64.specs.declared.ProxyDistanceOutput.{ProxyDistanceOutput}
 use Rattle.model64.proofs.DistanceCall.{both, rounds-at-most-20}
 use Rattle.list_calls64.specs.Entry.{sweep_call, sweep_number, contact_after, counts_after, sweep_fits, SweepTold, ending_number, rounds_of, cache_of}
 use Rattle.list_calls64.specs.Entry.{distance_for, distance_number, cache_after, output_after, distance_fits, DistanceTold}
@@ -48,9 +49,9 @@ pub distance-rounds : (a b ns : List Float) (radii : Bool) (pair : ℕ) (start :
 unfolding distance_for
 distance-rounds a b ns radii pair start = go _ refl
   where
-    go : (x : DistanceAnswer) → (distance_for binary64 a b ns radii pair start).answer ≡ x → rounds_of x ≤ 20
-    go (Measured o) e = rounds-at-most-20 binary64 _ a _ b _ radii pair start o e
-    go (Refused k) e = omega arith
+    go : (x : Result ProxyDistanceOutput Refusal) → (distance_for binary64 a b ns radii pair start).answer ≡ x → rounds_of x ≤ 20
+    go (Ok o) e = rounds-at-most-20 binary64 _ a _ b _ radii pair start o e
+    go (Err r) e = omega arith
 
 module _ (ns : List Float) (words : List ℕ) (out : List Float) where
   abbrev Sizes : Bool

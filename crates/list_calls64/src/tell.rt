@@ -5,7 +5,7 @@ ghost use Rattle.list_calls64.specs.Entry.{contact_floats, contact_in, counts_wo
 ghost use Rattle.list_calls64.specs.Entry.{output_number, output_floats, cache_words, rounds_of, distance_number, output_after, cache_after};
 
 use model::{Corners, Counts, Ending, SimplexCache, Status};
-use model64::{Contact, Distance, DistanceAnswer, Outcome, ProxyDistanceOutput, Verdict};
+use model64::{Contact, Distance, Outcome, ProxyDistanceOutput, Verdict};
 
 fn store_contact(out: &mut [f64], c: Contact)
     requires { length out.old ≡ 5 }
@@ -149,7 +149,7 @@ pub fn tell_distance(d: Distance, words: &mut [u32], out: &mut [f64]) -> u32
     let answer = d.answer;
     let cache = d.cache;
     match answer {
-        DistanceAnswer::Measured(o) => put_measured(words, out, o, cache),
-        DistanceAnswer::Refused(number) => number,
+        Ok(o) => put_measured(words, out, o, cache),
+        Err(refused) => refused.number,
     }
 }
