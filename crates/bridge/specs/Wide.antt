@@ -67,7 +67,7 @@ abbrev pub sweep64 : Sweep → Sweep64
 sweep64 w =
     record { local_center = vector64 w.local_center; c1 = vector64 w.c1; c2 = vector64 w.c2; q1 = rotation64 w.q1; q2 = rotation64 w.q2 }
 
-abbrev pub checked_pose64 : Result Pose Refusal → Result Pose Refusal
+abbrev pub checked_pose64 : Result Pose Refusal → Result Pose64 Refusal
 checked_pose64 (Ok p) = Ok (pose64 p)
 checked_pose64 (Err r) = Err r
 
@@ -101,7 +101,7 @@ output64 o = record {
 abbrev pub measurement64 : Measurement → Measurement64
 measurement64 m = record { output = output64 m.output; cache = m.cache }
 
-abbrev pub answer64 : Result ProxyDistanceOutput Refusal → Result ProxyDistanceOutput Refusal
+abbrev pub answer64 : Result ProxyDistanceOutput Refusal → Result ProxyDistanceOutput64 Refusal
 answer64 (Ok o) = Ok (output64 o)
 answer64 (Err r) = Err r
 

@@ -12,7 +12,6 @@ use Rattle.model.specs.declared.Ending.{Ending}
 use Rattle.model.specs.declared.ProxyDistanceOutput.{ProxyDistanceOutput}
 use Rattle.model.specs.declared.Distance.{Distance}
 use Rattle.model.specs.declared.Refusal.{Refusal}
-use Rattle.model.specs.Domain.{numbered}
 use Rattle.model.specs.Distance.{max_iterations, proxy_distance}
 use Rattle.model64.specs.declared.Pose.{Pose as Pose64}
 use Rattle.model64.specs.declared.ProxyDistanceOutput.{ProxyDistanceOutput as Output64}
@@ -61,7 +60,7 @@ module _ (p : Pose64) (a : List Float) (ra : Float) (b : List Float) (rb : Float
           record { output = m; answered = is; ending = ap (λ (u : Output64). u.ending) out; rounds = ap (λ (u : Output64). u.iterations) out }
       go (Err r) is e = absurd (refused e)
         where
-          refused : Err (numbered n) ≡ Ok o → ⊥
+          refused : Err r ≡ Ok o → ⊥
           refused k = let z : ◌≡◌ {A = ℕ} 0 1 = cc in omega arith
 
   widened : (m : ProxyDistanceOutput) → told.answer ≡ Ok m → (call p a ra b rb radii pair c).answer ≡ Ok (output64 m)
