@@ -42,7 +42,7 @@ PATCHES = [
     ('work64/src/lib.rt', 'floats[i] = ground64::from_bits(wire::word(bytes, from + 4 * i));',
      'floats[i] = taken_over(wire::word(bytes, from + 4 * i));'),
     ('work64/src/lib.rt', 'ghost use Rattle.std.specs.Prelude', 'mod taken;\n\nghost use Rattle.std.specs.Prelude'),
-    ('work64/src/lib.rt', 'use model::{Block, CheckedBlock};', 'use model::{Block, CheckedBlock};\nuse taken::taken_over;'),
+    ('work64/src/lib.rt', 'use model::{Block, BlockRefusal};', 'use model::{Block, BlockRefusal};\nuse taken::taken_over;'),
     # stored words have eight bytes
     ('replay64/src/floats.rt', ' as u64', ''),
     ('replay64/src/pool.rt', 'wire::word(pool, 16 + 4 * i)', 'wire::word(pool, 32 + 8 * i)'),

@@ -1,4 +1,5 @@
 -- What a block of the f64 crates comes to, its line, the lines and the totals of a file are model's. Assumes nothing.
+use Rattle.std.proofs.Common.{Result, Ok, Err}
 use Prim.Native.Nat.{ℕ, zero, suc, ◌+◌, ◌/◌, ◌%◌}
 use mathlib.Core.Bool.{Bool, true, false, cond}
 use mathlib.Core.List.{List, [], ◌∷◌, ◌++◌, map}
@@ -12,8 +13,8 @@ use Rattle.model.specs.declared.Totals.{Totals}
 use Rattle.model.specs.declared.Vector.{Vector}
 use Rattle.model.specs.declared.Swept.{Swept}
 use Rattle.model.specs.declared.Corners.{Corners}
-use Rattle.model.specs.declared.CheckedBlock.{CheckedBlock}
-use Rattle.model.specs.declared.CheckedBlock.TheVariants as Checked
+use Rattle.model.specs.declared.Block.{Block}
+use Rattle.model.specs.declared.BlockRefusal.{BlockRefusal}
 use Rattle.model.specs.declared.SweepAnswer.{SweepAnswer}
 use Rattle.model.specs.declared.SweepAnswer.TheVariants.{Overlapped, Hit, Separated, Failed, Refused}
 use Rattle.model.specs.declared.Outcome.{Outcome}
@@ -64,12 +65,12 @@ of-job-same : (job : ℕ) (x : Outcome) → W64.of_job job (outcome64 x) ≡ blo
 of-job-same job (Outcome.Found v) = refl
 of-job-same job (Outcome.Refused number) = refl
 
-by-check : (f : Format) (b : List ℕ) (x : CheckedBlock) → W64.answer_by f b x ≡ block_answer64 (W.answer_by f b x)
-by-check f b (Checked.Good k) =
+by-check : (f : Format) (b : List ℕ) (x : Result Block BlockRefusal) → W64.answer_by f b x ≡ block_answer64 (W.answer_by f b x)
+by-check f b (Ok k) =
     let swept = W.sweep_of f b k in
     rw (sweep-for-same f (W.points_a b k) (W.points_b b k) (W.numbers_of b), told_same f swept.corners swept.answer)
     (of-job-same k.job (W.told f swept))
-by-check f b (Checked.Refused job number) = refl
+by-check f b (Err r) = refl
 
 pub block-answer-same : (f : Format) (b : List ℕ) → block_answer_of64 f b ≡ block_answer64 (block_answer f b)
 unfolding block_answer_of64 block_answer

@@ -1,5 +1,6 @@
 -- A block is refused over its whole move just where the sheet refuses it: the call's refusals from 0 are the sweep's, and a sweep that no check refuses is
 -- not refused. So both print the same refused lines, and count as many blocks and refusals. Assumes nothing.
+use Rattle.std.proofs.Common.{Result, Ok, Err}
 use mathlib.Core.Path.{◌≡◌, refl, sym, ap, ◌∙◌}
 use mathlib.Core.Bool.{Bool, true, false, cond}
 use mathlib.Core.List.{List, [], ◌∷◌, ◌++◌, map}
@@ -10,8 +11,7 @@ use lib.Ieee.{Float, binary32, of_bits}
 use lib.ListN.{length}
 use Rattle.model.specs.declared.Block.{Block}
 use Rattle.model.specs.declared.Corners.{Corners}
-use Rattle.model.specs.declared.CheckedBlock.{CheckedBlock}
-use Rattle.model.specs.declared.CheckedBlock.TheVariants as Checked
+use Rattle.model.specs.declared.BlockRefusal.{BlockRefusal}
 use Rattle.model.specs.declared.SweepAnswer.{SweepAnswer}
 use Rattle.model.specs.declared.SweepAnswer.TheVariants as swept
 use Rattle.model.specs.declared.Status.{Status}
@@ -76,16 +76,16 @@ module _ (a : BlockCleared) (job : ℕ) (same : a.job ≡ job) where
     by_number (Open u p) e t zero z = worked a job k (answer_by' 0) same (rw e tt) begun
     by_number (Open u p) e t (suc n) z = absurd (omega (arith, t.passed, z))
 
-passed : (b : List ℕ) (k : Block) (a : BlockCleared) → Looked b k a → Alike a (answer_by binary32 b (Checked.Good k))
+passed : (b : List ℕ) (k : Block) (a : BlockCleared) → Looked b k a → Alike a (answer_by binary32 b (Ok k))
 unfolding sweep_for sweep sweep_time_of_impact
 passed b k a h =
     by_number a k.job h.job (points_a b k) (points_b b k) (numbers_of b) _ a.answer refl h.told _
     (as-the-sweep (points_a b k) (points_b b k) (numbers_of b))
 
 -- ---- any block
-by-check : (b : List ℕ) (a : BlockCleared) (x : CheckedBlock) → AnswerBy b x a → Alike a (answer_by binary32 b x)
-by-check b a (Checked.Good k) h = passed b k a h
-by-check b a (Checked.Refused job number) h = h
+by-check : (b : List ℕ) (a : BlockCleared) (x : Result Block BlockRefusal) → AnswerBy b x a → Alike a (answer_by binary32 b x)
+by-check b a (Ok k) h = passed b k a h
+by-check b a (Err r) h = h
 
 by_size : (b : List ℕ) (a : BlockCleared) (whole : Bool) → AnswerIf whole b a → Alike a (cond whole (block_answer binary32 b) (sheet.Refused 0 9))
 unfolding block_answer

@@ -1,4 +1,5 @@
 -- Lines one after the other, what there is room for, and that no count overflows. Assumes nothing.
+use Rattle.std.proofs.Common.{Result, Ok, Err}
 use mathlib.Core.Path.{◌≡◌, refl, sym, ap, ◌∙◌}
 use mathlib.Core.Bool.{Bool, true, false, ◌&&◌, cond}
 use mathlib.Core.List.{List, [], ◌∷◌, ◌++◌, append-nil, append_assoc}
@@ -10,8 +11,8 @@ use lib.Dec.{eqb, ltb, leb}
 use lib.Ieee.{binary32}
 use lib.ListN.{length, take, drop, length-drop}
 use lib.Seq.{length-take-le}
-use Rattle.model.specs.declared.CheckedBlock.{CheckedBlock}
-use Rattle.model.specs.declared.CheckedBlock.TheVariants as Checked
+use Rattle.model.specs.declared.Block.{Block}
+use Rattle.model.specs.declared.BlockRefusal.{BlockRefusal}
 use Rattle.model.specs.declared.BlockAnswer.{BlockAnswer}
 use Rattle.model.specs.declared.BlockAnswer.TheVariants.{Worked, Refused}
 use Rattle.model.specs.declared.Verdict.{Verdict}
@@ -164,6 +165,6 @@ pub worked-counts : (b : List ℕ) {job : ℕ} {v : Verdict} → block_answer bi
 unfolding block_answer
 worked-counts b {job} {v} e = go (checked_block b) refl e
   where
-    go : (k : CheckedBlock) → checked_block b ≡ k → answer_by binary32 b k ≡ Worked job v → (byte b 4 ≤ most_points) × (byte b 5 ≤ most_points)
-    go (Checked.Good k) c e = let f = fields-of b (is-passed b (ap is_good c)).fields in (f.count-a, f.count-b)
-    go (Checked.Refused j number) c e = absurd (let z : ◌≡◌ {A = ℕ} 0 1 = cc in omega (arith, z))
+    go : (k : Result Block BlockRefusal) → checked_block b ≡ k → answer_by binary32 b k ≡ Worked job v → (byte b 4 ≤ most_points) × (byte b 5 ≤ most_points)
+    go (Ok k) c e = let f = fields-of b (is-passed b (ap is_good c)).fields in (f.count-a, f.count-b)
+    go (Err r) c e = absurd (let z : ◌≡◌ {A = ℕ} 0 1 = cc in omega (arith, z))

@@ -1,6 +1,6 @@
 -- Written by tests/written/wide.py from model, in f64.
 -- From a block to its answer: its floats, the sweep that they ask for, and what the sweep's answer comes to.
-use Rattle.std.specs.Prelude.{ℕ, zero, suc, ◌+◌, ◌*◌, List, [], ◌∷◌, Float}
+use Rattle.std.specs.Prelude.{ℕ, zero, suc, ◌+◌, ◌*◌, List, [], ◌∷◌, Float, Result, Ok, Err}
 use Rattle.std.specs.Float.{Format, binary32}
 use Rattle.std.specs.Float.Ieee.{of_bits}
 use Rattle.model64.specs.declared.Vector.{Vector}
@@ -13,8 +13,7 @@ use Rattle.model64.specs.declared.SweepAnswer.{SweepAnswer}
 use Rattle.model64.specs.declared.SweepAnswer.TheVariants as Answered
 use Rattle.model64.specs.declared.Swept.{Swept}
 use Rattle.model.specs.declared.Block.{Block}
-use Rattle.model.specs.declared.CheckedBlock.{CheckedBlock}
-use Rattle.model.specs.declared.CheckedBlock.TheVariants as Checked
+use Rattle.model.specs.declared.BlockRefusal.{BlockRefusal}
 use Rattle.model.specs.declared.Status.{Status}
 use Rattle.model.specs.declared.Status.TheVariants.{Overlapped, Hit, Separated, Failed}
 use Rattle.model64.specs.declared.Verdict.{Verdict}
@@ -78,9 +77,9 @@ abbrev pub of_job : ℕ → Outcome → BlockAnswer
 of_job job (Found v) = Worked job v
 of_job job (Told.Refused number) = Refused job number
 
-abbrev pub answer_by : Format → List ℕ → CheckedBlock → BlockAnswer
-answer_by f b (Checked.Good k) = of_job k.job (told f (sweep_of f b k))
-answer_by f b (Checked.Refused job number) = Refused job number
+abbrev pub answer_by : Format → List ℕ → Result Block BlockRefusal → BlockAnswer
+answer_by f b (Ok k) = of_job k.job (told f (sweep_of f b k))
+answer_by f b (Err r) = Refused r.job r.number
 
 -- by its 512 bytes alone
 unfoldable pub block_answer : Format → List ℕ → BlockAnswer

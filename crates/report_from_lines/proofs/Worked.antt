@@ -1,4 +1,5 @@
 -- What is known of every answer of a file: its counts are small, its fraction is one of binary32, and a refusal has a number of the list. Assumes nothing.
+use Rattle.std.proofs.Common.{Result, Ok, Err}
 use mathlib.Core.Bool.{Bool, true, false, cond}
 use mathlib.Core.List.{List, [], ◌∷◌, map}
 use Prim.Native.Nat.{ℕ, zero, suc, ◌+◌, ◌%◌}
@@ -8,8 +9,7 @@ use lib.Ieee.Fits.{cond-fits, nan-fits, add-fits, mul-fits}
 use lib.Ieee.Bits.{of_bits-fits}
 use lib.ListN.{length, get_or}
 use Rattle.model.specs.declared.Block.{Block}
-use Rattle.model.specs.declared.CheckedBlock.{CheckedBlock}
-use Rattle.model.specs.declared.CheckedBlock.TheVariants as Checked
+use Rattle.model.specs.declared.BlockRefusal.{BlockRefusal}
 use Rattle.model.specs.declared.Sweep.{Sweep}
 use Rattle.model.specs.declared.SweepTask.{SweepTask}
 use Rattle.model.specs.declared.SimplexCache.{SimplexCache}
@@ -183,9 +183,9 @@ sweep-small job b k =
     (sweep-fits binary32 (points_a b k) (point ns 0).x (move_at ns 2) (points_b b k) (point ns 0).y (move_at ns 7) (point ns 1).x (point ns 1).y
     (floats-fit b 8 24 2))
 
-checked-small : (b : List ℕ) (c : CheckedBlock) → SmallAnswer (answer_by binary32 b c)
-checked-small b (Checked.Good k) = sweep-small k.job b k
-checked-small b (Checked.Refused job number) = tt
+checked-small : (b : List ℕ) (c : Result Block BlockRefusal) → SmallAnswer (answer_by binary32 b c)
+checked-small b (Ok k) = sweep-small k.job b k
+checked-small b (Err r) = tt
 
 block-small : (b : List ℕ) → SmallAnswer (block_answer binary32 b)
 unfolding block_answer

@@ -1,4 +1,5 @@
 -- What a look's answer says of a room and of a cell. Assumes nothing.
+use Rattle.std.proofs.Common.{Result, Ok, Err}
 use mathlib.Core.Path.{◌≡◌, refl, sym, ap, ◌∙◌}
 use mathlib.Core.Bool.{Bool, true, false, cond, true≢false}
 use mathlib.Core.List.{List}
@@ -10,8 +11,8 @@ use lib.Ieee.{Float, binary32, of_bits, le}
 use lib.ListN.{length, set, get_or}
 use lib.Seq.{get_or-set_same, get_or-set_other}
 use Rattle.model.specs.declared.Vector.{Vector}
-use Rattle.model.specs.declared.CheckedBlock.{CheckedBlock}
-use Rattle.model.specs.declared.CheckedBlock.TheVariants as checked
+use Rattle.model.specs.declared.Block.{Block}
+use Rattle.model.specs.declared.BlockRefusal.{BlockRefusal}
 use Rattle.model.specs.Block.{checked_block}
 use Rattle.model.specs.Support.{point}
 use Rattle.planned.specs.Planned as planned
@@ -79,9 +80,9 @@ module _ (a b ns : List Float) where
 
 -- ---- every answer has 64 letters
 module _ (b : List ℕ) (r : BlockRooms) where
-  by-check : (x : CheckedBlock) → AnswerBy b x r → length r.cells ≡ 64
-  by-check (checked.Good k) h = h.letters
-  by-check (checked.Refused job number) h = h.letters
+  by-check : (x : Result Block BlockRefusal) → AnswerBy b x r → length r.cells ≡ 64
+  by-check (Ok k) h = h.letters
+  by-check (Err e) h = h.letters
 
   by_size : (c : Bool) → AnswerIf c b r → length r.cells ≡ 64
   by_size true h = by-check (checked_block b) h

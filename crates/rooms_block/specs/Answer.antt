@@ -1,10 +1,9 @@
 -- What is said of a block: refused as on the sheet, or its room and its 64 cells, by its own numbers.
-use Rattle.std.specs.Prelude.{◌≡◌, ℕ, Bool, true, false, List, [], ◌∷◌, eqb, Float, length}
+use Rattle.std.specs.Prelude.{◌≡◌, ℕ, Bool, true, false, List, [], ◌∷◌, eqb, Float, length, Result, Ok, Err}
 use Rattle.std.specs.Float.{binary32}
 use Rattle.std.specs.Float.Ieee.{of_bits}
 use Rattle.model.specs.declared.Block.{Block}
-use Rattle.model.specs.declared.CheckedBlock.{CheckedBlock}
-use Rattle.model.specs.declared.CheckedBlock.TheVariants.{Good, Refused}
+use Rattle.model.specs.declared.BlockRefusal.{BlockRefusal}
 use Rattle.model.specs.Support.{point}
 use Rattle.model.specs.Block.{block_size, checked_block}
 use Rattle.model.specs.Work.{points_a, points_b, numbers_of}
@@ -28,9 +27,9 @@ pub record Numbered (a b numbers : List Float) (j : ℕ) (r : BlockRooms) : Type
 abbrev pub Told : List ℕ → Block → BlockRooms → Type 0
 Told b k r = Numbered (points_a b k) (points_b b k) (numbers_of b) k.job r
 
-abbrev pub AnswerBy : List ℕ → CheckedBlock → BlockRooms → Type 0
-AnswerBy b (Good k) r = Told b k r
-AnswerBy b (Refused job number) r = RefusedBy job number r
+abbrev pub AnswerBy : List ℕ → Result Block BlockRefusal → BlockRooms → Type 0
+AnswerBy b (Ok k) r = Told b k r
+AnswerBy b (Err e) r = RefusedBy e.job e.number r
 
 -- by whether it has all its bytes
 abbrev pub AnswerIf : Bool → List ℕ → BlockRooms → Type 0

@@ -12,7 +12,7 @@ ghost use Rattle.rooms_block.specs.Answer.{RefusedBy, Numbered, Told, AnswerBy, 
 use block_floats::floats_at;
 use cells::cells_of;
 use clearance_call::refusal_of;
-use model::{Block, CheckedBlock};
+use model::Block;
 use outline::point;
 use room::room_of;
 
@@ -92,8 +92,8 @@ fn rooms_checked(part: &[u8]) -> BlockRooms
 {
     let checked = block::check_block(part);
     match checked {
-        CheckedBlock::Good(k) => rooms_along(part, k),
-        CheckedBlock::Refused(job, number) => refused(job, number),
+        Ok(k) => rooms_along(part, k),
+        Err(refusal) => refused(refusal.job, refusal.number),
     }
 }
 

@@ -7,7 +7,7 @@ ghost use Rattle.model.specs.Work as Work;
 ghost use Rattle.model.specs.Block.{most_points};
 ghost use Rattle.work.specs.Refusal.{refusal_by};
 
-use model::{Block, BlockAnswer, CheckedBlock, Outcome, Swept};
+use model::{Block, BlockAnswer, BlockRefusal, Outcome, Swept};
 
 // The 32 floats from a place on: as many as sixteen points have. A number that is fixed lets several be read as one; who asks for fewer lends the first.
 fn floats_at(bytes: &[u8], from: usize) -> [f32; 32]
@@ -46,12 +46,12 @@ fn of_job(job: u32, outcome: Outcome) -> BlockAnswer
     }
 }
 
-fn refusal(checked: CheckedBlock) -> BlockAnswer
+fn refusal(checked: Result<Block, BlockRefusal>) -> BlockAnswer
     ensures { result ≡ refusal_by checked }
 {
     match checked {
-        CheckedBlock::Good(k) => BlockAnswer::Refused(k.job, 0),
-        CheckedBlock::Refused(job, number) => BlockAnswer::Refused(job, number),
+        Ok(k) => BlockAnswer::Refused(k.job, 0),
+        Err(refusal) => BlockAnswer::Refused(refusal.job, refusal.number),
     }
 }
 
@@ -60,7 +60,7 @@ pub fn answer_block(bytes: &[u8]) -> BlockAnswer
     ensures { result ≡ Work.block_answer binary32 bytes.now }
 {
     let checked = block::check_block(bytes);
-    let CheckedBlock::Good(k) = checked else {
+    let Ok(k) = checked else {
         return refusal(checked);
     };
     let swept = work_block(bytes, k);

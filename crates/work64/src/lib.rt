@@ -10,7 +10,7 @@ ghost use Rattle.model64.specs.Work as Work;
 ghost use Rattle.model.specs.Block.{most_points};
 ghost use Rattle.work64.specs.Refusal.{refusal_by};
 
-use model::{Block, CheckedBlock};
+use model::{Block, BlockRefusal};
 use model64::{BlockAnswer, Outcome, Swept};
 use taken::taken_over;
 
@@ -51,12 +51,12 @@ fn of_job(job: u32, outcome: Outcome) -> BlockAnswer
     }
 }
 
-fn refusal(checked: CheckedBlock) -> BlockAnswer
+fn refusal(checked: Result<Block, BlockRefusal>) -> BlockAnswer
     ensures { result ≡ refusal_by checked }
 {
     match checked {
-        CheckedBlock::Good(k) => BlockAnswer::Refused(k.job, 0),
-        CheckedBlock::Refused(job, number) => BlockAnswer::Refused(job, number),
+        Ok(k) => BlockAnswer::Refused(k.job, 0),
+        Err(refusal) => BlockAnswer::Refused(refusal.job, refusal.number),
     }
 }
 
@@ -65,7 +65,7 @@ pub fn answer_block(bytes: &[u8]) -> BlockAnswer
     ensures { result ≡ Work.block_answer binary64 bytes.now }
 {
     let checked = block::check_block(bytes);
-    let CheckedBlock::Good(k) = checked else {
+    let Ok(k) = checked else {
         return refusal(checked);
     };
     let swept = work_block(bytes, k);
