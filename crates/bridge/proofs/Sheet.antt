@@ -17,11 +17,10 @@ use Rattle.model.specs.declared.Block.{Block}
 use Rattle.model.specs.declared.BlockRefusal.{BlockRefusal}
 use Rattle.model.specs.declared.SweepAnswer.{SweepAnswer}
 use Rattle.model.specs.declared.SweepAnswer.TheVariants.{Overlapped, Hit, Separated, Failed, Refused}
-use Rattle.model.specs.declared.Outcome.{Outcome}
-use Rattle.model.specs.declared.Outcome.TheVariants as Outcome
+use Rattle.model.specs.declared.Verdict.{Verdict}
+use Rattle.model.specs.declared.Refusal.{Refusal}
 use Rattle.model.specs.declared.BlockAnswer.{BlockAnswer}
 use Rattle.model.specs.declared.BlockAnswer.TheVariants as Block
-use Rattle.model.specs.declared.Verdict.{Verdict}
 use Rattle.model.specs.Support.{point}
 use Rattle.model.specs.Block.{checked_block}
 use Rattle.model.specs.Work.{move_at, sweep_for, block_answer}
@@ -61,9 +60,9 @@ told_same f k (Refused number) = refl
 pub told-swept-same : (f : Format) (x : Swept) → W64.told f (swept64 x) ≡ outcome64 (W.told f x)
 told-swept-same f x = told_same f x.corners x.answer
 
-of-job-same : (job : ℕ) (x : Outcome) → W64.of_job job (outcome64 x) ≡ block_answer64 (W.of_job job x)
-of-job-same job (Outcome.Found v) = refl
-of-job-same job (Outcome.Refused number) = refl
+of-job-same : (job : ℕ) (x : Result Verdict Refusal) → W64.of_job job (outcome64 x) ≡ block_answer64 (W.of_job job x)
+of-job-same job (Ok v) = refl
+of-job-same job (Err r) = refl
 
 by-check : (f : Format) (b : List ℕ) (x : Result Block BlockRefusal) → W64.answer_by f b x ≡ block_answer64 (W.answer_by f b x)
 by-check f b (Ok k) =
