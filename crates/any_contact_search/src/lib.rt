@@ -40,11 +40,8 @@ fn is_contact(answer: BlockAnswer) -> bool
     ensures { result ≡ is_contact answer }
 {
     match answer {
-        BlockAnswer::Worked(_, verdict) => {
-            let status = verdict.status;
-            touching(status)
-        }
-        BlockAnswer::Refused(_, _) => false,
+        Ok(worked) => touching(worked.verdict.status),
+        Err(_) => false,
     }
 }
 

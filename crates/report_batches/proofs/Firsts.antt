@@ -1,5 +1,6 @@
 -- What the last three lines of a report say: the count stands on a worked block, none has a larger one, and every worked block before it has a
 -- smaller one; where there is no maximum no block was worked. Assumes nothing.
+use Rattle.std.proofs.Common.{Ok, Err}
 use mathlib.Core.Path.{◌≡◌, refl, sym, ap, ◌∙◌}
 use mathlib.Core.Bool.{Bool, true, false, cond}
 use mathlib.Core.List.{List, [], ◌∷◌, ◌++◌}
@@ -10,8 +11,7 @@ use borrow.Author.Tests.{ltb-true, ltb-false}
 use lib.Dec.{ltb}
 use lib.ListN.{length, get_or}
 use Rattle.model.specs.declared.Counts.{Counts}
-use Rattle.model.specs.declared.BlockAnswer.{BlockAnswer}
-use Rattle.model.specs.declared.BlockAnswer.TheVariants.{Worked, Refused}
+use Rattle.model.specs.Work.{BlockAnswer}
 use Rattle.report_counts.specs.declared.most.Most.{Most}
 use Rattle.report_counts.specs.declared.most.Most.TheVariants.{Nowhere, At}
 use Rattle.report_counts.specs.declared.most.Largest.{Largest}
@@ -124,16 +124,16 @@ told which (p ∷ ps) = one_more which p ps (shown_at which p) (fold_one which p
 
 -- ---- the three lines
 one-calls : (i j : ℕ) (x : BlockAnswer) → (seen (hold i) (hold j) x).calls ≡ shown calls_of i j x
-one-calls i j (Worked job v) = refl
-one-calls i j (Refused job number) = refl
+one-calls i j (Ok w) = refl
+one-calls i j (Err r) = refl
 
 one-searches : (i j : ℕ) (x : BlockAnswer) → (seen (hold i) (hold j) x).searches ≡ shown searches_of i j x
-one-searches i j (Worked job v) = refl
-one-searches i j (Refused job number) = refl
+one-searches i j (Ok w) = refl
+one-searches i j (Err r) = refl
 
 one-steps : (i j : ℕ) (x : BlockAnswer) → (seen (hold i) (hold j) x).steps ≡ shown steps_of i j x
-one-steps i j (Worked job v) = refl
-one-steps i j (Refused job number) = refl
+one-steps i j (Ok w) = refl
+one-steps i j (Err r) = refl
 
 fold-calls : (ps : List Place) → (fold_each ps).calls ≡ fold_one calls_of ps
 unfolding fold_each fold_one

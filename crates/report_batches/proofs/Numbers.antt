@@ -20,8 +20,6 @@ use Rattle.model.specs.declared.Contact.{Contact}
 use Rattle.model.specs.declared.Corners.{Corners}
 use Rattle.model.specs.declared.SweepAnswer.{SweepAnswer}
 use Rattle.model.specs.declared.SweepAnswer.TheVariants as Answered
-use Rattle.model.specs.declared.BlockAnswer.{BlockAnswer}
-use Rattle.model.specs.declared.BlockAnswer.TheVariants.{Refused}
 use Rattle.model.specs.Ground.{one}
 use Rattle.model.specs.Ground as Ground
 use Rattle.model.specs.Separation.{new_separation, find_min_separation, evaluate}
@@ -34,7 +32,7 @@ use Rattle.model.specs.Corners.{sweep}
 use Rattle.model.specs.Support.{point}
 use Rattle.model.specs.Wire.{byte}
 use Rattle.model.specs.Block.{known_form, check_holds, bad_count, zeros_hold, bad_fields, job_of, block_of, checked_block, refused}
-use Rattle.model.specs.Work.{floats_at, numbers_of, points_a, points_b, move_at, sweep_for, sweep_of, told_by, of_job, answer_by, block_answer}
+use Rattle.model.specs.Work.{floats_at, numbers_of, points_a, points_b, move_at, sweep_for, sweep_of, told_by, of_job, answer_by, block_answer, BlockAnswer}
 use Rattle.model.specs.Blocks.{whole_blocks}
 use Rattle.model.specs.Sheet.{whole_answers, answers}
 use Rattle.model.proofs.Sheet.{answers-cut}
@@ -235,7 +233,7 @@ unfolding whole_blocks NumbersGiven
 whole-given f zero b = tt
 whole-given f (suc k) b = (block-given f (take 512 b), whole-given f k (drop 512 b))
 
-rest-given : (s : Bool) → NumbersGiven (cond s [] (Refused 0 9 ∷ []))
+rest-given : (s : Bool) → NumbersGiven (cond s [] (refused 0 9 ∷ []))
 unfolding NumbersGiven
 rest-given true = tt
 rest-given false = ((omega arith, omega arith, λ h. omega arith), tt)

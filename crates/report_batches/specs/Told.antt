@@ -1,9 +1,9 @@
 -- What the rows of a report say of its batches: how they add up, and where the three largest counts stand.
-use Rattle.std.specs.Prelude.{◌≡◌, List, [], ◌∷◌, ◌++◌, ℕ, zero, suc, ◌+◌, ◌≤◌, ◌<◌, length, get_or}
+use Rattle.std.specs.Prelude.{◌≡◌, List, [], ◌∷◌, ◌++◌, ℕ, zero, suc, ◌+◌, ◌≤◌, ◌<◌, length, get_or, Ok, Err}
 use Prim.{Unit}
 use Rattle.model.specs.declared.Counts.{Counts}
-use Rattle.model.specs.declared.BlockAnswer.{BlockAnswer}
-use Rattle.model.specs.declared.BlockAnswer.TheVariants.{Worked, Refused}
+use Rattle.model.specs.Block.{refused}
+use Rattle.model.specs.Work.{BlockAnswer}
 use Rattle.report_counts.specs.declared.most.Most.{Most}
 use Rattle.report_counts.specs.declared.most.Most.TheVariants.{Nowhere, At}
 use Rattle.report_counts.specs.declared.most.Largest.{Largest}
@@ -49,8 +49,8 @@ in_batches i (b ∷ bs) = in_batch (i + 1) 0 b ++ in_batches (i + 1) bs
 -- ---- the first of the largest
 -- what a place shows of a count: none where its block was refused
 abbrev pub shown : (Counts → ℕ) → ℕ → ℕ → BlockAnswer → Most
-shown which i j (Worked job v) = At (which v.counts) (hold i) (hold j)
-shown which i j (Refused job number) = Nowhere
+shown which i j (Ok w) = At (which w.verdict.counts) (hold i) (hold j)
+shown which i j (Err r) = Nowhere
 
 abbrev pub shown_at : (Counts → ℕ) → Place → Most
 shown_at which p = shown which p.batch p.block p.answer
@@ -65,7 +65,7 @@ Below n Nowhere = Unit {0}
 Below n (At m i j) = m < n
 
 abbrev pub nobody : Place
-nobody = placed 0 0 (Refused 0 0)
+nobody = placed 0 0 (refused 0 0)
 
 -- place k shows the maximum, none shows more, and those before it show less; or there is none, and nothing is shown
 pub data Told (which : Counts → ℕ) (ps : List Place) (m : Most) : Type 0 where

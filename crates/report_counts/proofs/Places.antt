@@ -1,12 +1,11 @@
 -- The largest counts with their places: the larger of three in any order, none as its neutral element, and moving up. Assumes nothing.
-use Rattle.std.proofs.Common.{◌≡◌, ℕ, suc, ◌+◌, ◌^◌, ◌<◌, Bool, true, false, cond, ltb, List, [], ◌∷◌, ◌++◌, length, sym, refl, ap, ◌∙◌, arith, ltb-false, ltb-true, le-ltb, lt-ltb}
-use Rattle.model.specs.declared.BlockAnswer.{BlockAnswer}
-use Rattle.model.specs.declared.BlockAnswer.TheVariants.{Worked, Refused}
+use Rattle.std.proofs.Common.{◌≡◌, ℕ, suc, ◌+◌, ◌^◌, ◌<◌, Bool, true, false, cond, ltb, List, [], ◌∷◌, ◌++◌, length, sym, refl, ap, ◌∙◌, arith, ltb-false, ltb-true, le-ltb, lt-ltb, Ok, Err}
 use Rattle.report_counts.specs.declared.most.Most.{Most}
 use Rattle.report_counts.specs.declared.most.Most.TheVariants.{Nowhere, At}
 use Rattle.report_counts.specs.declared.most.Largest.{Largest}
 use Rattle.report_counts.specs.Largest.{hold, plus, larger, moved, nowhere, larger_each, moved_each, seen, largest_from, largest_in}
 use Rattle.report_counts.proofs.Held.{plus-held, plus_assoc, none-plus}
+use Rattle.model.specs.Work.{BlockAnswer}
 
 -- ---- one count
 larger-none : (a : Most) → larger a Nowhere ≡ a
@@ -112,8 +111,8 @@ in-append i (a ∷ ps) qs =
 -- ---- batches that follow k others are moved up by k
 seen-moved : (k i j : ℕ) (x : BlockAnswer) → seen (hold (k + i)) j x ≡ moved_each (hold k) (seen (hold i) j x)
 unfolding moved
-seen-moved k i j (Refused job number) = refl
-seen-moved k i j (Worked job v) = rw (plus-held k i)
+seen-moved k i j (Err r) = refl
+seen-moved k i j (Ok w) = rw (plus-held k i)
 
 from-moved : (k i n : ℕ) (xs : List BlockAnswer) → largest_from (k + i) n xs ≡ moved_each (hold k) (largest_from i n xs)
 unfolding largest_from

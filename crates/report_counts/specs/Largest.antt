@@ -1,8 +1,7 @@
 -- The largest count on a worked block, with the first batch and block that has it.
-use Rattle.std.specs.Prelude.{ℕ, ◌+◌, ◌%◌, ◌^◌, cond, List, [], ◌∷◌, nat_lt}
+use Rattle.std.specs.Prelude.{ℕ, ◌+◌, ◌%◌, ◌^◌, cond, List, [], ◌∷◌, nat_lt, Ok, Err}
 use Rattle.model.specs.declared.Counts.{Counts}
-use Rattle.model.specs.declared.BlockAnswer.{BlockAnswer}
-use Rattle.model.specs.declared.BlockAnswer.TheVariants.{Worked, Refused}
+use Rattle.model.specs.Work.{BlockAnswer}
 use Rattle.report_counts.specs.declared.most.Most.{Most}
 use Rattle.report_counts.specs.declared.most.Most.TheVariants.{Nowhere, At}
 use Rattle.report_counts.specs.declared.most.Largest.{Largest}
@@ -43,8 +42,8 @@ at i j n = largest (At n.distance_calls i j) (At n.searches i j) (At n.root_step
 
 -- of one answer, as block j of batch i; a refused one was not worked
 abbrev pub seen : ℕ → ℕ → BlockAnswer → Largest
-seen i j (Worked job v) = at i j v.counts
-seen i j (Refused job number) = nowhere
+seen i j (Ok w) = at i j w.verdict.counts
+seen i j (Err r) = nowhere
 
 -- of batch i's answers that follow n others
 unfoldable pub largest_from : ℕ → ℕ → List BlockAnswer → Largest

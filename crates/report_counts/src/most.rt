@@ -92,14 +92,14 @@ pub fn seen(block: u64, answer: BlockAnswer) -> Largest
     ensures { result ≡ Specs.seen 1 block answer }
 {
     match answer {
-        BlockAnswer::Worked(_, verdict) => {
-            let counts = verdict.counts;
+        Ok(worked) => {
+            let counts = worked.verdict.counts;
             Largest {
                 calls: Most::At(counts.distance_calls, 1, block),
                 searches: Most::At(counts.searches, 1, block),
                 steps: Most::At(counts.root_steps, 1, block),
             }
         }
-        BlockAnswer::Refused(_, _) => nowhere(),
+        Err(_) => nowhere(),
     }
 }

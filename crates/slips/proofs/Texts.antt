@@ -8,9 +8,8 @@ use mathlib.Core.List.{List, [], ◌∷◌}
 use lib.ListN.{length}
 use lib.Ieee.{nan, of_bits, lt, eq}
 use Rattle.model.specs.declared.Status.TheVariants.{Hit}
-use Rattle.model.specs.declared.BlockAnswer.{BlockAnswer}
-use Rattle.model.specs.declared.BlockAnswer.TheVariants.{Worked}
-use Rattle.model64.specs.declared.BlockAnswer.TheVariants as Wide
+use Rattle.model.specs.Block.{refused}
+use Rattle.model.specs.Work.{BlockAnswer, worked}
 use Rattle.model.specs.Ground.{vector}
 use Rattle.model.specs.Corners.{no_search}
 use Rattle.model.specs.SweepToi.{counts, contact}
@@ -30,7 +29,7 @@ use Rattle.slips.proofs.Ground.{n0, n1}
 
 -- a hit at 1 with 3 calls, 2 searches and 1 step
 abbrev at_one : BlockAnswer
-at_one = Worked 7 (record { status = Hit; contact = contact n1 (vector n0 n0) (vector n0 n0); counts = counts 3 2 1; corners = no_search })
+at_one = worked 7 (record { status = Hit; contact = contact n1 (vector n0 n0) (vector n0 n0); counts = counts 3 2 1; corners = no_search })
 
 -- ---- first contacts
 pub none-capitalised : said 0 ≡ 110 ∷ 111 ∷ 110 ∷ 101 ∷ 10 ∷ []
@@ -89,5 +88,5 @@ pub line-of-17-points-passed : count_at (7 ∷ 17 ∷ 1 ∷ []) 1 ≡ 16
 line-of-17-points-passed = refl
 
 -- of f64: where an f32 line has room there is none
-pub longest-line-of-f32 : line_for 1 (Wide.Refused 0 9) 240 ≡ []
+pub longest-line-of-f32 : line_for 1 (refused 0 9) 240 ≡ []
 longest-line-of-f32 = refl

@@ -3,9 +3,9 @@
 use Rattle.std.specs.Prelude.{Result, Ok, Err}
 use Rattle.model.specs.declared.Block.{Block}
 use Rattle.model.specs.declared.BlockRefusal.{BlockRefusal}
-use Rattle.model64.specs.declared.BlockAnswer.{BlockAnswer}
-use Rattle.model64.specs.declared.BlockAnswer.TheVariants.{Refused}
+use Rattle.model.specs.Block.{refused}
+use Rattle.model64.specs.Work.{BlockAnswer}
 
 abbrev pub refusal_by : Result Block BlockRefusal → BlockAnswer
-refusal_by (Ok k) = Refused k.job 0
-refusal_by (Err r) = Refused r.job r.number
+refusal_by (Ok k) = refused k.job 0
+refusal_by (Err r) = Err r
