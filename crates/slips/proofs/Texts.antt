@@ -1,4 +1,5 @@
 -- First contacts, reports and lines: what each slip would change. By computing.
+use Rattle.std.proofs.Common.{None}
 use mathlib.Core.Path.{◌≡◌, refl}
 use Prim.Native.Nat.{ℕ}
 use native.Mathlib.Omega.{arith}
@@ -18,9 +19,8 @@ use Rattle.model.specs.Text.{decimal_by, line}
 use Rattle.model.specs.Sheet.{totals, total_line}
 use Rattle.any_contact_search.specs.First.{first_from, said}
 use Rattle.any_contact_search.specs.Search.{searched_to}
-use Rattle.report_counts.specs.declared.most.Most.TheVariants.{Nowhere, At}
 use Rattle.report_counts.specs.Rows.{hit_row, rows_in, times_in}
-use Rattle.report_counts.specs.Largest.{larger, largest_from, largest_in, moved}
+use Rattle.report_counts.specs.Largest.{larger, largest_from, largest_in, moved, seen_at}
 use Rattle.report_counts.specs.Report.{report, every_answer, tally_from, counted, together}
 use Rattle.report_lines.specs.Text.{most_text}
 use Rattle.job_text.specs.Job.{count_at}
@@ -53,12 +53,12 @@ pub batch-begins-uncounted : (report ([] ∷ [])).batches ≡ 1
 unfolding report
 batch-begins-uncounted = refl
 
-pub blocks-from-zero : (counted (report ([] ∷ [])) at_one).largest.calls ≡ At 3 1 1
+pub blocks-from-zero : (counted (report ([] ∷ [])) at_one).largest.calls ≡ seen_at 3 1 1
 unfolding counted report every_answer tally_from rows_in times_in largest_in largest_from larger
 blocks-from-zero = refl
 
 -- the second report's batches follow the first's: its one batch is number 2
-pub second-batches-not-moved : (together (report ([] ∷ [])) (counted (report ([] ∷ [])) at_one)).largest.calls ≡ At 3 2 1
+pub second-batches-not-moved : (together (report ([] ∷ [])) (counted (report ([] ∷ [])) at_one)).largest.calls ≡ seen_at 3 2 1
 unfolding together counted report every_answer tally_from rows_in times_in largest_in largest_from larger moved
 second-batches-not-moved = refl
 
@@ -72,7 +72,7 @@ unfolding hit_row lt eq of_bits
 nan-counted-as-above = refl
 
 -- where no block was worked: `0 0 0`, not `0 1 1`
-pub no-maximum-told-as-block-1 : most_text Nowhere ≡ 48 ∷ 32 ∷ 48 ∷ 32 ∷ 48 ∷ 10 ∷ []
+pub no-maximum-told-as-block-1 : most_text None ≡ 48 ∷ 32 ∷ 48 ∷ 32 ∷ 48 ∷ 10 ∷ []
 unfolding decimal_by
 no-maximum-told-as-block-1 = refl
 

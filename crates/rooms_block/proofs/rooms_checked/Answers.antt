@@ -11,4 +11,4 @@ pub returns-in-Ok : goal.returns-in-Ok
 returns-in-Ok c = rw (sym c.check_block-checked.ensures ∙ c.in-Ok.is) c.rooms_along.ensures
 
 pub returns-in-Err : goal.returns-in-Err
-returns-in-Err c = rw (sym c.check_block-checked.ensures ∙ c.in-Err.is) c.refused.ensures
+returns-in-Err c = rw (sym c.check_block-checked.ensures ∙ c.in-Err.is)
