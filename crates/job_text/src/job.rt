@@ -30,6 +30,7 @@ fn has_line(block: &[u8], line: &[u8]) -> bool
 #[derive(Clone, Copy)]
 pub struct Built {
     pub job: bool,
+    // No Option of a block: `job_block` says `result.block ≡ block_for line.now` of a line that is no job, too.
     pub block: [u8; 512],
 }
 

@@ -12,7 +12,7 @@ use lib.Dec.{ltb}
 use lib.ListN.{length, get_or}
 use Rattle.model.specs.declared.Counts.{Counts}
 use Rattle.model.specs.Work.{BlockAnswer}
-use Rattle.report_counts.specs.declared.most.Seen.{Seen}
+use Rattle.report_counts.specs.declared.most.Most.{Most}
 use Rattle.report_counts.specs.declared.most.Largest.{Largest}
 use Rattle.report_counts.specs.Largest.{hold, larger, nowhere, larger_each, seen, largest_from, largest_in, seen_at}
 use Rattle.report_counts.specs.Report.{report}
@@ -45,15 +45,15 @@ fold-batches i (b ∷ bs) =
     ∙ ap (larger_each (largest_from (i + 1) 0 b)) (fold-batches (i + 1) bs)
 
 -- ---- the first of the largest
-unfoldable fold_one : (Counts → ℕ) → List Place → Option Seen
+unfoldable fold_one : (Counts → ℕ) → List Place → Option Most
 fold_one which [] = None
 fold_one which (p ∷ ps) = larger (shown_at which p) (fold_one which ps)
 
-at_most : (n m : ℕ) (s : Option Seen) → n ≤ m → AtMost n s → AtMost m s
+at_most : (n m : ℕ) (s : Option Most) → n ≤ m → AtMost n s → AtMost m s
 at_most n m None h p = tt
 at_most n m (Some s) h p = omega (arith, p)
 
-nowhere-most : (n : ℕ) (s : Option Seen) → s ≡ None → AtMost n s
+nowhere-most : (n : ℕ) (s : Option Most) → s ≡ None → AtMost n s
 nowhere-most n s e = rw e tt
 
 none-shown : (which : Counts → ℕ) (k : ℕ) → shown_at which (get_or [] k nobody) ≡ None
@@ -61,7 +61,7 @@ none-shown which k = refl
 
 module _ (which : Counts → ℕ) (p : Place) (ps : List Place) where
   -- one that was not worked in front
-  passed : (m : Option Seen) → shown_at which p ≡ None → Told which ps m → Told which (p ∷ ps) m
+  passed : (m : Option Most) → shown_at which p ≡ None → Told which ps m → Told which (p ∷ ps) m
   passed m e (none is quiet) = none is go
     where
       go : (k : ℕ) → shown_at which (get_or (p ∷ ps) k nobody) ≡ None
@@ -106,7 +106,7 @@ module _ (which : Counts → ℕ) (p : Place) (ps : List Place) where
       all zero = rw e (le_refl c)
       all (suc l) = at_most n c (shown_at which (get_or ps l nobody)) large (most l)
 
-  one_more : (s m : Option Seen) → shown_at which p ≡ s → Told which ps m → Told which (p ∷ ps) (larger s m)
+  one_more : (s m : Option Most) → shown_at which p ≡ s → Told which ps m → Told which (p ∷ ps) (larger s m)
   unfolding larger
   one_more None m e told = passed m e told
   one_more (Some s) m e (none is quiet) = rw is (alone s.count s.batch s.block e quiet)

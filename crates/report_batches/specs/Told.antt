@@ -4,7 +4,7 @@ use Prim.{Unit}
 use Rattle.model.specs.declared.Counts.{Counts}
 use Rattle.model.specs.Block.{refused}
 use Rattle.model.specs.Work.{BlockAnswer}
-use Rattle.report_counts.specs.declared.most.Seen.{Seen}
+use Rattle.report_counts.specs.declared.most.Most.{Most}
 use Rattle.report_counts.specs.declared.most.Largest.{Largest}
 use Rattle.report_counts.specs.Largest.{hold, seen_at}
 
@@ -47,19 +47,19 @@ in_batches i (b ∷ bs) = in_batch (i + 1) 0 b ++ in_batches (i + 1) bs
 
 -- ---- the first of the largest
 -- what a place shows of a count: none where its block was refused
-abbrev pub shown : (Counts → ℕ) → ℕ → ℕ → BlockAnswer → Option Seen
+abbrev pub shown : (Counts → ℕ) → ℕ → ℕ → BlockAnswer → Option Most
 shown which i j (Ok w) = seen_at (which w.verdict.counts) (hold i) (hold j)
 shown which i j (Err r) = None
 
-abbrev pub shown_at : (Counts → ℕ) → Place → Option Seen
+abbrev pub shown_at : (Counts → ℕ) → Place → Option Most
 shown_at which p = shown which p.batch p.block p.answer
 
 -- at most n, and below n; what was not worked is both
-abbrev pub AtMost : ℕ → Option Seen → Type 0
+abbrev pub AtMost : ℕ → Option Most → Type 0
 AtMost n None = Unit {0}
 AtMost n (Some s) = s.count ≤ n
 
-abbrev pub Below : ℕ → Option Seen → Type 0
+abbrev pub Below : ℕ → Option Most → Type 0
 Below n None = Unit {0}
 Below n (Some s) = s.count < n
 
@@ -67,7 +67,7 @@ abbrev pub nobody : Place
 nobody = placed 0 0 (refused 0 0)
 
 -- place k shows the maximum, none shows more, and those before it show less; or there is none, and nothing is shown
-pub data Told (which : Counts → ℕ) (ps : List Place) (m : Option Seen) : Type 0 where
+pub data Told (which : Counts → ℕ) (ps : List Place) (m : Option Most) : Type 0 where
   none : m ≡ None → ((k : ℕ) → shown_at which (get_or ps k nobody) ≡ None) → Told which ps m
   first : (k n i j : ℕ) → m ≡ seen_at n i j → k < length ps → shown_at which (get_or ps k nobody) ≡ seen_at n i j
       → ((l : ℕ) → AtMost n (shown_at which (get_or ps l nobody))) → ((l : ℕ) → l < k → Below n (shown_at which (get_or ps l nobody))) → Told which ps m

@@ -1,18 +1,18 @@
 -- The largest counts with their places: the larger of three in any order, none as its neutral element, and moving up. Assumes nothing.
 use Rattle.std.proofs.Common.{◌≡◌, ℕ, suc, ◌+◌, ◌^◌, ◌<◌, Bool, true, false, cond, ltb, List, [], ◌∷◌, ◌++◌, length, sym, refl, ap, ◌∙◌, arith, ltb-false, ltb-true, le-ltb, lt-ltb, Option, Some, None, Ok, Err}
-use Rattle.report_counts.specs.declared.most.Seen.{Seen}
+use Rattle.report_counts.specs.declared.most.Most.{Most}
 use Rattle.report_counts.specs.declared.most.Largest.{Largest}
 use Rattle.report_counts.specs.Largest.{hold, plus, larger, moved, nowhere, larger_each, moved_each, seen, largest_from, largest_in}
 use Rattle.report_counts.proofs.Held.{plus-held, plus_assoc, none-plus}
 use Rattle.model.specs.Work.{BlockAnswer}
 
 -- ---- one count
-larger-none : (a : Option Seen) → larger a None ≡ a
+larger-none : (a : Option Most) → larger a None ≡ a
 unfolding larger
 larger-none None = refl
 larger-none (Some s) = refl
 
-larger-assoc : (a b c : Option Seen) → larger (larger a b) c ≡ larger a (larger b c)
+larger-assoc : (a b c : Option Most) → larger (larger a b) c ≡ larger a (larger b c)
 unfolding larger
 larger-assoc None b c = refl
 larger-assoc (Some s) None c = refl
@@ -26,7 +26,7 @@ larger-assoc (Some s) (Some t) (Some u) = go (ltb s.count t.count) (ltb t.count 
     go false true e f = refl
     go false false e f = rw (e, le-ltb s.count u.count (omega (arith, ltb-false s.count t.count e, ltb-false t.count u.count f)))
 
-moved-larger : (by : ℕ) (a b : Option Seen) → moved by (larger a b) ≡ larger (moved by a) (moved by b)
+moved-larger : (by : ℕ) (a b : Option Most) → moved by (larger a b) ≡ larger (moved by a) (moved by b)
 unfolding larger moved
 moved-larger by None b = refl
 moved-larger by (Some s) None = refl
@@ -36,17 +36,17 @@ moved-larger by (Some s) (Some t) = go (ltb s.count t.count)
     go true = refl
     go false = refl
 
-moved_twice : (x y : ℕ) (a : Option Seen) → moved (plus x y) a ≡ moved x (moved y a)
+moved_twice : (x y : ℕ) (a : Option Most) → moved (plus x y) a ≡ moved x (moved y a)
 unfolding moved
 moved_twice x y None = refl
 moved_twice x y (Some s) = rw (plus_assoc x y s.batch)
 
 -- its batch fits in 64 bits
-abbrev pub Placed : Option Seen → Type 0
+abbrev pub Placed : Option Most → Type 0
 Placed None = Unit {0}
 Placed (Some s) = s.batch < 2 ^ 64
 
-moved-by-none : (a : Option Seen) → Placed a → moved 0 a ≡ a
+moved-by-none : (a : Option Most) → Placed a → moved 0 a ≡ a
 unfolding moved
 moved-by-none None h = refl
 moved-by-none (Some s) h = rw (none-plus s.batch h)

@@ -2,7 +2,7 @@
 use Rattle.std.specs.Prelude.{ℕ, ◌+◌, ◌%◌, ◌^◌, cond, List, [], ◌∷◌, nat_lt, Option, Some, None, Ok, Err}
 use Rattle.model.specs.declared.Counts.{Counts}
 use Rattle.model.specs.Work.{BlockAnswer}
-use Rattle.report_counts.specs.declared.most.Seen.{Seen}
+use Rattle.report_counts.specs.declared.most.Most.{Most}
 use Rattle.report_counts.specs.declared.most.Largest.{Largest}
 
 -- a count as 64 bits hold it: below 2 ^ 64 as it is
@@ -13,22 +13,22 @@ abbrev pub plus : ℕ → ℕ → ℕ
 plus a b = hold (a + b)
 
 -- a count, and the batch and block that has it
-abbrev pub seen_at : ℕ → ℕ → ℕ → Option Seen
+abbrev pub seen_at : ℕ → ℕ → ℕ → Option Most
 seen_at n i j = Some (record { count = n; batch = i; block = j })
 
 -- the first where they are equal; any is larger than none
-unfoldable pub larger : Option Seen → Option Seen → Option Seen
+unfoldable pub larger : Option Most → Option Most → Option Most
 larger None b = b
 larger (Some s) None = Some s
 larger (Some s) (Some t) = cond (nat_lt s.count t.count) (Some t) (Some s)
 
 -- its batch moved up
-unfoldable pub moved : ℕ → Option Seen → Option Seen
+unfoldable pub moved : ℕ → Option Most → Option Most
 moved by None = None
 moved by (Some s) = seen_at s.count (plus by s.batch) s.block
 
 -- ---- the three counts
-abbrev pub largest : Option Seen → Option Seen → Option Seen → Largest
+abbrev pub largest : Option Most → Option Most → Option Most → Largest
 largest calls searches steps = record { calls = calls; searches = searches; steps = steps }
 
 abbrev pub nowhere : Largest

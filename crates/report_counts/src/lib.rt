@@ -7,5 +7,5 @@ mod rows;
 mod together;
 
 pub use counting::{Report, counted, empty, opened};
-pub use most::{Largest, Seen};
+pub use most::{Largest, Most};
 pub use together::merge;

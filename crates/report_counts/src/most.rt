@@ -7,7 +7,7 @@ use std::num::wrapping_add_u64;
 
 // A count, and the first batch and block that has it, from 1.
 #[derive(Clone, Copy)]
-pub struct Seen {
+pub struct Most {
     pub count: u32,
     pub batch: u64,
     pub block: u64,
@@ -16,15 +16,15 @@ pub struct Seen {
 // The most distance calls, separation searches and root steps; none where no block was worked.
 #[derive(Clone, Copy)]
 pub struct Largest {
-    pub calls: Option<Seen>,
-    pub searches: Option<Seen>,
-    pub steps: Option<Seen>,
+    pub calls: Option<Most>,
+    pub searches: Option<Most>,
+    pub steps: Option<Most>,
 }
 
-fn seen_at(count: u32, batch: u64, block: u64) -> Option<Seen>
+fn seen_at(count: u32, batch: u64, block: u64) -> Option<Most>
     ensures { result ≡ Specs.seen_at count batch block }
 {
-    Some(Seen {
+    Some(Most {
         count,
         batch,
         block,
@@ -32,7 +32,7 @@ fn seen_at(count: u32, batch: u64, block: u64) -> Option<Seen>
 }
 
 // The larger of two, the first where they are equal; any is larger than none.
-fn larger(a: Option<Seen>, b: Option<Seen>) -> Option<Seen>
+fn larger(a: Option<Most>, b: Option<Most>) -> Option<Most>
     ensures { result ≡ Specs.larger a b }
 {
     match a {
@@ -45,7 +45,7 @@ fn larger(a: Option<Seen>, b: Option<Seen>) -> Option<Seen>
 }
 
 // The same with its batch moved up.
-fn moved(by: u64, m: Option<Seen>) -> Option<Seen>
+fn moved(by: u64, m: Option<Most>) -> Option<Most>
     ensures { result ≡ Specs.moved by m }
 {
     match m {

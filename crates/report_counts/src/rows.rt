@@ -4,7 +4,7 @@ ghost use Rattle.report_counts.specs.Rows.{status_row, hit_row, refusal_row, ver
 
 use model::{BlockAnswer, Status, Verdict};
 
-// The row that stands for none.
+// The row that stands for none. A number, and no Option: `refusal_row` and `detail_by`, on which the sums of the rows rest, say so.
 const NO_ROW: usize = 28;
 
 // The row of a status.

@@ -26,7 +26,7 @@ use Rattle.model.proofs.SweepToi.{at-most-160-searches, at-most-8000-root-steps}
 use Rattle.text.proofs.ReadBack.{Digits, decimal-digits, hex-digits}
 use Rattle.numerals.specs.Numerals.{said_from, word_from}
 use Rattle.numerals.proofs.Numerals.{print-says, hex-says}
-use Rattle.report_counts.specs.declared.most.Seen.{Seen}
+use Rattle.report_counts.specs.declared.most.Most.{Most}
 use Rattle.report_counts.specs.Rows.{status_row, hit_row, refusal_row, detail_by, detail_row, rows_of, rows_in, times_in}
 use Rattle.report_counts.specs.Largest.{hold}
 use Rattle.report_counts.specs.Report.{every_answer, report}
@@ -260,7 +260,7 @@ shown-at : (which : Counts → ℕ) (ps : List Place) (k : ℕ)
     → get_or (map (shown_at which) ps) k None ≡ shown_at which (get_or ps k (record { batch = 0; block = 0; answer = refused 0 0 }))
 shown-at which ps k = get_or-map (shown_at which) ps k (record { batch = 0; block = 0; answer = refused 0 0 })
 
-told-first : (which : Counts → ℕ) (ps : List Place) (m : Option Seen) → Told which ps m → FirstLargest (map (shown_at which) ps) m
+told-first : (which : Counts → ℕ) (ps : List Place) (m : Option Most) → Told which ps m → FirstLargest (map (shown_at which) ps) m
 told-first which ps m (OfPlaces.none is quiet) = none is (λ k. shown-at which ps k ∙ quiet k)
 told-first which ps m (OfPlaces.first k n i j is inside here most less) =
     first k n i j is (rw (length-map ps (shown_at which)) inside) (shown-at which ps k ∙ here) (λ l. rw (shown-at which ps l) (most l))
@@ -307,8 +307,8 @@ module _ (k : ℕ) (which : Counts → ℕ) (says : Says k which) where
   unfolding in_batch on_sheet lines_one_by_one EachFair
   sheet-shows i n [] h few small = refl
   sheet-shows i n (x ∷ xs) h few small =
-      ap (λ (m : Option Seen). m ∷ map (shown_at which) (in_batch i (n + 1) xs)) (line-shows i (n + 1) x h.0 few (omega arith))
-      ∙ ap (λ (ms : List (Option Seen)). shows k (printed i (answer_line binary32 (n + 1) x)) ∷ ms) (sheet-shows i (n + 1) xs h.1 few (omega arith))
+      ap (λ (m : Option Most). m ∷ map (shown_at which) (in_batch i (n + 1) xs)) (line-shows i (n + 1) x h.0 few (omega arith))
+      ∙ ap (λ (ms : List (Option Most)). shows k (printed i (answer_line binary32 (n + 1) x)) ∷ ms) (sheet-shows i (n + 1) xs h.1 few (omega arith))
 
   files-show : (i : ℕ) (files : List (List ℕ)) → i + length files < 2 ^ 64 → length (all_lines files) < 2 ^ 64
       → map (shown_at which) (in_batches i (answers_of files)) ≡ map (shows k) (printed_behind i files)
@@ -319,12 +319,12 @@ module _ (k : ℕ) (which : Counts → ℕ) (says : Says k which) where
       let all : length (sheet_lines binary32 b) + length (all_lines bs) < 2 ^ 64 = rw (length-append (sheet_lines binary32 b) (all_lines bs)) at small in
       let each : length (sheet_lines binary32 b) ≡ length xs = a-line-each binary32 0 xs in
       map-append (shown_at which) (in_batch (i + 1) 0 xs) (in_batches (i + 1) (answers_of bs))
-      ∙ ap (λ (ms : List (Option Seen)). ms ++ map (shown_at which) (in_batches (i + 1) (answers_of bs)))
+      ∙ ap (λ (ms : List (Option Most)). ms ++ map (shown_at which) (in_batches (i + 1) (answers_of bs)))
       (sheet-shows (i + 1) 0 xs (file-fair b) (omega arith) (omega (arith, all, each)))
-      ∙ ap (λ (ms : List (Option Seen)). map (shows k) (on_sheet (i + 1) (sheet_lines binary32 b)) ++ ms) (files-show (i + 1) bs (omega arith) (omega (arith, all)))
+      ∙ ap (λ (ms : List (Option Most)). map (shows k) (on_sheet (i + 1) (sheet_lines binary32 b)) ++ ms) (files-show (i + 1) bs (omega arith) (omega (arith, all)))
       ∙ sym (map-append (shows k) (on_sheet (i + 1) (sheet_lines binary32 b)) (printed_behind (i + 1) bs))
 
-  largest-shown : (files : List (List ℕ)) (m : Option Seen) → length files < 2 ^ 64 → length (all_lines files) < 2 ^ 64 → Told which (in_batches 0 (answers_of files)) m
+  largest-shown : (files : List (List ℕ)) (m : Option Most) → length files < 2 ^ 64 → length (all_lines files) < 2 ^ 64 → Told which (in_batches 0 (answers_of files)) m
       → FirstLargest (map (shows k) (printed_behind 0 files)) m
   largest-shown files m few small told = rw (← files-show 0 files (omega arith) small) (told-first which (in_batches 0 (answers_of files)) m told)
 

@@ -5,7 +5,7 @@ ghost use Rattle.std.specs.Prelude.{◌+◌, ◌<◌, ◌≤◌, ◌≡◌, [], 
 ghost use Rattle.text.specs.Put.{Put};
 ghost use Rattle.report_lines.specs.Text.{labels, row_text, rows_text, place_text, most_text, named_text, largest_text, text_in};
 
-use report_counts::{Largest, Report, Seen};
+use report_counts::{Largest, Report, Most};
 
 // How many rows a report has.
 const ROWS: usize = 28;
@@ -86,7 +86,7 @@ fn put_place(out: &mut [u8], at: usize, n: u64, batch: u64, block: u64) -> usize
 }
 
 // A largest count with its place; zeros where there is none.
-fn put_most(out: &mut [u8], at: usize, m: Option<Seen>) -> usize
+fn put_most(out: &mut [u8], at: usize, m: Option<Most>) -> usize
     requires { at + 63 ≤ length out.old }
     ensures { Put out.old at (most_text m) out.new result }
 {
@@ -97,7 +97,7 @@ fn put_most(out: &mut [u8], at: usize, m: Option<Seen>) -> usize
 }
 
 // The same after a name.
-fn put_named(out: &mut [u8], at: usize, name: &[u8], m: Option<Seen>) -> usize
+fn put_named(out: &mut [u8], at: usize, name: &[u8], m: Option<Most>) -> usize
     requires { (at + 72 ≤ length out.old) × (length name.now ≤ 9) }
     ensures { Put out.old at (named_text name.now m) out.new result }
 {

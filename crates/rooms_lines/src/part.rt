@@ -42,13 +42,15 @@ fn counted(t: Tally, a: BlockRooms) -> Tally
     requires { Below 0xffff_ffff_ffff_ffff t }
     ensures { result ≡ Printed.counted t a }
 {
-    let refused = match a {
-        Ok(_) => t.refused,
-        Err(_) => t.refused + 1,
-    };
-    Tally {
-        blocks: t.blocks + 1,
-        refused,
+    match a {
+        Ok(_) => Tally {
+            blocks: t.blocks + 1,
+            refused: t.refused,
+        },
+        Err(_) => Tally {
+            blocks: t.blocks + 1,
+            refused: t.refused + 1,
+        },
     }
 }
 
