@@ -11,10 +11,10 @@ pub returns-in-None-b : goal.returns-in-None-b
 unfolding larger
 returns-in-None-b c = simp (c.in-None-b.is, c.in-Some.is)
 
-pub returns-then-count-count : goal.returns-then-count-count
+pub returns-then-s-t : goal.returns-then-s-t
 unfolding larger
-returns-then-count-count c = simp (c.in-Some-b.is, c.in-Some.is, lt-ltb _ _ c.if-count-count.true)
+returns-then-s-t c = simp (c.in-Some-b.is, c.in-Some.is, lt-ltb _ _ c.if-s-t.true)
 
-pub returns-else-count-count : goal.returns-else-count-count
+pub returns-else-s-t : goal.returns-else-s-t
 unfolding larger
-returns-else-count-count c = simp (c.in-Some-b.is, c.in-Some.is, le-ltb _ _ c.if-count-count.false)
+returns-else-s-t c = simp (c.in-Some-b.is, c.in-Some.is, le-ltb _ _ c.if-s-t.false)

@@ -8,4 +8,4 @@ returns-in-None c = simp c.in-None.is
 
 pub returns-in-Some : goal.returns-in-Some
 unfolding moved
-returns-in-Some c = simp (c.wrapping_add_u64.ensures.value, c.in-Some.is)
+returns-in-Some c = simp (c.seen_at.ensures, c.wrapping_add_u64.ensures.value, c.in-Some.is)
