@@ -4,6 +4,5 @@
 mod fractions;
 mod job;
 mod part;
-mod put;
 
 pub use part::{PART_SIZE, Printed, Tally, write_part};

@@ -1,9 +1,9 @@
-// Pieces of a line, each written from a place on; the answer is the place after it.
+// Pieces of a line for which there is room, each written from a place on; the answer is the place after it.
+#![tactic(auto)]
+
 ghost use Rattle.std.specs.Prelude.{◌+◌, ◌≤◌, length};
-ghost use Rattle.std.specs.Float.{binary32};
-ghost use Rattle.std.specs.Float.Ieee.{to_bits};
 ghost use Rattle.text.specs.Put.{Put, number, hex};
-ghost use Rattle.gaps_lines.specs.Pieces.{two};
+ghost use Rattle.pieces.specs.Two.{two};
 
 // A text as it stands.
 pub fn put(out: &mut [u8], at: usize, text: &[u8]) -> usize
@@ -26,14 +26,14 @@ pub fn put_two(out: &mut [u8], at: usize, a: u64, b: u64, end: u8) -> usize
     requires { at + 42 ≤ length out.old }
     ensures { Put out.old at (two a b end) out.new result }
 {
-    let e1 = put_number(out, at, a, b' ');
-    put_number(out, e1, b, end)
+    let first = put_number(out, at, a, b' ');
+    put_number(out, first, b, end)
 }
 
-// A float by its pattern in hexadecimal digits, any NaN as one, and a byte after it.
-pub fn put_float(out: &mut [u8], at: usize, x: f32, end: u8) -> usize
+// A word in eight hexadecimal digits, and a byte after it.
+pub fn put_hex(out: &mut [u8], at: usize, w: u32, end: u8) -> usize
     requires { at + 9 ≤ length out.old }
-    ensures { Put out.old at (hex (to_bits binary32 x) end) out.new result }
+    ensures { Put out.old at (hex w end) out.new result }
 {
-    text::put_hex(out, at, ground::to_bits(x), end)
+    text::put_hex(out, at, w, end)
 }
