@@ -14,11 +14,16 @@ use Rattle.model.specs.Text.{decimal, hex_float, line}
 use Rattle.model.specs.Work.{floats_at, move_at}
 use Rattle.text.specs.Put.{number}
 use Rattle.text.proofs.Lengths.{length-number, length-hex}
-use Rattle.pieces.specs.Two.{two}
-use Rattle.pieces.proofs.Two.{length_two}
 use Rattle.gaps_lines.specs.declared.part.Tally.{Tally}
 use Rattle.gaps_lines.specs.Gaps.{longest_line, gap_at, gap_fields, block_gaps, worked_line, line_by, total_line}
-use Rattle.gaps_lines.specs.Pieces.{gap_text, gap_texts, gaps_text, gaps_room, block_text}
+use Rattle.gaps_lines.specs.Pieces.{two, gap_text, gap_texts, gaps_text, gaps_room, block_text}
+
+pub two_is : (a b end : ℕ) → two a b end ≡ number a 32 ++ number b end
+unfolding two
+two_is a b end = refl
+
+pub length_two : (a b end : ℕ) → length (two a b end) ≤ 42
+length_two a b end = rw (two_is a b end, length-append (number a 32) (number b end)) (omega (arith, length-number a 32, length-number b end))
 
 -- ---- gaps, one more at a time
 module _ (outline_a : List Float) (wa : Sweep) (outline_b : List Float) (wb : Sweep) (most : Float) where

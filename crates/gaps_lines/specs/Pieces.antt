@@ -8,6 +8,9 @@ use Rattle.model.specs.Work.{floats_at, move_at}
 use Rattle.text.specs.Put.{number, hex}
 use Rattle.gaps_lines.specs.Gaps.{gap_at}
 
+unfoldable pub two : ℕ → ℕ → ℕ → List ℕ
+two a b end = number a 32 ++ number b end
+
 -- eight digits and a byte
 abbrev pub gap_room : ℕ
 gap_room = 9

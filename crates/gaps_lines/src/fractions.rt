@@ -1,11 +1,11 @@
 // The gaps at 257 fractions of two moves.
 ghost use Rattle.std.specs.Prelude.{◌≡◌, ◌+◌, ◌≤◌, length};
 ghost use Rattle.std.specs.Float.{binary32};
-ghost use Rattle.std.specs.Float.Ieee.{to_bits};
-ghost use Rattle.text.specs.Put.{Put, hex};
+ghost use Rattle.text.specs.Put.{Put};
 ghost use Rattle.gaps_lines.specs.Gaps as Gaps;
 ghost use Rattle.gaps_lines.specs.Pieces.{gap_room, gap_text, gaps_text, gaps_room};
 
+use crate::put::put_float;
 use at_fraction::gap;
 use model::Sweep;
 
@@ -14,14 +14,6 @@ fn fraction_at(most: f32, k: u16) -> f32
     ensures { result ≡ Gaps.fraction_at binary32 most k }
 {
     most * (k as f32 / 256.0)
-}
-
-// A float by its pattern in hexadecimal digits, any NaN as one, and a byte after it.
-fn put_float(out: &mut [u8], at: usize, x: f32, end: u8) -> usize
-    requires { at + 9 ≤ length out.old }
-    ensures { Put out.old at (hex (to_bits binary32 x) end) out.new result }
-{
-    pieces::put_hex(out, at, ground::to_bits(x), end)
 }
 
 // The gap there, and a byte after it.
@@ -59,8 +51,10 @@ pub fn put_gaps(
         out.new result }
 {
     let mut to = at;
-    for k in 0..256 {
+    let mut k: u16 = 0;
+    while k < 256 {
         to = put_gap(out, to, points_a, sweep_a, points_b, sweep_b, most, k, b' ');
+        k += 1;
     }
     put_gap(
         out, to, points_a, sweep_a, points_b, sweep_b, most, 256, b'\n',

@@ -10,9 +10,9 @@ ghost use Rattle.gaps_lines.specs.Gaps.{longest_line, worked_line};
 ghost use Rattle.gaps_lines.specs.Pieces.{gaps_room, block_text};
 
 use crate::fractions::put_gaps;
+use crate::put::{put, put_number, put_two};
 use block_floats::floats_at;
 use model::Sweep;
-use pieces::{put, put_number, put_two};
 
 // The move of the ten floats from a place on.
 fn move_from(bytes: &[u8], from: usize) -> Sweep

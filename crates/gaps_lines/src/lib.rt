@@ -4,5 +4,6 @@
 mod fractions;
 mod job;
 mod part;
+mod put;
 
 pub use part::{PART_SIZE, Printed, Tally, write_part};

@@ -2,8 +2,7 @@
 use native.Mathlib.Omega.{arith}
 use Rattle.text.proofs.Pasted.{put_then}
 use Rattle.text.proofs.Lengths.{ends}
-use Rattle.pieces.proofs.Two.{length_two}
-use Rattle.gaps_lines.proofs.Pieces.{refused-is}
+use Rattle.gaps_lines.proofs.Pieces.{length_two, refused-is}
 use borrow.Author.Rules.{rules}
 use Rattle.gaps_lines.proofs.job.put_refused.Goals as goal
 

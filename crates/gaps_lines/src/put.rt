@@ -1,0 +1,39 @@
+// Pieces of a line, each written from a place on; the answer is the place after it.
+ghost use Rattle.std.specs.Prelude.{◌+◌, ◌≤◌, length};
+ghost use Rattle.std.specs.Float.{binary32};
+ghost use Rattle.std.specs.Float.Ieee.{to_bits};
+ghost use Rattle.text.specs.Put.{Put, number, hex};
+ghost use Rattle.gaps_lines.specs.Pieces.{two};
+
+// A text as it stands.
+pub fn put(out: &mut [u8], at: usize, text: &[u8]) -> usize
+    requires { at + length text.now ≤ length out.old }
+    ensures { Put out.old at text.now out.new result }
+{
+    text::put_text(out, at, text)
+}
+
+// A number in decimal digits, and a byte after it.
+pub fn put_number(out: &mut [u8], at: usize, n: u64, end: u8) -> usize
+    requires { at + 21 ≤ length out.old }
+    ensures { Put out.old at (number n end) out.new result }
+{
+    text::put_number(out, at, n, end)
+}
+
+// Two numbers with a blank between, and a byte after them.
+pub fn put_two(out: &mut [u8], at: usize, a: u64, b: u64, end: u8) -> usize
+    requires { at + 42 ≤ length out.old }
+    ensures { Put out.old at (two a b end) out.new result }
+{
+    let e1 = put_number(out, at, a, b' ');
+    put_number(out, e1, b, end)
+}
+
+// A float by its pattern in hexadecimal digits, any NaN as one, and a byte after it.
+pub fn put_float(out: &mut [u8], at: usize, x: f32, end: u8) -> usize
+    requires { at + 9 ≤ length out.old }
+    ensures { Put out.old at (hex (to_bits binary32 x) end) out.new result }
+{
+    text::put_hex(out, at, ground::to_bits(x), end)
+}
