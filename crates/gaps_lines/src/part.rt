@@ -13,8 +13,8 @@ ghost use Rattle.gaps_lines.specs.Part.{Below, rest_line, rest_tally, text_for, 
 ghost use Rattle.gaps_lines.specs.Part as Part;
 
 use crate::job::{put_refused, put_worked};
+use crate::put::{put, put_two};
 use model::{BlockAnswer, COUNT_LIMIT};
-use pieces::{put, put_two};
 
 // So many bytes are a part: 24 blocks. A shorter one is the last.
 pub const PART_SIZE: usize = 12288;
@@ -80,7 +80,8 @@ fn write_block(bytes: &[u8], out: &mut [u8], lines: Lines) -> Lines
     }
 }
 
-// The lines of the whole blocks of a part, each from its own 512 bytes, with the tally carried on.
+// The lines of the whole blocks of a part, each from its own 512 bytes, with the tally carried on. One walk for all crates of lines would take each
+// crate's answers, lines and totals as a trait with a law for each step: that is longer than the loop.
 fn write_blocks(part: &[u8], out: &mut [u8], t: Tally) -> Lines
     requires { (longest_line * (length part.now / block_size) ≤ length out.old) × Below count_limit t }
     ensures put { Put out.old 0
