@@ -22,11 +22,9 @@ use Rattle.model.specs.declared.SweepAnswer.{SweepAnswer}
 use Rattle.model.specs.declared.SweepAnswer.TheVariants as SweepAnswer
 use Rattle.model.specs.declared.Swept.{Swept}
 use Rattle.model.specs.declared.Verdict.{Verdict}
-use Rattle.model.specs.declared.Outcome.{Outcome}
-use Rattle.model.specs.declared.Outcome.TheVariants as Outcome
-use Rattle.model.specs.declared.BlockAnswer.{BlockAnswer}
-use Rattle.model.specs.declared.BlockAnswer.TheVariants as BlockAnswer
 use Rattle.model.specs.declared.Refusal.{Refusal}
+use Rattle.model.specs.declared.Worked.{Worked}
+use Rattle.model.specs.Work.{BlockAnswer}
 use Rattle.model64.specs.declared.Vector.{Vector as Vector64}
 use Rattle.model64.specs.declared.Rotation.{Rotation as Rotation64}
 use Rattle.model64.specs.declared.Pose.{Pose as Pose64}
@@ -49,10 +47,8 @@ use Rattle.model64.specs.declared.SweepAnswer.{SweepAnswer as SweepAnswer64}
 use Rattle.model64.specs.declared.SweepAnswer.TheVariants as SweepAnswer64
 use Rattle.model64.specs.declared.Swept.{Swept as Swept64}
 use Rattle.model64.specs.declared.Verdict.{Verdict as Verdict64}
-use Rattle.model64.specs.declared.Outcome.{Outcome as Outcome64}
-use Rattle.model64.specs.declared.Outcome.TheVariants as Outcome64
-use Rattle.model64.specs.declared.BlockAnswer.{BlockAnswer as BlockAnswer64}
-use Rattle.model64.specs.declared.BlockAnswer.TheVariants as BlockAnswer64
+use Rattle.model64.specs.declared.Worked.{Worked as Worked64}
+use Rattle.model64.specs.Work.{BlockAnswer as BlockAnswer64}
 
 abbrev pub vector64 : Vector → Vector64
 vector64 v = record { x = v.x; y = v.y }
@@ -157,10 +153,13 @@ swept64 x = record { answer = sweep_answer64 x.answer; corners = x.corners }
 abbrev pub verdict64 : Verdict → Verdict64
 verdict64 v = record { status = v.status; contact = contact64 v.contact; counts = v.counts; corners = v.corners }
 
-abbrev pub outcome64 : Outcome → Outcome64
-outcome64 (Outcome.Found v) = Outcome64.Found (verdict64 v)
-outcome64 (Outcome.Refused number) = Outcome64.Refused number
+abbrev pub outcome64 : Result Verdict Refusal → Result Verdict64 Refusal
+outcome64 (Ok v) = Ok (verdict64 v)
+outcome64 (Err r) = Err r
+
+abbrev pub worked64 : Worked → Worked64
+worked64 w = record { job = w.job; verdict = verdict64 w.verdict }
 
 abbrev pub block_answer64 : BlockAnswer → BlockAnswer64
-block_answer64 (BlockAnswer.Worked job v) = BlockAnswer64.Worked job (verdict64 v)
-block_answer64 (BlockAnswer.Refused job number) = BlockAnswer64.Refused job number
+block_answer64 (Ok w) = Ok (worked64 w)
+block_answer64 (Err r) = Err r

@@ -1,4 +1,5 @@
 -- What the calls over lists of `list_calls64` answer and leave is what those of `list_calls` do, at every format. Assumes nothing.
+use Rattle.std.proofs.Common.{Result, Ok, Err}
 use Prim.Native.Nat.{ℕ}
 use mathlib.Core.Bool.{cond}
 use mathlib.Core.List.{List}
@@ -9,9 +10,9 @@ use Rattle.std.proofs.Common.{Result, Ok, Err}
 use Rattle.model.specs.declared.Contact.{Contact}
 use Rattle.model.specs.declared.SimplexCache.{SimplexCache}
 use Rattle.model.specs.declared.Distance.{Distance}
-use Rattle.model.specs.declared.Outcome.{Outcome}
 use Rattle.model.specs.declared.Refusal.{Refusal}
 use Rattle.model.specs.declared.ProxyDistanceOutput.{ProxyDistanceOutput}
+use Rattle.model.specs.declared.Verdict.{Verdict}
 use Rattle.model.specs.Support.{point}
 use Rattle.model.specs.Work.{sweep_for}
 use Rattle.list_calls.specs.Entry as E
@@ -27,23 +28,23 @@ pub contact-in-same : (c : Contact) (out : List Float) → E64.contact_in (conta
 contact-in-same c out = refl
 
 -- ---- the sweep
-number_same : (x : Outcome) → E64.sweep_number (outcome64 x) ≡ E.sweep_number x
-number_same (Outcome.Found v) = refl
-number_same (Outcome.Refused k) = refl
+number_same : (x : Result Verdict Refusal) → E64.sweep_number (outcome64 x) ≡ E.sweep_number x
+number_same (Ok v) = refl
+number_same (Err r) = refl
 
-contact-after-same : (x : Outcome) (out : List Float) → E64.contact_after (outcome64 x) out ≡ E.contact_after x out
-contact-after-same (Outcome.Found v) out = refl
-contact-after-same (Outcome.Refused k) out = refl
+contact-after-same : (x : Result Verdict Refusal) (out : List Float) → E64.contact_after (outcome64 x) out ≡ E.contact_after x out
+contact-after-same (Ok v) out = refl
+contact-after-same (Err r) out = refl
 
-counts-after-same : (x : Outcome) (counts : List ℕ) → E64.counts_after (outcome64 x) counts ≡ E.counts_after x counts
-counts-after-same (Outcome.Found v) counts = refl
-counts-after-same (Outcome.Refused k) counts = refl
+counts-after-same : (x : Result Verdict Refusal) (counts : List ℕ) → E64.counts_after (outcome64 x) counts ≡ E.counts_after x counts
+counts-after-same (Ok v) counts = refl
+counts-after-same (Err r) counts = refl
 
 module _ (f : Format) (a b ns out : List Float) (counts : List ℕ) where
   called_same : E64.sweep_call f a b ns ≡ outcome64 (E.sweep_call f a b ns)
   called_same = rw (sweep-for-same f a b ns) (told-swept-same f (sweep_for f a b ns))
 
-  abbrev x : Outcome
+  abbrev x : Result Verdict Refusal
   x = E.sweep_call f a b ns
 
   number-there : cond (E.sweep_fits ns out counts) (E64.sweep_number (E64.sweep_call f a b ns)) 255 ≡ cond (E.sweep_fits ns out counts) (E.sweep_number x) 255

@@ -1,4 +1,5 @@
 -- The answers of the sweep and of the distance call, told. Assumes nothing.
+use Rattle.std.proofs.Common.{Result}
 use mathlib.Core.Path.{◌≡◌, refl}
 use mathlib.Core.Bool.{Bool, true, false, ◌&&◌}
 use mathlib.Core.List.{List}
@@ -9,7 +10,8 @@ use lib.Dec.{eqb, ltb}
 use lib.ListN.{length, get_or}
 use lib.Ieee.{Float, binary32}
 use Rattle.std.proofs.Common.{Result, Ok, Err}
-use Rattle.model.specs.declared.Outcome.{Outcome}
+use Rattle.model.specs.declared.Verdict.{Verdict}
+use Rattle.model.specs.declared.Refusal.{Refusal}
 use Rattle.model.specs.declared.SimplexCache.{SimplexCache}
 use Rattle.model.specs.declared.Ending.{Ending}
 use Rattle.model.specs.declared.Ending.TheVariants.{Touching, Settled, RoundLimit}
@@ -29,7 +31,7 @@ module _ (ns out : List Float) (counts : List ℕ) where
       (eqb-true _ _ first.0, eqb-true _ _ first.1, eqb-true _ _ last.1)
 
   module _ (a b : List Float) where
-    pub sweep-told : (x : Outcome) (out' : List Float) (counts' : List ℕ) (r : ℕ) → sweep_fits ns out counts ≡ true → x ≡ sweep_call binary32 a b ns →
+    pub sweep-told : (x : Result Verdict Refusal) (out' : List Float) (counts' : List ℕ) (r : ℕ) → sweep_fits ns out counts ≡ true → x ≡ sweep_call binary32 a b ns →
         (r ≡ sweep_number x) × (out' ≡ contact_after x out) × (counts' ≡ counts_after x counts) → SweepTold binary32 a b ns out counts out' counts' r
     sweep-told x out' counts' r fits is told =
         record { number = rw (fits, ← is) told.0; contact = rw (fits, ← is) told.1; counted = rw (fits, ← is) told.2 }

@@ -12,8 +12,7 @@ use Rattle.model.specs.declared.Contact.{Contact}
 use Rattle.model.specs.declared.Corners.{Corners}
 use Rattle.model.specs.declared.Status.{Status}
 use Rattle.model.specs.declared.Status.TheVariants.{Overlapped, Hit, Separated, Failed}
-use Rattle.model.specs.declared.Outcome.{Outcome}
-use Rattle.model.specs.declared.Outcome.TheVariants.{Found, Refused}
+use Rattle.model.specs.declared.Verdict.{Verdict}
 use Rattle.model.specs.declared.Refusal.{Refusal}
 use Rattle.model.specs.Ground.{pose}
 use Rattle.model.specs.Support.{point}
@@ -21,7 +20,7 @@ use Rattle.model.specs.Distance.{cache, proxy_distance}
 use Rattle.model.specs.Work.{turn, sweep_for, told}
 
 -- ---- the sweep
-abbrev pub sweep_call : Format → List Float → List Float → List Float → Outcome
+abbrev pub sweep_call : Format → List Float → List Float → List Float → Result Verdict Refusal
 sweep_call f a b ns = told f (sweep_for f a b ns)
 
 abbrev pub status_number : Status → ℕ
@@ -30,9 +29,9 @@ status_number Hit = 17
 status_number Separated = 18
 status_number Failed = 19
 
-abbrev pub sweep_number : Outcome → ℕ
-sweep_number (Found v) = status_number v.status
-sweep_number (Refused k) = k
+abbrev pub sweep_number : Result Verdict Refusal → ℕ
+sweep_number (Ok v) = status_number v.status
+sweep_number (Err r) = r.number
 
 abbrev pub contact_floats : Contact → List Float
 contact_floats c = c.fraction ∷ c.point.x ∷ c.point.y ∷ c.normal.x ∷ c.normal.y ∷ []
@@ -42,18 +41,18 @@ abbrev pub contact_in : Contact → List Float → List Float
 contact_in c out = cond (eqb (length out) 5) (contact_floats c) out
 
 -- a refusal leaves the list
-abbrev pub contact_after : Outcome → List Float → List Float
-contact_after (Found v) out = contact_floats v.contact
-contact_after (Refused k) out = out
+abbrev pub contact_after : Result Verdict Refusal → List Float → List Float
+contact_after (Ok v) out = contact_floats v.contact
+contact_after (Err r) out = out
 
 -- and of the last search the corners of A and of B, first and second
 abbrev pub counts_words : Counts → Corners → List ℕ
 counts_words n k =
     n.distance_calls ∷ n.searches ∷ n.root_steps ∷ k.a.first ∷ k.a.second ∷ k.b.first ∷ k.b.second ∷ []
 
-abbrev pub counts_after : Outcome → List ℕ → List ℕ
-counts_after (Found v) out = counts_words v.counts v.corners
-counts_after (Refused k) out = out
+abbrev pub counts_after : Result Verdict Refusal → List ℕ → List ℕ
+counts_after (Ok v) out = counts_words v.counts v.corners
+counts_after (Err r) out = out
 
 abbrev pub sweep_fits : List Float → List Float → List ℕ → Bool
 sweep_fits ns out counts = eqb (length ns) 24 && eqb (length out) 5 && eqb (length counts) 7

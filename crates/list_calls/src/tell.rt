@@ -4,7 +4,7 @@ ghost use Rattle.list_calls.specs.Entry.{contact_floats, contact_in, counts_word
 ghost use Rattle.list_calls.specs.Entry.{output_number, output_floats, cache_words, rounds_of, distance_number, output_after, cache_after};
 
 use model::{
-    Contact, Corners, Counts, Distance, Ending, Outcome, ProxyDistanceOutput, SimplexCache, Status,
+    Contact, Corners, Counts, Distance, Ending, ProxyDistanceOutput, Refusal, SimplexCache, Status,
     Verdict,
 };
 
@@ -68,13 +68,13 @@ fn put_verdict(out: &mut [f32], counts: &mut [u32], v: Verdict) -> u32
 }
 
 // A refusal writes nothing.
-pub fn tell_sweep(x: Outcome, out: &mut [f32], counts: &mut [u32]) -> u32
+pub fn tell_sweep(x: Result<Verdict, Refusal>, out: &mut [f32], counts: &mut [u32]) -> u32
     requires { (length out.old ≡ 5) × (length counts.old ≡ 7) }
     ensures { (result ≡ sweep_number x) × (out.new ≡ contact_after x out.old) × (counts.new ≡ counts_after x counts.old) }
 {
     match x {
-        Outcome::Found(verdict) => put_verdict(out, counts, verdict),
-        Outcome::Refused(number) => number,
+        Ok(verdict) => put_verdict(out, counts, verdict),
+        Err(refusal) => refusal.number,
     }
 }
 

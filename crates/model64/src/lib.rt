@@ -1,6 +1,6 @@
 // Written by tests/written/wide.py from model, in f64.
 // The records of model that hold floats, in f64. The others are model's.
-use model::{Corners, Counts, Ending, Refusal, SeparationType, SimplexCache, Status};
+use model::{BlockRefusal, Corners, Counts, Ending, Refusal, SeparationType, SimplexCache, Status};
 
 // A point or a direction of the plane.
 #[derive(Clone, Copy)]
@@ -181,16 +181,12 @@ pub struct Verdict {
     pub corners: Corners,
 }
 
-// What a sweep's answer comes to: a verdict, or the number of its refusal.
+// A worked block: its job, and what it tells.
 #[derive(Clone, Copy)]
-pub enum Outcome {
-    Found(Verdict),
-    Refused(u32),
+pub struct Worked {
+    pub job: u32,
+    pub verdict: Verdict,
 }
 
 // What a block comes to: its job with the verdict; or the job and the number of a refusal, whichever of 3 to 11 or 13 it is.
-#[derive(Clone, Copy)]
-pub enum BlockAnswer {
-    Worked(u32, Verdict),
-    Refused(u32, u32),
-}
+pub type BlockAnswer = Result<Worked, BlockRefusal>;

@@ -15,7 +15,6 @@ use Rattle.model.specs.declared.SweepTask.{SweepTask}
 use Rattle.model.specs.declared.Closest.{Closest}
 use Rattle.model.specs.declared.SweepAnswer.{SweepAnswer}
 use Rattle.model.specs.declared.SweepAnswer.TheVariants as Swept
-use Rattle.model.specs.declared.BlockAnswer.TheVariants as Answer
 use Rattle.model.specs.Root.{root}
 use Rattle.model.specs.Ground.{vector, rotation, pose, abs}
 use Rattle.model.specs.Support.{support_from}
@@ -30,6 +29,7 @@ use Rattle.model.specs.Corners.{corners_a}
 use Rattle.model.specs.Blocks.{whole_blocks, blocks}
 use Rattle.model.specs.Sheet.{answers}
 use Rattle.model.specs.Work.{move_at}
+use Rattle.model.specs.Block.{refused}
 use Rattle.slips.proofs.Ground.{n0, n1, n2, n3, n4, n5, -n1, bits, both}
 use Rattle.slips.proofs.Geometry as Geometry
 
@@ -181,7 +181,7 @@ one-repeat-too-few = refl
 
 -- ---- a block's work
 -- a short block is refused by 9, in a sheet and in a report
-pub short-rest-as-10 : answers binary32 (1 ∷ []) ≡ Answer.Refused 0 9 ∷ []
+pub short-rest-as-10 : answers binary32 (1 ∷ []) ≡ refused 0 9 ∷ []
 unfolding answers blocks whole_blocks
 short-rest-as-10 = refl
 
