@@ -5,7 +5,7 @@ ghost use Rattle.model.specs.Block.{block_size};
 ghost use Rattle.model.specs.Sheet.{answer_line, whole_answers, rest_answer, lines_from, totals_from};
 ghost use Rattle.model.specs.Sheet as Sheet;
 ghost use Rattle.text.specs.Put.{Put};
-ghost use Rattle.text.specs.Written.{Room, written};
+ghost use Rattle.text.specs.Written.{Room, Wrote};
 ghost use Rattle.model.specs.Parts.{count_limit};
 ghost use Rattle.sheet_lines.specs.Part.{Below, longest_line, line_for, text_for, totals_for, last_for};
 ghost use Rattle.sheet_lines.specs.Part as Part;
@@ -41,7 +41,8 @@ pub fn write_line(n: u64, answer: BlockAnswer, out: &mut [u8]) -> usize
 // The line of one answer more, whose number follows those counted before, and the totals after it.
 fn write_answer(page: &mut Page<'_>, t: Totals, answer: BlockAnswer) -> Totals
     requires { Room longest_line page.old × Below 0xffff_ffff_ffff_ffff t }
-    ensures { (page.new ≡ written page.old (answer_line binary32 (t.blocks + 1) answer)) × (result ≡ Sheet.counted t answer) }
+    ensures line { Wrote longest_line page.old (answer_line binary32 (t.blocks + 1) answer) page.new }
+    ensures totals_value { result ≡ Sheet.counted t answer }
 {
     put_answer(page, t.blocks + 1, answer);
     counted(t, answer)
@@ -50,9 +51,10 @@ fn write_answer(page: &mut Page<'_>, t: Totals, answer: BlockAnswer) -> Totals
 // The lines of the whole blocks of a part, each from its own 512 bytes, with the totals carried on.
 fn write_blocks(part: &[u8], page: &mut Page<'_>, t: Totals) -> Totals
     requires { Room (longest_line * (length part.now / block_size)) page.old × Below count_limit t }
-    ensures text { page.new ≡ written page.old (lines_from binary32 t.blocks (whole_answers binary32 (length part.now / block_size) part.now)) }
-    ensures totals { result ≡ totals_from t (whole_answers binary32 (length part.now / block_size) part.now) }
-    ensures bound { (page.new.at ≤ page.old.at + longest_line * (length part.now / block_size)) × Below (count_limit + length part.now / block_size) result }
+    ensures lines { Wrote (longest_line * (length part.now / block_size)) page.old
+        (lines_from binary32 t.blocks (whole_answers binary32 (length part.now / block_size) part.now)) page.new }
+    ensures totals_value { result ≡ totals_from t (whole_answers binary32 (length part.now / block_size) part.now) }
+    ensures bound { Below (count_limit + length part.now / block_size) result }
 {
     let k = part.len() / 512;
     let mut totals = t;
@@ -67,8 +69,8 @@ fn write_blocks(part: &[u8], page: &mut Page<'_>, t: Totals) -> Totals
 // The line of a rest of fewer bytes than a block, where there is one.
 fn write_rest(page: &mut Page<'_>, t: Totals, rest: usize) -> Totals
     requires { Room longest_line page.old × Below 0xffff_ffff_ffff_ffff t }
-    ensures { (page.new ≡ written page.old (lines_from binary32 t.blocks (rest_answer rest)))
-        × (result ≡ totals_from t (rest_answer rest)) }
+    ensures lines { Wrote longest_line page.old (lines_from binary32 t.blocks (rest_answer rest)) page.new }
+    ensures totals_value { result ≡ totals_from t (rest_answer rest) }
 {
     if rest == 0 {
         return t;
@@ -100,13 +102,17 @@ pub fn write_part(part: &[u8], out: &mut [u8], t: Totals) -> Written
     let mut page = Page { bytes: out, at: 0 };
     let blocks = write_blocks(part, &mut page, t);
     let totals = write_rest(&mut page, blocks, part.len() % 512);
-    let last = part.len() < PART_SIZE;
-    if last {
+    if part.len() < PART_SIZE {
         put_total(&mut page, totals);
+        return Written {
+            at: page.at,
+            totals,
+            last: true,
+        };
     }
     Written {
         at: page.at,
         totals,
-        last,
+        last: false,
     }
 }

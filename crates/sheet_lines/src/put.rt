@@ -1,6 +1,5 @@
 // Pieces of a line.
-ghost use Rattle.std.specs.Prelude.{◌≡◌};
-ghost use Rattle.text.specs.Written.{Room, written};
+ghost use Rattle.text.specs.Written.{Room, Wrote};
 ghost use Rattle.sheet_lines.specs.Pieces.{three, corner, pair_text, corners_text};
 
 use model::{Corners, NO_CORNER, SupportPair};
@@ -9,7 +8,7 @@ use text::Page;
 // Three numbers with a blank between, and a byte after them.
 pub fn put_three(page: &mut Page<'_>, a: u64, b: u64, c: u64, end: u8)
     requires { Room 63 page.old }
-    ensures { page.new ≡ written page.old (three a b c end) }
+    ensures { Wrote 63 page.old (three a b c end) page.new }
 {
     page.put_number(a, b' ');
     page.put_number(b, b' ');
@@ -19,19 +18,19 @@ pub fn put_three(page: &mut Page<'_>, a: u64, b: u64, c: u64, end: u8)
 // The number of a corner, or - where there is none, and a byte after it.
 fn put_corner(page: &mut Page<'_>, i: u32, end: u8)
     requires { Room 21 page.old }
-    ensures { page.new ≡ written page.old (corner i end) }
+    ensures { Wrote 21 page.old (corner i end) page.new }
 {
     if i == NO_CORNER {
         page.put(&[b'-', end]);
-    } else {
-        page.put_number(i as u64, end);
+        return;
     }
+    page.put_number(i as u64, end);
 }
 
 // Both corners of a side, and a byte after them.
 fn put_pair(page: &mut Page<'_>, p: SupportPair, end: u8)
     requires { Room 42 page.old }
-    ensures { page.new ≡ written page.old (pair_text p end) }
+    ensures { Wrote 42 page.old (pair_text p end) page.new }
 {
     put_corner(page, p.first, b' ');
     put_corner(page, p.second, end);
@@ -40,7 +39,7 @@ fn put_pair(page: &mut Page<'_>, p: SupportPair, end: u8)
 // The corners of A and of B, and a newline.
 pub fn put_corners(page: &mut Page<'_>, k: Corners)
     requires { Room 84 page.old }
-    ensures { page.new ≡ written page.old (corners_text k) }
+    ensures { Wrote 84 page.old (corners_text k) page.new }
 {
     put_pair(page, k.a, b' ');
     put_pair(page, k.b, b'\n');

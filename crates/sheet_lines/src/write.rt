@@ -1,8 +1,7 @@
 // Whole lines: an answer's, and the last.
-ghost use Rattle.std.specs.Prelude.{◌≡◌};
 ghost use Rattle.std.specs.Float.{binary32};
 ghost use Rattle.model.specs.Sheet.{worked_line, answer_line, total_line};
-ghost use Rattle.text.specs.Written.{Room, written};
+ghost use Rattle.text.specs.Written.{Room, Wrote};
 ghost use Rattle.sheet_lines.specs.Part.{longest_line};
 
 use crate::put::{put_corners, put_three};
@@ -12,7 +11,7 @@ use text::Page;
 
 fn put_worked(page: &mut Page<'_>, n: u64, job: u32, v: Verdict)
     requires { Room longest_line page.old }
-    ensures { page.new ≡ written page.old (worked_line binary32 n job v) }
+    ensures { Wrote longest_line page.old (worked_line binary32 n job v) page.new }
 {
     page.put_number(n, b' ');
     page.put_number(job as u64, b' ');
@@ -31,7 +30,7 @@ fn put_worked(page: &mut Page<'_>, n: u64, job: u32, v: Verdict)
 // The line of block n.
 pub fn put_answer(page: &mut Page<'_>, n: u64, answer: BlockAnswer)
     requires { Room longest_line page.old }
-    ensures { page.new ≡ written page.old (answer_line binary32 n answer) }
+    ensures { Wrote longest_line page.old (answer_line binary32 n answer) page.new }
 {
     match answer {
         BlockAnswer::Worked(job, verdict) => put_worked(page, n, job, verdict),
@@ -42,7 +41,7 @@ pub fn put_answer(page: &mut Page<'_>, n: u64, answer: BlockAnswer)
 // The last line.
 pub fn put_total(page: &mut Page<'_>, t: Totals)
     requires { Room longest_line page.old }
-    ensures { page.new ≡ written page.old (total_line t) }
+    ensures { Wrote longest_line page.old (total_line t) page.new }
 {
     page.put(b"TOTAL ");
     page.put_number(t.blocks, b' ');

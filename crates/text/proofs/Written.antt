@@ -21,6 +21,13 @@ pub put-of : {n : ℕ} {p p' : Page} {s : List ℕ} → Wrote n p s p' → Put p
 unfolding written
 put-of w = rw w.page record { place = refl; bytes = refl }
 
+pub wrote-most : {m n : ℕ} {p p' : Page} {s : List ℕ} → m ≤ n → Wrote m p s p' → Wrote n p s p'
+wrote-most le w = record { page = w.page; same = w.same; most = omega (arith, w.most); size = w.size }
+
+-- what the bytes lent for a page hold once it is let go
+pub left : {n : ℕ} {p p' : Page} {s d : List ℕ} → Wrote n p s p' → d ≡ p'.bytes.now → Put p.bytes.now p.at s d p'.at
+left w e = rw e (put-of w)
+
 -- no piece
 pub wrote-nothing : (n : ℕ) (p : Page) → Wrote n p [] p
 unfolding written
