@@ -8,7 +8,7 @@ ghost use Rattle.text.specs.Written.{Room, Wrote};
 ghost use Rattle.fields.specs.Floats.{float_room, contact_room, hex_of, floats};
 
 use model::{Contact, Status};
-use text::Page;
+use text::Draft;
 
 // Five floats, each with the blank after it.
 const CONTACT_ROOM: usize = 45;
@@ -25,32 +25,32 @@ pub fn letter_of(status: Status) -> u8
 }
 
 // A float by its pattern in hexadecimal digits, any NaN as one, and a blank.
-fn put_float(page: &mut Page<'_>, x: f32)
-    requires { Room float_room page.old }
-    ensures { Wrote float_room page.old (hex_of x) page.new }
+fn put_float(draft: &mut Draft<'_>, x: f32)
+    requires { Room float_room draft.old }
+    ensures { Wrote float_room draft.old (hex_of x) draft.new }
 {
-    page.put_hex(ground::to_bits(x), b' ');
+    draft.put_hex(ground::to_bits(x), b' ');
 }
 
 // The floats of a contact, and a blank after each.
-fn put_floats(page: &mut Page<'_>, c: Contact)
-    requires { Room contact_room page.old }
-    ensures { Wrote contact_room page.old (floats c) page.new }
+fn put_floats(draft: &mut Draft<'_>, c: Contact)
+    requires { Room contact_room draft.old }
+    ensures { Wrote contact_room draft.old (floats c) draft.new }
 {
-    put_float(page, c.fraction);
-    put_float(page, c.point.x);
-    put_float(page, c.point.y);
-    put_float(page, c.normal.x);
-    put_float(page, c.normal.y);
+    put_float(draft, c.fraction);
+    put_float(draft, c.point.x);
+    put_float(draft, c.point.y);
+    put_float(draft, c.normal.x);
+    put_float(draft, c.normal.y);
 }
 
 // The same, where there is room for them; else nothing is written, and the place stays.
-pub fn put_contact(page: &mut Page<'_>, c: Contact)
-    ensures { Wrote contact_room page.old
-        (where_room (page.old.at + contact_room) (length page.old.bytes.now) (floats c)) page.new }
+pub fn put_contact(draft: &mut Draft<'_>, c: Contact)
+    ensures { Wrote contact_room draft.old
+        (where_room (draft.old.at + contact_room) (length draft.old.bytes.now) (floats c)) draft.new }
 {
-    if page.lacks(CONTACT_ROOM) {
+    if draft.lacks(CONTACT_ROOM) {
         return;
     }
-    put_floats(page, c);
+    put_floats(draft, c);
 }

@@ -1,12 +1,12 @@
 -- Lines one after the other, what there is room for, and that no count overflows. Assumes nothing.
 use mathlib.Core.Path.{◌≡◌, ◌∙◌}
-use mathlib.Core.Bool.{Bool, true, false, ◌&&◌, cond}
+use mathlib.Core.Bool.{true, ◌&&◌}
 use mathlib.Core.List.{List, [], ◌∷◌, ◌++◌, append-nil}
 use Prim.Native.Nat.{ℕ, ◌+◌, ◌*◌, ◌/◌, ◌%◌, ◌≤◌}
 use native.Mathlib.Omega.{arith}
 use native.Mathlib.Numerals.{add-one}
 use borrow.Author.Tests.{ltb-true, leb-true}
-use lib.Dec.{eqb, ltb, leb}
+use lib.Dec.{ltb, leb}
 use lib.Ieee.{binary32}
 use lib.ListN.{length, take, drop}
 use Rattle.model.specs.declared.Status.{Status}
@@ -18,7 +18,7 @@ use Rattle.model.specs.Work.{block_answer}
 use Rattle.model.specs.Sheet.{whole_answers, rest_answer, answers, answer_line, lines_from, one_worked, counted, totals_from}
 use Rattle.model.proofs.DistanceCall.{both}
 use Rattle.model.proofs.Sheet.{lines-append, totals-append, blocks-counted, answers-more, answers-cut}
-use Rattle.text.specs.declared.page.Page.{Page}
+use Rattle.text.specs.declared.draft.Draft.{Draft}
 use Rattle.text.specs.Written.{Wrote}
 use Rattle.model.specs.Parts.{count_limit}
 use Rattle.sheet_lines.specs.Part.{Below, countable, fits, longest_line}
@@ -123,7 +123,7 @@ module _ (t₀ t : Totals) (b : List ℕ) (i n : ℕ) (whole : n ≡ 512) (so_fa
   number : t.blocks ≡ t₀.blocks + length (whole_answers binary32 i b)
   number = rw so_far (blocks-counted t₀ (whole_answers binary32 i b))
 
-  pub line_step : {k m : ℕ} {p₀ p p' : Page} → p₀.at ≤ length p₀.bytes.now → Wrote k p₀ (lines_from binary32 t₀.blocks (whole_answers binary32 i b)) p
+  pub line_step : {k m : ℕ} {p₀ p p' : Draft} → p₀.at ≤ length p₀.bytes.now → Wrote k p₀ (lines_from binary32 t₀.blocks (whole_answers binary32 i b)) p
       → Wrote m p (answer_line binary32 (t.blocks + 1) x) p' → Wrote (k + m) p₀ (lines_from binary32 t₀.blocks (whole_answers binary32 (i + 1) b)) p'
   unfolding lines_from
   line_step inside v w =
@@ -136,7 +136,7 @@ module _ (t₀ t : Totals) (b : List ℕ) (i n : ℕ) (whole : n ≡ 512) (so_fa
 
 -- ---- the blocks and the rest are the answers of the part
 module _ (t₀ t : Totals) (b : List ℕ) (so_far : t ≡ totals_from t₀ (whole_answers binary32 (length b / 512) b)) where
-  pub all_lines : {k m : ℕ} {p₀ p p' : Page} → p₀.at ≤ length p₀.bytes.now
+  pub all_lines : {k m : ℕ} {p₀ p p' : Draft} → p₀.at ≤ length p₀.bytes.now
       → Wrote k p₀ (lines_from binary32 t₀.blocks (whole_answers binary32 (length b / 512) b)) p
       → Wrote m p (lines_from binary32 t.blocks (rest_answer (length b % 512))) p' → Wrote (k + m) p₀ (lines_from binary32 t₀.blocks (answers binary32 b)) p'
   all_lines inside v w =

@@ -13,7 +13,7 @@ ghost use Rattle.sheet_lines.specs.Part as Part;
 use crate::answer::{countable, counted};
 use crate::write::{put_answer, put_total};
 use model::{BlockAnswer, PART_SIZE, Totals};
-use text::Page;
+use text::Draft;
 
 // No line is longer.
 const LONGEST_LINE: usize = 240;
@@ -33,26 +33,26 @@ pub fn write_line(n: u64, answer: BlockAnswer, out: &mut [u8]) -> usize
     if out.len() < LONGEST_LINE {
         return 0;
     }
-    let mut page = Page { bytes: out, at: 0 };
-    put_answer(&mut page, n, answer);
-    page.at
+    let mut draft = Draft { bytes: out, at: 0 };
+    put_answer(&mut draft, n, answer);
+    draft.at
 }
 
 // The line of one answer more, whose number follows those counted before, and the totals after it.
-fn write_answer(page: &mut Page<'_>, t: Totals, answer: BlockAnswer) -> Totals
-    requires { Room longest_line page.old × Below 0xffff_ffff_ffff_ffff t }
-    ensures line { Wrote longest_line page.old (answer_line binary32 (t.blocks + 1) answer) page.new }
+fn write_answer(draft: &mut Draft<'_>, t: Totals, answer: BlockAnswer) -> Totals
+    requires { Room longest_line draft.old × Below 0xffff_ffff_ffff_ffff t }
+    ensures line { Wrote longest_line draft.old (answer_line binary32 (t.blocks + 1) answer) draft.new }
     ensures totals_value { result ≡ Sheet.counted t answer }
 {
-    put_answer(page, t.blocks + 1, answer);
+    put_answer(draft, t.blocks + 1, answer);
     counted(t, answer)
 }
 
 // The lines of the whole blocks of a part, each from its own 512 bytes, with the totals carried on.
-fn write_blocks(part: &[u8], page: &mut Page<'_>, t: Totals) -> Totals
-    requires { Room (longest_line * (length part.now / block_size)) page.old × Below count_limit t }
-    ensures lines { Wrote (longest_line * (length part.now / block_size)) page.old
-        (lines_from binary32 t.blocks (whole_answers binary32 (length part.now / block_size) part.now)) page.new }
+fn write_blocks(part: &[u8], draft: &mut Draft<'_>, t: Totals) -> Totals
+    requires { Room (longest_line * (length part.now / block_size)) draft.old × Below count_limit t }
+    ensures lines { Wrote (longest_line * (length part.now / block_size)) draft.old
+        (lines_from binary32 t.blocks (whole_answers binary32 (length part.now / block_size) part.now)) draft.new }
     ensures totals_value { result ≡ totals_from t (whole_answers binary32 (length part.now / block_size) part.now) }
     ensures bound { Below (count_limit + length part.now / block_size) result }
 {
@@ -61,21 +61,21 @@ fn write_blocks(part: &[u8], page: &mut Page<'_>, t: Totals) -> Totals
     for i in 0..k {
         let from = 512 * i;
         let answer = work::answer_block(&part[from..from + 512]);
-        totals = write_answer(page, totals, answer);
+        totals = write_answer(draft, totals, answer);
     }
     totals
 }
 
 // The line of a rest of fewer bytes than a block, where there is one.
-fn write_rest(page: &mut Page<'_>, t: Totals, rest: usize) -> Totals
-    requires { Room longest_line page.old × Below 0xffff_ffff_ffff_ffff t }
-    ensures lines { Wrote longest_line page.old (lines_from binary32 t.blocks (rest_answer rest)) page.new }
+fn write_rest(draft: &mut Draft<'_>, t: Totals, rest: usize) -> Totals
+    requires { Room longest_line draft.old × Below 0xffff_ffff_ffff_ffff t }
+    ensures lines { Wrote longest_line draft.old (lines_from binary32 t.blocks (rest_answer rest)) draft.new }
     ensures totals_value { result ≡ totals_from t (rest_answer rest) }
 {
     if rest == 0 {
         return t;
     }
-    write_answer(page, t, BlockAnswer::Refused(0, 9))
+    write_answer(draft, t, BlockAnswer::Refused(0, 9))
 }
 
 // Whether there is room for a line of each block, of a rest and of the totals, and the totals can be counted on.
@@ -99,19 +99,19 @@ pub fn write_part(part: &[u8], out: &mut [u8], t: Totals) -> Written
             last: true,
         };
     }
-    let mut page = Page { bytes: out, at: 0 };
-    let blocks = write_blocks(part, &mut page, t);
-    let totals = write_rest(&mut page, blocks, part.len() % 512);
+    let mut draft = Draft { bytes: out, at: 0 };
+    let blocks = write_blocks(part, &mut draft, t);
+    let totals = write_rest(&mut draft, blocks, part.len() % 512);
     if part.len() < PART_SIZE {
-        put_total(&mut page, totals);
+        put_total(&mut draft, totals);
         return Written {
-            at: page.at,
+            at: draft.at,
             totals,
             last: true,
         };
     }
     Written {
-        at: page.at,
+        at: draft.at,
         totals,
         last: false,
     }

@@ -7,44 +7,44 @@ ghost use Rattle.sheet_lines.specs.Part.{longest_line};
 use crate::put::{put_corners, put_three};
 use fields::{letter_of, put_contact};
 use model::{BlockAnswer, Totals, Verdict};
-use text::Page;
+use text::Draft;
 
-fn put_worked(page: &mut Page<'_>, n: u64, job: u32, v: Verdict)
-    requires { Room longest_line page.old }
-    ensures { Wrote longest_line page.old (worked_line binary32 n job v) page.new }
+fn put_worked(draft: &mut Draft<'_>, n: u64, job: u32, v: Verdict)
+    requires { Room longest_line draft.old }
+    ensures { Wrote longest_line draft.old (worked_line binary32 n job v) draft.new }
 {
-    page.put_number(n, b' ');
-    page.put_number(job as u64, b' ');
-    page.put(&[b'0', b' ', letter_of(v.status), b' ']);
-    put_contact(page, v.contact);
+    draft.put_number(n, b' ');
+    draft.put_number(job as u64, b' ');
+    draft.put(&[b'0', b' ', letter_of(v.status), b' ']);
+    put_contact(draft, v.contact);
     put_three(
-        page,
+        draft,
         v.counts.distance_calls as u64,
         v.counts.searches as u64,
         v.counts.root_steps as u64,
         b' ',
     );
-    put_corners(page, v.corners);
+    put_corners(draft, v.corners);
 }
 
 // The line of block n.
-pub fn put_answer(page: &mut Page<'_>, n: u64, answer: BlockAnswer)
-    requires { Room longest_line page.old }
-    ensures { Wrote longest_line page.old (answer_line binary32 n answer) page.new }
+pub fn put_answer(draft: &mut Draft<'_>, n: u64, answer: BlockAnswer)
+    requires { Room longest_line draft.old }
+    ensures { Wrote longest_line draft.old (answer_line binary32 n answer) draft.new }
 {
     match answer {
-        BlockAnswer::Worked(job, verdict) => put_worked(page, n, job, verdict),
-        BlockAnswer::Refused(job, number) => put_three(page, n, job as u64, number as u64, b'\n'),
+        BlockAnswer::Worked(job, verdict) => put_worked(draft, n, job, verdict),
+        BlockAnswer::Refused(job, number) => put_three(draft, n, job as u64, number as u64, b'\n'),
     }
 }
 
 // The last line.
-pub fn put_total(page: &mut Page<'_>, t: Totals)
-    requires { Room longest_line page.old }
-    ensures { Wrote longest_line page.old (total_line t) page.new }
+pub fn put_total(draft: &mut Draft<'_>, t: Totals)
+    requires { Room longest_line draft.old }
+    ensures { Wrote longest_line draft.old (total_line t) draft.new }
 {
-    page.put(b"TOTAL ");
-    page.put_number(t.blocks, b' ');
-    page.put_number(t.clear, b' ');
-    put_three(page, t.contact, t.undecided, t.refused, b'\n');
+    draft.put(b"TOTAL ");
+    draft.put_number(t.blocks, b' ');
+    draft.put_number(t.clear, b' ');
+    put_three(draft, t.contact, t.undecided, t.refused, b'\n');
 }

@@ -5,7 +5,7 @@ use native.Mathlib.Omega.{arith}
 use Rattle.model.specs.Blocks.{whole_blocks}
 use Rattle.model.specs.Sheet.{lines_from, totals_from}
 use Rattle.model.specs.Parts.{count_limit}
-use Rattle.text.proofs.Written.{wrote-nothing, wrote-then, wrote-most}
+use Rattle.text.proofs.Written.{wrote-nothing, wrote-most}
 use Rattle.sheet_lines.proofs.Parts.{below_less, below_more, line_step, totals-step}
 use Rattle.sheet_lines.proofs.part.write_blocks.Goals as goal
 

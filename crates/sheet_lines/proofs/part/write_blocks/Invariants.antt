@@ -11,7 +11,7 @@ use Rattle.sheet_lines.proofs.part.write_blocks.Given as goal
 abbrev pub invariant-loop-i : goal.invariant-loop-i
 invariant-loop-i l =
     record {
-      lines : Wrote (longest_line * l.i) l.initial.page (lines_from binary32 l.initial.totals.blocks (whole_answers binary32 l.i l.part)) l.page;
+      lines : Wrote (longest_line * l.i) l.initial.draft (lines_from binary32 l.initial.totals.blocks (whole_answers binary32 l.i l.part)) l.draft;
       totals_value : l.totals ≡ totals_from l.initial.totals (whole_answers binary32 l.i l.part);
       bound : Below (count_limit + l.i) l.totals;
     }

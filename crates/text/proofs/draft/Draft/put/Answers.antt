@@ -1,9 +1,9 @@
--- `text::page::Page::put` meets its contract, which is that of `put_text` over the page's bytes and place. Assumes nothing.
+-- `text::draft::Draft::put` meets its contract, which is that of `put_text` over the draft's bytes and place. Assumes nothing.
 use native.Mathlib.Omega.{arith}
 use native.Mathlib.Nat.{le_refl}
 use Rattle.text.specs.Written.{written}
 use Rattle.text.proofs.Written.{wrote, length-room}
-use Rattle.text.proofs.page.Page.put.Goals as goal
+use Rattle.text.proofs.draft.Draft.put.Goals as goal
 
 pub returns : goal.returns
 unfolding written

@@ -1,10 +1,10 @@
--- `text::page::Page::put_wide_hex` meets its contract, which is that of `put_wide_hex` over the page's bytes and place. Assumes nothing.
+-- `text::draft::Draft::put_wide_hex` meets its contract, which is that of `put_wide_hex` over the draft's bytes and place. Assumes nothing.
 use native.Mathlib.Omega.{arith}
 use Rattle.text.proofs.Lengths.{length-wide-hex}
 use Rattle.text.specs.Put.{wide_hex}
 use Rattle.text.specs.Written.{written}
 use Rattle.text.proofs.Written.{wrote, length-room}
-use Rattle.text.proofs.page.Page.put_wide_hex.Goals as goal
+use Rattle.text.proofs.draft.Draft.put_wide_hex.Goals as goal
 
 pub returns : goal.returns
 unfolding written

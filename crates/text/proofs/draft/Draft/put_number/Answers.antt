@@ -1,9 +1,9 @@
--- `text::page::Page::put_number` meets its contract, which is that of `put_number` over the page's bytes and place. Assumes nothing.
+-- `text::draft::Draft::put_number` meets its contract, which is that of `put_number` over the draft's bytes and place. Assumes nothing.
 use native.Mathlib.Omega.{arith}
 use Rattle.text.proofs.Lengths.{length-number}
 use Rattle.text.specs.Written.{written}
 use Rattle.text.proofs.Written.{wrote, length-room}
-use Rattle.text.proofs.page.Page.put_number.Goals as goal
+use Rattle.text.proofs.draft.Draft.put_number.Goals as goal
 
 pub returns : goal.returns
 unfolding written

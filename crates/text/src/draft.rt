@@ -8,12 +8,12 @@ use crate::put::{put_hex, put_number, put_text, put_wide_hex};
 
 // The bytes, and the place after what is written.
 #[derive(Drop)]
-pub struct Page<'a> {
+pub struct Draft<'a> {
     pub bytes: &'a mut [u8],
     pub at: usize,
 }
 
-impl Page<'_> {
+impl Draft<'_> {
     // Whether there is no room for so many bytes.
     pub fn lacks(&self, n: usize) -> bool
         ensures { result ≡ ltb (length self.now.bytes.now) (self.now.at + n) }
