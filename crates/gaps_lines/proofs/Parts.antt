@@ -87,20 +87,20 @@ fits-room size room t e =
       small = record { blocks = ltb-true _ _ one.1; refused = ltb-true _ _ two.1 };
     }
 
--- ---- a turn over the blocks of a part: n bytes from the block's start are its 512
-module _ (t₀ t : Tally) (b : List ℕ) (i n : ℕ) (whole : n ≡ 512) (inside : 512 * i + 512 ≤ length b)
+-- ---- a turn over the blocks of a part
+module _ (t₀ t : Tally) (b : List ℕ) (i : ℕ) (inside : 512 * i + 512 ≤ length b)
     (so_far : t ≡ tally_from binary32 t₀ (whole_blocks i b)) where
   abbrev x : List ℕ
-  x = take n (drop (512 * i) b)
+  x = take 512 (drop (512 * i) b)
 
   size : length x ≡ 512
-  size = length-take-le n (drop (512 * i) b) (rw (length-drop (512 * i) b) (omega (arith, whole, inside))) ∙ whole
+  size = length-take-le 512 (drop (512 * i) b) (rw (length-drop (512 * i) b) (omega (arith, inside)))
 
   answered : answer_of binary32 x ≡ block_answer binary32 x
   answered = rw (eq-eqb (length x) 512 size)
 
   more : whole_blocks (i + 1) b ≡ whole_blocks i b ++ (x ∷ [])
-  more = rw (add-one i, whole) (blocks_more i b)
+  more = rw (add-one i) (blocks_more i b)
 
   number : t.blocks ≡ t₀.blocks + length (whole_blocks i b)
   number = rw so_far (blocks-counted t₀ (whole_blocks i b))

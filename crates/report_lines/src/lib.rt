@@ -67,10 +67,8 @@ fn put_rows(out: &mut [u8], at: usize, counts: [u64; ROWS]) -> usize
     ensures upper_bound { result ≤ at + 896 }
 {
     let mut end = at;
-    let mut i: usize = 0;
-    while i < ROWS {
-        end = put_row(out, end, i, counts[i]);
-        i += 1;
+    for (row, n) in counts.iter().enumerate() {
+        end = put_row(out, end, row, *n);
     }
     end
 }

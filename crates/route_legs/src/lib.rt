@@ -80,10 +80,8 @@ fn start_of(lengths: &[u32], j: usize) -> usize
     ensures { (result ≡ Route.start_of lengths.now j) × (result ≤ 0x1_0000_0000 * j) }
 {
     let mut start: usize = 0;
-    let mut i: usize = 0;
-    while i < j {
-        start += lengths[i] as usize;
-        i += 1;
+    for n in &lengths[..j] {
+        start += *n as usize;
     }
     start
 }
@@ -230,8 +228,7 @@ fn walk(
     ensures { result ≡ Route.walk_from binary32 cart.now waypoints.now stills.now lengths.now slop sweeps 0 0 }
 {
     let mut calls = 0u32;
-    let mut k = 0u32;
-    while k < sweeps {
+    for k in 0..sweeps {
         let leg = leg_of(outlines, k);
         let outline = outline_of(outlines, k);
         let answer = sweep_at(cart, waypoints, stills, lengths, slop, leg, outline);
@@ -239,7 +236,6 @@ fn walk(
         if !is_separated(answer) {
             return ended_by(answer, stop_at(leg, outline, calls));
         }
-        k += 1;
     }
     RouteAnswer::Clear(calls)
 }
