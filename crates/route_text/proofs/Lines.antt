@@ -2,11 +2,11 @@
 use mathlib.Core.Path.{◌≡◌, refl, ◌∙◌}
 use mathlib.Core.Bool.{Bool, true, false, not}
 use mathlib.Core.List.{List, [], ◌∷◌, ◌++◌, append_assoc}
-use Prim.Native.Nat.{ℕ, ◌≤◌}
+use Prim.Native.Nat.{ℕ, ◌+◌, ◌≤◌}
 use native.Mathlib.Omega.{arith}
 use borrow.Author.Tests.{le-ltb}
 use lib.Ieee.{Float, binary32}
-use lib.ListN.{length, take}
+use lib.ListN.{length, take, length-append}
 use Rattle.model.specs.declared.Vector.{Vector}
 use Rattle.model.specs.declared.Contact.{Contact}
 use Rattle.model.specs.declared.Status.{Status}
@@ -14,6 +14,7 @@ use Rattle.model.specs.Support.{point}
 use Rattle.model.specs.Sheet.{letter_of}
 use Rattle.model.specs.Text.{line}
 use Rattle.text.specs.Put.{Put, number}
+use Rattle.text.proofs.Lengths.{length-number}
 use Rattle.fields.specs.Floats.{floats}
 use Rattle.route_legs.specs.declared.Stop.{Stop}
 use Rattle.route_legs.specs.declared.RouteAnswer.{RouteAnswer}
@@ -28,6 +29,10 @@ use Rattle.route_text.specs.Answer.{longest_line, text_for}
 pub two_is : (a b end : ℕ) → two a b end ≡ number a 32 ++ number b end
 unfolding two
 two_is a b end = refl
+
+pub length_two : (a b end : ℕ) → length (two a b end) ≤ 42
+unfolding two
+length_two a b end = rw (length-append (number a 32) (number b end)) (omega (arith, length-number a 32, length-number b end))
 
 pub clear-is : (calls : ℕ) → clear_line calls ≡ (48 ∷ 32 ∷ 67 ∷ 76 ∷ 69 ∷ 65 ∷ 82 ∷ 32 ∷ []) ++ number calls 10
 unfolding clear_line line
