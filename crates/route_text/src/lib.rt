@@ -110,7 +110,12 @@ pub fn write_answer(reader: Reader, floats: &[f32], lengths: &[u32], out: &mut [
     }
     let mut draft = Draft { bytes: out, at: 0 };
     if !route_line::is_route(reader.line) {
-        put_pair(&mut draft, NO_ROUTE, route_read::next_line(reader.lines), b'\n');
+        put_pair(
+            &mut draft,
+            NO_ROUTE,
+            route_read::next_line(reader.lines),
+            b'\n',
+        );
         return draft.at;
     }
     put_answer(&mut draft, route_of(reader.kept, floats, lengths));
