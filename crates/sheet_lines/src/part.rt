@@ -12,7 +12,7 @@ ghost use Rattle.sheet_lines.specs.Part as Part;
 
 use crate::answer::{countable, counted};
 use crate::write::{put_answer, put_total};
-use model::{BlockAnswer, PART_SIZE, Totals};
+use model::{BlockAnswer, BlockRefusal, PART_SIZE, Totals};
 use text::Draft;
 
 // No line is longer.
@@ -75,7 +75,7 @@ fn write_rest(draft: &mut Draft<'_>, t: Totals, rest: usize) -> Totals
     if rest == 0 {
         return t;
     }
-    write_answer(draft, t, BlockAnswer::Refused(0, 9))
+    write_answer(draft, t, Err(BlockRefusal { job: 0, number: 9 }))
 }
 
 // Whether there is room for a line of each block, of a rest and of the totals, and the totals can be counted on.

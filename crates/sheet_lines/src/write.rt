@@ -33,8 +33,8 @@ pub fn put_answer(draft: &mut Draft<'_>, n: u64, answer: BlockAnswer)
     ensures { Wrote longest_line draft.old (answer_line binary32 n answer) draft.new }
 {
     match answer {
-        BlockAnswer::Worked(job, verdict) => put_worked(draft, n, job, verdict),
-        BlockAnswer::Refused(job, number) => put_three(draft, n, job as u64, number as u64, b'\n'),
+        Ok(worked) => put_worked(draft, n, worked.job, worked.verdict),
+        Err(refusal) => put_three(draft, n, refusal.job as u64, refusal.number as u64, b'\n'),
     }
 }
 

@@ -13,7 +13,7 @@ ghost use Rattle.sheet_lines64.specs.Part as Part;
 
 use crate::answer::{countable, counted};
 use crate::write::{put_answer, put_total};
-use model::{PART_SIZE, Totals};
+use model::{BlockRefusal, PART_SIZE, Totals};
 use model64::BlockAnswer;
 use text::Draft;
 
@@ -77,7 +77,7 @@ fn write_rest(draft: &mut Draft<'_>, t: Totals, rest: usize) -> Totals
     if rest == 0 {
         return t;
     }
-    write_answer(draft, t, BlockAnswer::Refused(0, 9))
+    write_answer(draft, t, Err(BlockRefusal { job: 0, number: 9 }))
 }
 
 // Whether there is room for a line of each block, of a rest and of the totals, and the totals can be counted on.
