@@ -20,7 +20,6 @@ use Rattle.model.proofs.Sheet.{lines-append, totals-append, blocks-counted, answ
 use Rattle.text.specs.declared.draft.Draft.{Draft}
 use Rattle.text.specs.Written.{Wrote}
 use Rattle.model.specs.Parts.{count_limit}
-use Rattle.model.specs.Block.{refused}
 use Rattle.sheet_lines.specs.Part.{Below, countable, fits, longest_line}
 use Rattle.text.proofs.Written.{wrote-then}
 

@@ -1,5 +1,4 @@
 -- The pieces of a line: how long they get, and how a line is made of them. Assumes nothing.
-use Rattle.std.proofs.Common.{Ok, Err}
 use mathlib.Core.Path.{◌≡◌, refl}
 use mathlib.Core.List.{[], ◌∷◌, ◌++◌, append_assoc}
 use Prim.Native.Nat.{ℕ}

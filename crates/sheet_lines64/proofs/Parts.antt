@@ -24,7 +24,6 @@ use Rattle.model64.proofs.Sheet.{lines-append, totals-append, blocks-counted, an
 use Rattle.text.specs.declared.draft.Draft.{Draft}
 use Rattle.text.specs.Written.{Wrote}
 use Rattle.model.specs.Parts.{count_limit}
-use Rattle.model.specs.Block.{refused}
 use Rattle.sheet_lines64.specs.Part.{Below, countable, fits, longest_line}
 use Rattle.text.proofs.Written.{wrote-then}
 

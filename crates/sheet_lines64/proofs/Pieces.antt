@@ -1,6 +1,5 @@
 -- Written by tests/written/wide.py from sheet_lines, in f64.
 -- The pieces of a line: how long they get, and how a line is made of them. Assumes nothing.
-use Rattle.std.proofs.Common.{Ok, Err}
 use mathlib.Core.Path.{◌≡◌, refl}
 use mathlib.Core.List.{[], ◌∷◌, ◌++◌, append_assoc}
 use Prim.Native.Nat.{ℕ}

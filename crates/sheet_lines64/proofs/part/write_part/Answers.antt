@@ -33,8 +33,8 @@ pub returns-then-part-lt-PART_SIZE : goal.returns-then-part-lt-PART_SIZE
 returns-then-part-lt-PART_SIZE c =
     let s = c.write_rest-totals.ensures in
     let w = c.write_blocks-blocks.ensures in
-    let totals = all-totals _ _ _ w.totals_value s.totals_value in
     let lines = all_lines _ _ _ w.totals_value (omega arith) w.lines s.lines in
+    let totals = all-totals _ _ _ w.totals_value s.totals_value in
     rw (sym c.fits.ensures ∙ c.if-not-fits.false, lt-ltb _ _ c.if-part-lt-PART_SIZE.true) (record {
       put = left (wrote-then (omega arith) lines (rw totals at c.put_total.ensures)) (search rules);
       totals_value = (totals, refl);
