@@ -36,18 +36,17 @@ fn write_answer(draft: &mut Draft<'_>, t: Totals, a: BlockCleared) -> Totals
     counted(t, a.answer)
 }
 
-// The lines of the whole blocks of a part, each from its own 512 bytes, with the totals carried on.
+// The lines of the whole blocks of a part, each from its own 512 bytes, with the totals carried on. One walk for all crates of lines would take each
+// crate's answers, lines and totals as a trait with a law for each step: that is longer than the loop.
 fn write_blocks(part: &[u8], draft: &mut Draft<'_>, t: Totals) -> Totals
     requires { Room (longest_line * (length part.now / block_size)) draft.old × Below count_limit t }
     ensures worked { Worked (longest_line * (length part.now / block_size)) t
         (whole_blocks (length part.now / block_size) part.now) draft.old draft.new result }
     ensures bound { Below (count_limit + length part.now / block_size) result }
 {
-    let k = part.len() / 512;
     let mut totals = t;
-    for i in 0..k {
-        let from = 512 * i;
-        let answer = clear_block(&part[from..from + 512]);
+    for block in part.chunks_exact(512) {
+        let answer = clear_block(block);
         totals = write_answer(draft, totals, answer);
     }
     totals

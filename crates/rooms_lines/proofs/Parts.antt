@@ -77,12 +77,11 @@ worked_then {t = t} {t₁ = t₁} {bs = bs} {cs = cs} inside w v =
 pub worked-most : {m n : ℕ} {t t' : Tally} {bs : List (List ℕ)} {p p' : Draft} → m ≤ n → Worked m t bs p p' t' → Worked n t bs p p' t'
 worked-most le w = record { came = w.came; sound = w.sound; lines = wrote-most le w.lines; totals = w.totals }
 
--- n bytes from the block's start are its 512
-pub block-worked : {k m : ℕ} {t₀ t t' : Tally} {p₀ p p' : Draft} (part : List ℕ) (i n : ℕ) (a : BlockRooms) → n ≡ 512 → p₀.at ≤ length p₀.bytes.now
-    → Worked k t₀ (whole_blocks i part) p₀ p t → AnswerOf (take n (drop (512 * i) part)) a → Wrote m p (line_of (t.blocks + 1) a) p'
+-- block i of a part
+pub block-worked : {k m : ℕ} {t₀ t t' : Tally} {p₀ p p' : Draft} (part : List ℕ) (i : ℕ) (a : BlockRooms) → p₀.at ≤ length p₀.bytes.now
+    → Worked k t₀ (whole_blocks i part) p₀ p t → AnswerOf (take 512 (drop (512 * i) part)) a → Wrote m p (line_of (t.blocks + 1) a) p'
     → t' ≡ counted t a → Worked (k + m) t₀ (whole_blocks (i + 1) part) p₀ p' t'
-block-worked part i n a whole inside w h v q =
-    rw (add-one i, blocks_more i part) (worked_then inside w (one-worked a (rw whole at h) v q))
+block-worked part i a inside w h v q = rw (add-one i, blocks_more i part) (worked_then inside w (one-worked a h v q))
 
 -- the rest of a part, by whether there is one: all the bytes behind the whole blocks
 abbrev from : List ℕ → ℕ
