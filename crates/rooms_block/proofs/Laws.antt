@@ -8,6 +8,7 @@ use borrow.Author.Tests.{eqb-true, eq-eqb}
 use lib.Dec.{ltb, eqb}
 use lib.Ieee.{Float, binary32, of_bits, le}
 use lib.ListN.{length, set, get_or}
+use Rattle.std.proofs.Common.{Option, IfSome}
 use lib.Seq.{get_or-set_same, get_or-set_other}
 use Rattle.model.specs.declared.Vector.{Vector}
 use Rattle.model.specs.declared.CheckedBlock.{CheckedBlock}
@@ -62,19 +63,19 @@ module _ (a b ns : List Float) where
     job = h.job;
     number = h.number ∙ e;
     letters = h.letters;
-    room = λ z told. absurd (omega (arith, z, h.number, some));
+    room = λ z. absurd (omega (arith, z, h.number, some));
     cells = λ z k below. absurd (omega (arith, z, h.number, some));
   }
 
-  pub numbered-told : (l : List Float) (j n : ℕ) (limits : Vector) (found : Bool) (room : Float) (cells : List ℕ) → n ≡ refusal_of a b ns (of_bits binary32 0)
-      → n ≤ 0 → l ≡ ns → limits ≡ point ns 1 → (found ≡ true → Keeps a b l room) → (length cells ≡ 64) × CellsTo a b l limits.x cells 64
-      → Numbered a b ns j (record { job = j; number = 0; clear = found; room = room; cells = cells })
-  numbered-told l j n limits found room cells e none same at-limits k h = record {
+  pub numbered-told : (j n : ℕ) (limits : Vector) (room : Option Float) (cells : List ℕ) → n ≡ refusal_of a b ns (of_bits binary32 0)
+      → n ≤ 0 → limits ≡ point ns 1 → IfSome room (Keeps a b ns) → (length cells ≡ 64) × CellsTo a b ns limits.x cells 64
+      → Numbered a b ns j (record { job = j; number = 0; room = room; cells = cells })
+  numbered-told j n limits room cells e none at-limits k h = record {
     job = refl;
     number = let zero : 0 ≡ n = omega (arith, none) in zero ∙ e;
     letters = h.0;
-    room = λ z told. rw same at (k told);
-    cells = λ z. rw (same, at-limits) at h.1;
+    room = λ z. k;
+    cells = λ z. rw at-limits at h.1;
   }
 
 -- ---- every answer has 64 letters

@@ -1,5 +1,5 @@
 -- What is said of a block: refused as on the sheet, or its room and its 64 cells, by its own numbers.
-use Rattle.std.specs.Prelude.{◌≡◌, ℕ, Bool, true, false, List, [], ◌∷◌, eqb, Float, length}
+use Rattle.std.specs.Prelude.{◌≡◌, ℕ, Bool, true, false, List, [], ◌∷◌, eqb, Float, length, IfSome}
 use Rattle.std.specs.Float.{binary32}
 use Rattle.std.specs.Float.Ieee.{of_bits}
 use Rattle.model.specs.declared.Block.{Block}
@@ -22,7 +22,7 @@ pub record Numbered (a b numbers : List Float) (j : ℕ) (r : BlockRooms) : Type
   pub job : r.job ≡ j
   pub number : r.number ≡ refusal_of a b numbers (of_bits binary32 0)
   pub letters : length r.cells ≡ 64
-  pub room : r.number ≡ 0 → r.clear ≡ true → Keeps a b numbers r.room
+  pub room : r.number ≡ 0 → IfSome r.room (Keeps a b numbers)
   pub cells : r.number ≡ 0 → CellsTo a b numbers (point numbers 1).x r.cells 64
 
 abbrev pub Told : List ℕ → Block → BlockRooms → Type 0

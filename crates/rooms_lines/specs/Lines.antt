@@ -1,5 +1,5 @@
 -- The printed lines and totals, as maps and folds of the answers that came: one for each block, in order.
-use Rattle.std.specs.Prelude.{ℕ, ◌+◌, Bool, cond, List, [], ◌∷◌, ◌++◌, ltb, Float}
+use Rattle.std.specs.Prelude.{ℕ, ◌+◌, Option, Some, None, cond, List, [], ◌∷◌, ◌++◌, ltb, Float}
 use Rattle.std.specs.Float.{binary32}
 use Rattle.std.specs.Float.Ieee.{to_bits}
 use Rattle.model.specs.Text.{decimal, hex_by, line}
@@ -12,12 +12,13 @@ longest_line = 120
 
 -- ---- lines
 -- the room by the digits of its f32, or `-`
-abbrev pub room_text : Bool → Float → List ℕ
-room_text clear room = cond clear (hex_by 8 (to_bits binary32 room)) (45 ∷ [])
+abbrev pub room_text : Option Float → List ℕ
+room_text (Some room) = hex_by 8 (to_bits binary32 room)
+room_text None = 45 ∷ []
 
 -- what stands behind the job: the number of the refusal, or 0, the room and the cells
 abbrev pub fields_of : BlockRooms → List (List ℕ)
-fields_of a = cond (ltb 0 a.number) (decimal a.number ∷ []) ((48 ∷ []) ∷ room_text a.clear a.room ∷ a.cells ∷ [])
+fields_of a = cond (ltb 0 a.number) (decimal a.number ∷ []) ((48 ∷ []) ∷ room_text a.room ∷ a.cells ∷ [])
 
 -- the line of block n
 unfoldable pub line_of : ℕ → BlockRooms → List ℕ

@@ -9,22 +9,22 @@ ghost use Rattle.rooms_lines.specs.Pieces.{cells_room, room_piece, cells_piece};
 use crate::put::{put, put_number, put_two};
 use rooms_block::BlockRooms;
 
-fn put_room(out: &mut [u8], at: usize, clear: bool, room: f32) -> usize
+fn put_room(out: &mut [u8], at: usize, room: Option<f32>) -> usize
     requires { at + 9 ≤ length out.old }
-    ensures { Put out.old at (room_piece clear room) out.new result }
+    ensures { Put out.old at (room_piece room) out.new result }
 {
-    if clear {
-        return text::put_hex(out, at, ground::to_bits(room), b' ');
+    match room {
+        Some(kept) => text::put_hex(out, at, ground::to_bits(kept), b' '),
+        None => put(out, at, b"- "),
     }
-    put(out, at, b"- ")
 }
 
-fn put_cells(out: &mut [u8], at: usize, clear: bool, room: f32, cells: [u8; 64]) -> usize
+fn put_cells(out: &mut [u8], at: usize, room: Option<f32>, cells: [u8; 64]) -> usize
     requires { (at + cells_room ≤ length out.old) × (length cells ≡ 64) }
-    ensures { Put out.old at (cells_piece clear room cells) out.new result }
+    ensures { Put out.old at (cells_piece room cells) out.new result }
 {
     let e1 = put(out, at, b"0 ");
-    let e2 = put_room(out, e1, clear, room);
+    let e2 = put_room(out, e1, room);
     let e3 = put(out, e2, &cells);
     put(out, e3, b"\n")
 }
@@ -38,8 +38,7 @@ pub fn put_answer(out: &mut [u8], at: usize, n: u64, a: BlockRooms) -> usize
     if a.number > 0 {
         return put_number(out, e1, a.number as u64, b'\n');
     }
-    let cells = a.cells;
-    put_cells(out, e1, a.clear, a.room, cells)
+    put_cells(out, e1, a.room, a.cells)
 }
 
 // The last line.
