@@ -1,20 +1,21 @@
 -- The pieces of a line: how long they get, and how a line is made of them. Assumes nothing.
+use Rattle.std.proofs.Common.{Option, Some, None, Ok, Err}
 use mathlib.Core.Path.{◌≡◌, refl}
-use mathlib.Core.Bool.{Bool, true, false, cond}
 use mathlib.Core.List.{List, [], ◌∷◌, ◌++◌, append_assoc}
 use Prim.Native.Nat.{ℕ, ◌+◌, ◌≤◌}
 use native.Mathlib.Omega.{arith}
-use lib.Dec.{ltb}
-use Rattle.std.proofs.Common.{Option, Some, None}
 use lib.Ieee.{Float, binary32, to_bits}
 use lib.ListN.{length, length-append}
 use Rattle.model.specs.Text.{decimal, hex_by, line}
 use Rattle.text.specs.Put.{number, hex}
 use Rattle.text.proofs.Lengths.{length-number, length-hex}
-use Rattle.rooms_block.specs.declared.BlockRooms.{BlockRooms}
+use Rattle.model.specs.declared.BlockRefusal.{BlockRefusal}
+use Rattle.rooms_block.specs.declared.Proved.{Proved}
+use Rattle.rooms_block.specs.Answer.{BlockRooms}
+use Rattle.rooms_block.proofs.Laws.{Lettered}
 use Rattle.rooms_lines.specs.declared.part.Tally.{Tally}
 use Rattle.rooms_lines.specs.Lines.{longest_line, room_text, line_of, total_line}
-use Rattle.rooms_lines.specs.Pieces.{cells_room, two, room_piece, cells_piece, answer_piece}
+use Rattle.rooms_lines.specs.Pieces.{cells_room, two, room_piece, cells_piece}
 
 pub two_is : (a b end : ℕ) → two a b end ≡ number a 32 ++ number b end
 unfolding two
@@ -61,26 +62,19 @@ by_number : (n job number' : ℕ) → line (decimal n ∷ decimal job ∷ decima
 unfolding line two
 by_number n job number' = simp append_assoc
 
-pub line-is : (n : ℕ) (a : BlockRooms) → line_of n a ≡ two n a.job 32 ++ answer_piece a
+pub told-line-is : (n : ℕ) (p : Proved) → line_of n (Ok p) ≡ two n p.job 32 ++ cells_piece p.room p.cells
 unfolding line_of
-line-is n a = go (ltb 0 a.number)
-  where
-    go : (c : Bool)
-        → line (decimal n ∷ decimal a.job ∷ cond c (decimal a.number ∷ []) ((48 ∷ []) ∷ room_text a.room ∷ a.cells ∷ []))
-        ≡ two n a.job 32 ++ cond c (number a.number 10) (cells_piece a.room a.cells)
-    go true = by_number n a.job a.number
-    go false = by-room n a.job a.room a.cells
+told-line-is n p = by-room n p.job p.room p.cells
 
-length-answer : (a : BlockRooms) → length a.cells ≡ 64 → length (answer_piece a) ≤ cells_room
-length-answer a e = go (ltb 0 a.number)
-  where
-    go : (c : Bool) → length (cond c (number a.number 10) (cells_piece a.room a.cells)) ≤ cells_room
-    go true = omega (arith, length-number a.number 10)
-    go false = length-cells a.room a.cells e
+pub refused-line-is : (n : ℕ) (e : BlockRefusal) → line_of n (Err e) ≡ two n e.job 32 ++ number e.number 10
+unfolding line_of
+refused-line-is n e = by_number n e.job e.number
 
-pub length-line : (n : ℕ) (a : BlockRooms) → length a.cells ≡ 64 → length (line_of n a) ≤ longest_line
-length-line n a e =
-    rw (line-is n a, length-append (two n a.job 32) (answer_piece a)) (omega (arith, length_two n a.job 32, length-answer a e))
+pub length-line : (n : ℕ) (a : BlockRooms) → Lettered a → length (line_of n a) ≤ longest_line
+length-line n (Ok p) h =
+    rw (told-line-is n p, length-append (two n p.job 32) (cells_piece p.room p.cells)) (omega (arith, length_two n p.job 32, length-cells p.room p.cells h))
+length-line n (Err e) h =
+    rw (refused-line-is n e, length-append (two n e.job 32) (number e.number 10)) (omega (arith, length_two n e.job 32, length-number e.number 10))
 
 pub total-is : (t : Tally) → total_line t ≡ (84 ∷ 79 ∷ 84 ∷ 65 ∷ 76 ∷ 32 ∷ []) ++ two t.blocks t.refused 10
 unfolding total_line line two

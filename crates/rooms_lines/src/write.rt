@@ -1,5 +1,5 @@
 // A block's line, and the totals, piece by piece.
-ghost use Rattle.std.specs.Prelude.{◌≡◌, ◌+◌, ◌≤◌, length};
+ghost use Rattle.std.specs.Prelude.{◌≡◌, ◌+◌, ◌≤◌, length, IfOk};
 ghost use Rattle.std.specs.Float.{binary32};
 ghost use Rattle.text.specs.Put.{Put};
 ghost use Rattle.rooms_lines.specs.declared.part.Tally.{Tally};
@@ -14,7 +14,7 @@ fn put_room(out: &mut [u8], at: usize, room: Option<f32>) -> usize
     ensures { Put out.old at (room_piece room) out.new result }
 {
     match room {
-        Some(kept) => text::put_hex(out, at, ground::to_bits(kept), b' '),
+        Some(room) => text::put_hex(out, at, ground::to_bits(room), b' '),
         None => put(out, at, b"- "),
     }
 }
@@ -31,14 +31,19 @@ fn put_cells(out: &mut [u8], at: usize, room: Option<f32>, cells: [u8; 64]) -> u
 
 // The line of block n.
 pub fn put_answer(out: &mut [u8], at: usize, n: u64, a: BlockRooms) -> usize
-    requires { (at + longest_line ≤ length out.old) × (length a.cells ≡ 64) }
+    requires { (at + longest_line ≤ length out.old) × IfOk a (λ p. length p.cells ≡ 64) }
     ensures { Put out.old at (line_of n a) out.new result }
 {
-    let e1 = put_two(out, at, n, a.job as u64, b' ');
-    if a.number > 0 {
-        return put_number(out, e1, a.number as u64, b'\n');
+    match a {
+        Ok(proved) => {
+            let end = put_two(out, at, n, proved.job as u64, b' ');
+            put_cells(out, end, proved.room, proved.cells)
+        }
+        Err(refusal) => {
+            let end = put_two(out, at, n, refusal.job as u64, b' ');
+            put_number(out, end, refusal.number as u64, b'\n')
+        }
     }
-    put_cells(out, e1, a.room, a.cells)
 }
 
 // The last line.

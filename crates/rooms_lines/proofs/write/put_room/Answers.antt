@@ -4,7 +4,7 @@ use Rattle.rooms_lines.proofs.Pieces.{room-is, no-room-is}
 use Rattle.rooms_lines.proofs.write.put_room.Goals as goal
 
 pub returns-in-Some : goal.returns-in-Some
-returns-in-Some c = rw (c.in-Some.is, room-is) (rw c.to_bits.ensures at (roomy 9 c.put_hex.ensures c.requires))
+returns-in-Some c = rw (c.in-Some.is, room-is _) (rw c.to_bits.ensures at (roomy 9 c.put_hex.ensures c.requires))
 
 pub returns-in-None : goal.returns-in-None
 returns-in-None c = rw (c.in-None.is, no-room-is) c.put.ensures
