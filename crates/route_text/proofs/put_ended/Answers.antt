@@ -13,15 +13,11 @@ put_pair-e2-requires c = let p = c.put_text-e1 in
     omega (arith, first.place, p.auto.out, c.requires)
 
 pub returns : goal.returns
-returns c = let at-contact = c.before.before.before.before.before.before.before in
-    let at-letter = at-contact.before.before.before.before in
-    let at_pair = at-letter.before.before.before.before.before in
-    let at-start = at_pair.before.before.before.before.before.before in
-    let pre = at-start.requires in
-    let p = at-start.put_text-e1 in
-    let q = at_pair.put_pair-e2 in
-    let r = at-letter.put_text-e3 in
-    let s = at-contact.write_contact-e4 in
+returns c = let pre = c.requires in
+    let p = c.put_text-e1 in
+    let q = c.put_pair-e2 in
+    let r = c.put_text-e3 in
+    let s = c.write_contact-e4 in
     let first = roomy 2 p.ensures (omega (arith, pre)) in
     let after = ends q.ensures (length_two _ _ _) in
     let third = roomy 2 r.ensures (omega (arith, first.place, p.auto.out, after, q.auto.out, pre)) in
@@ -29,5 +25,5 @@ returns c = let at-contact = c.before.before.before.before.before.before.before 
     let fifth = roomy 21 c.put_number.ensures
     (omega (arith, first.place, p.auto.out, after, q.auto.out, third.place, r.auto.out, ends fourth (length-floats _), s.auto.out, pre)) in
     let start = put_then (omega arith) (put_then (omega arith) first q.ensures) third in
-    rw (ended_is, ← at-start.letter_of-letter.ensures)
+    rw (ended_is, ← c.letter_of-letter.ensures)
     (put_then (omega arith) (put_then (omega arith) start fourth) fifth)
