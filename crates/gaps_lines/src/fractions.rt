@@ -9,6 +9,16 @@ use crate::put::put_float;
 use at_fraction::gap;
 use model::Sweep;
 
+// Two outlines, their moves, and the max fraction of these.
+#[derive(Clone, Copy)]
+pub struct Moves<'a> {
+    pub points_a: &'a [f32],
+    pub sweep_a: Sweep,
+    pub points_b: &'a [f32],
+    pub sweep_b: Sweep,
+    pub most: f32,
+}
+
 // The k-th of 256 steps from 0 to the max fraction.
 fn fraction_at(most: f32, k: u16) -> f32
     ensures { result ≡ Gaps.fraction_at binary32 most k }
@@ -17,44 +27,31 @@ fn fraction_at(most: f32, k: u16) -> f32
 }
 
 // The gap there, and a byte after it.
-fn put_gap(
-    out: &mut [u8],
-    at: usize,
-    points_a: &[f32],
-    sweep_a: Sweep,
-    points_b: &[f32],
-    sweep_b: Sweep,
-    most: f32,
-    k: u16,
-    end: u8,
-) -> usize
+fn put_gap(out: &mut [u8], at: usize, moves: Moves, k: u16, end: u8) -> usize
     requires { at + gap_room ≤ length out.old }
-    ensures { Put out.old at (gap_text points_a.now sweep_a points_b.now sweep_b most k end)
+    ensures { Put out.old at (gap_text moves.entry.points_a.now moves.entry.sweep_a moves.entry.points_b.now moves.entry.sweep_b moves.entry.most k end)
         out.new result }
 {
-    let apart = gap(points_a, sweep_a, points_b, sweep_b, fraction_at(most, k));
+    let fraction = fraction_at(moves.most, k);
+    let apart = gap(
+        moves.points_a,
+        moves.sweep_a,
+        moves.points_b,
+        moves.sweep_b,
+        fraction,
+    );
     put_float(out, at, apart, end)
 }
 
 // All of them, with a blank between and a newline.
-pub fn put_gaps(
-    out: &mut [u8],
-    at: usize,
-    points_a: &[f32],
-    sweep_a: Sweep,
-    points_b: &[f32],
-    sweep_b: Sweep,
-    most: f32,
-) -> usize
+pub fn put_gaps(out: &mut [u8], at: usize, moves: Moves) -> usize
     requires { at + gaps_room ≤ length out.old }
-    ensures { Put out.old at (gaps_text points_a.now sweep_a points_b.now sweep_b most)
+    ensures { Put out.old at (gaps_text moves.entry.points_a.now moves.entry.sweep_a moves.entry.points_b.now moves.entry.sweep_b moves.entry.most)
         out.new result }
 {
     let mut to = at;
     for k in 0..256 {
-        to = put_gap(out, to, points_a, sweep_a, points_b, sweep_b, most, k, b' ');
+        to = put_gap(out, to, moves, k, b' ');
     }
-    put_gap(
-        out, to, points_a, sweep_a, points_b, sweep_b, most, 256, b'\n',
-    )
+    put_gap(out, to, moves, 256, b'\n')
 }

@@ -9,7 +9,7 @@ ghost use Rattle.text.specs.Put.{Put};
 ghost use Rattle.gaps_lines.specs.Gaps.{longest_line, worked_line};
 ghost use Rattle.gaps_lines.specs.Pieces.{gaps_room, block_text};
 
-use crate::fractions::put_gaps;
+use crate::fractions::{Moves, put_gaps};
 use crate::put::{put, put_number, put_two};
 use block_floats::floats_at;
 use model::Sweep;
@@ -35,15 +35,14 @@ fn put_block(out: &mut [u8], at: usize, bytes: &[u8]) -> usize
     let n_b = 2 * wire::byte(bytes, 5) as usize;
     let points_a = floats_at(bytes, 104, n_a);
     let points_b = floats_at(bytes, 232, n_b);
-    put_gaps(
-        out,
-        at,
-        &points_a[..n_a],
-        move_a,
-        &points_b[..n_b],
-        move_b,
+    let moves = Moves {
+        points_a: &points_a[..n_a],
+        sweep_a: move_a,
+        points_b: &points_b[..n_b],
+        sweep_b: move_b,
         most,
-    )
+    };
+    put_gaps(out, at, moves)
 }
 
 // The line of block n, which is worked.

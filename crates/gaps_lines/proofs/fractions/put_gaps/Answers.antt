@@ -14,10 +14,10 @@ loop-k-init c = (refl, omega arith, put-nothing _ _)
 pub loop-k-preserved : goal.loop-k-preserved
 loop-k-preserved c = let p = c.put_gap-to in
     let l = c.loop-k in
-    let a = c.args in (
+    let m = c.args.moves in (
       p.auto.out ∙ l.invariant.0,
-      omega (arith, p.ensures.place, length-gap a.points_a.now a.sweep_a a.points_b.now a.sweep_b a.most l.k 32, l.invariant.1),
-      rw (gaps-more a.points_a.now a.sweep_a a.points_b.now a.sweep_b a.most l.k) (put_then (search rules) l.invariant.2 p.ensures),
+      omega (arith, p.ensures.place, length-gap m.points_a.now m.sweep_a m.points_b.now m.sweep_b m.most l.k 32, l.invariant.1),
+      rw (gaps-more m.points_a.now m.sweep_a m.points_b.now m.sweep_b m.most l.k) (put_then (search rules) l.invariant.2 p.ensures),
     )
 
 pub shape_of-out : goal.shape_of-out

@@ -8,4 +8,4 @@ use Rattle.gaps_lines.proofs.fractions.put_gaps.Given as goal
 
 abbrev pub invariant-loop-k : goal.invariant-loop-k
 invariant-loop-k l =
-    (length l.out ≡ length l.initial.out) × (l.to ≡ l.at + 9 * l.k) × Put l.initial.out l.at (gap_texts l.points_a l.sweep_a l.points_b l.sweep_b l.most 0 l.k) l.out l.to
+    (length l.out ≡ length l.initial.out) × (l.to ≡ l.at + 9 * l.k) × Put l.initial.out l.at (gap_texts l.moves.points_a.now l.moves.sweep_a l.moves.points_b.now l.moves.sweep_b l.moves.most 0 l.k) l.out l.to
