@@ -84,7 +84,7 @@ fn still_move() -> Sweep
     }
 }
 
-// How many numbers stand before still outline j.
+// How many numbers stand before still outline j. `route_clearance_legs` has its own, since it asks for few outlines and nothing public asks its caller.
 fn start_of(lengths: &[u32], j: usize) -> usize
     requires { (j ≤ length lengths.now) × (j ≤ 32) }
     ensures { (result ≡ Route.start_of lengths.now j) × (result ≤ 0x1_0000_0000 * j) }
@@ -131,7 +131,13 @@ fn sweep_at(lists: Lists, i: u32, j: u32) -> SweepAnswer
     let k = wide(j);
     let from = start_of(lengths, k);
     let end = from + wide(lengths[k]);
-    sweep_past(lists.cart, lists.waypoints, lists.slop, i, &stills[from..end])
+    sweep_past(
+        lists.cart,
+        lists.waypoints,
+        lists.slop,
+        i,
+        &stills[from..end],
+    )
 }
 
 fn is_separated(answer: SweepAnswer) -> bool

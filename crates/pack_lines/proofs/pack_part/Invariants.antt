@@ -12,4 +12,4 @@ invariant-loop-x l =
     (length l.out ≡ length l.initial.out) × (length l.err ≡ length l.initial.err) × (length l.line ≡ 855) × (l.ended.size ≤ 855) × (l.ended.lines ≤ l.initial.ended.lines + i) × (l.ended.at ≤ 512 * i)
     × (l.ended.told ≤ 42 * i)
     × Shows l.initial.out l.initial.err (run_over (starting (take l.initial.ended.size l.initial.line) l.initial.ended.lines) (take i l.part)) l.out l.ended.at l.err l.ended.told
-        (take l.ended.size l.line) l.ended.lines
+    (take l.ended.size l.line) l.ended.lines
