@@ -1,7 +1,7 @@
 // A report as text, in lent bytes.
 #![tactic(auto)]
 
-ghost use Rattle.std.specs.Prelude.{◌+◌, ◌<◌, ◌≤◌, ◌≡◌, [], length, get_or, take, drop};
+ghost use Rattle.std.specs.Prelude.{◌+◌, ◌<◌, ◌≤◌, ◌≡◌, [], length, get_or};
 ghost use Rattle.text.specs.Put.{Put};
 ghost use Rattle.report_lines.specs.Text.{labels, row_text, rows_text, place_text, most_text, named_text, largest_text, text_in};
 
@@ -13,42 +13,51 @@ const ROWS: usize = 28;
 // No report is longer.
 const LONGEST_REPORT: usize = 1200;
 
-fn wide(x: u8) -> usize
-    ensures { result ≡ x }
-{
-    x as usize
-}
-
-// How long a row's name is, with the blank after it.
-fn label_size(row: usize) -> usize
+// A row's name, with the blank after it.
+#[tactic(auto, unfolding(crate::specs::Text::labels))]
+fn label(row: usize) -> &'static [u8]
     requires { row < 28 }
-    ensures { result ≡ length (get_or labels row []) }
+    ensures { result.now ≡ get_or labels row [] }
 {
-    let sizes =
-        b"\x07\x06\x0b\x07\x04\x08\x08\x08\x08\x08\x08\x08\x08\x06\x0a\x0a\x08\x08\x0a\x0a\x0a\x0a\x0a\x0a\x0a\x0b\x0b\x0b";
-    wide(sizes[row])
+    match row {
+        0 => b"BLOCKS ",
+        1 => b"CLEAR ",
+        2 => b"OVERLAPPED ",
+        3 => b"FAILED ",
+        4 => b"HIT ",
+        5 => b"HIT 0/8 ",
+        6 => b"HIT 1/8 ",
+        7 => b"HIT 2/8 ",
+        8 => b"HIT 3/8 ",
+        9 => b"HIT 4/8 ",
+        10 => b"HIT 5/8 ",
+        11 => b"HIT 6/8 ",
+        12 => b"HIT 7/8 ",
+        13 => b"HIT 1 ",
+        14 => b"HIT BELOW ",
+        15 => b"HIT ABOVE ",
+        16 => b"HIT NAN ",
+        17 => b"REFUSED ",
+        18 => b"REFUSED 3 ",
+        19 => b"REFUSED 4 ",
+        20 => b"REFUSED 5 ",
+        21 => b"REFUSED 6 ",
+        22 => b"REFUSED 7 ",
+        23 => b"REFUSED 8 ",
+        24 => b"REFUSED 9 ",
+        25 => b"REFUSED 10 ",
+        26 => b"REFUSED 11 ",
+        27 => b"REFUSED 13 ",
+        _ => b"",
+    }
 }
 
-// So many bytes of a text, from a place on.
-fn put_piece(out: &mut [u8], at: usize, text: &[u8], from: usize, size: usize) -> usize
-    requires { (at + size ≤ length out.old) × (from + size ≤ length text.now) }
-    ensures { Put out.old at (take size (drop from text.now)) out.new result }
-{
-    let end = from + size;
-    text::put_text(out, at, &text[from..end])
-}
-
-// A row's name, and a blank: the names stand in one text, each in eleven bytes.
+// The same at a place.
 fn put_label(out: &mut [u8], at: usize, row: usize) -> usize
     requires { (at + 11 ≤ length out.old) × (row < 28) }
     ensures { Put out.old at (get_or labels row []) out.new result }
 {
-    let size = label_size(row);
-    let names = b"BLOCKS     CLEAR      OVERLAPPED FAILED     HIT        HIT 0/8    HIT 1/8    \
-        HIT 2/8    HIT 3/8    HIT 4/8    HIT 5/8    HIT 6/8    HIT 7/8    HIT 1      \
-        HIT BELOW  HIT ABOVE  HIT NAN    REFUSED    REFUSED 3  REFUSED 4  REFUSED 5  \
-        REFUSED 6  REFUSED 7  REFUSED 8  REFUSED 9  REFUSED 10 REFUSED 11 REFUSED 13 ";
-    put_piece(out, at, names, 11 * row, size)
+    text::put_text(out, at, label(row))
 }
 
 // The line of a row.

@@ -15,5 +15,5 @@ returns c = let w = c.write_answer in
     let x = c.clear_block-answer in
     let a = c.args in (
       rest-worked a.part.now x.result c.if-part-eq0.false x.ensures w.ensures.0 w.ensures.1,
-      ends w.ensures.0 (length-line (a.t.blocks + 1) x.result),
+      ends w.ensures.0 (length-line (a.lines.totals.blocks + 1) x.result),
     )

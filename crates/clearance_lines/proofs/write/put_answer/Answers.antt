@@ -7,9 +7,7 @@ use borrow.Author.Rules.{rules}
 use Rattle.clearance_lines.proofs.write.put_answer.Goals as goal
 
 pub put_told-requires : goal.put_told-requires
-put_told-requires c = let p = c.before.before.before in omega (arith, ends p.put_two-e1.ensures (length_two _ _), p.put_two-e1.auto.out)
+put_told-requires c = omega (arith, ends c.put_two-e1.ensures (length_two _ _), c.put_two-e1.auto.out)
 
 pub returns : goal.returns
-returns c = let q = c.before.before in
-    let p = q.before.before.before.before in
-    rw line-is (put_then (search rules) p.put_two-e1.ensures q.put_told.ensures)
+returns c = rw line-is (put_then (search rules) c.put_two-e1.ensures c.put_told.ensures)

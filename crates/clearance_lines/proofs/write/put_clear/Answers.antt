@@ -5,6 +5,4 @@ use borrow.Author.Rules.{rules}
 use Rattle.clearance_lines.proofs.write.put_clear.Goals as goal
 
 pub returns : goal.returns
-returns c = let q = c.before.before in
-    let p = q.before.before.before.before in
-    rw clear-is (put_then (search rules) p.put-e1.ensures q.put_number.ensures)
+returns c = rw clear-is (put_then (search rules) c.put-e1.ensures c.put_number.ensures)

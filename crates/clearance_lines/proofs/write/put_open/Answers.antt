@@ -7,12 +7,7 @@ use borrow.Author.Rules.{rules}
 use Rattle.clearance_lines.proofs.write.put_open.Goals as goal
 
 pub put_number-requires : goal.put_number-requires
-put_number-requires c = let q = c.before.before.before in
-    let p = q.before.before.before.before in
-    omega (arith, p.put-e1.ensures.place, p.put-e1.auto.out, ends q.put_place-e2.ensures (length-place _), q.put_place-e2.auto.out)
+put_number-requires c = omega (arith, c.put-e1.ensures.place, c.put-e1.auto.out, ends c.put_place-e2.ensures (length-place _), c.put_place-e2.auto.out)
 
 pub returns : goal.returns
-returns c = let r = c.before.before in
-    let q = r.before.before.before.before in
-    let p = q.before.before.before.before in
-    rw open_is (put_then (search rules) (put_then (search rules) p.put-e1.ensures q.put_place-e2.ensures) r.put_number.ensures)
+returns c = rw open_is (put_then (search rules) (put_then (search rules) c.put-e1.ensures c.put_place-e2.ensures) c.put_number.ensures)

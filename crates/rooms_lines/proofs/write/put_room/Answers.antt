@@ -5,9 +5,7 @@ use borrow.Author.Rules.{rules}
 use Rattle.rooms_lines.proofs.write.put_room.Goals as goal
 
 pub returns-then-clear : goal.returns-then-clear
-returns-then-clear c = let p = c.before.before in
-    let start = p.before.before.before in
-    rw (start.if-clear.true, room-is _) (rw p.to_bits.ensures at (roomy 9 p.put_hex.ensures start.requires))
+returns-then-clear c = rw (c.if-clear.true, room-is _) (rw c.to_bits.ensures at (roomy 9 c.put_hex.ensures c.requires))
 
 pub returns : goal.returns
-returns c = let p = c.before.before in rw (p.if-clear.false, no-room-is _) p.put.ensures
+returns c = rw (c.if-clear.false, no-room-is _) c.put.ensures
