@@ -1,10 +1,9 @@
 -- What the loops over a block meet at the place they have reached. Assumes nothing.
-use Rattle.std.proofs.Common.{◌≡◌, ℕ, zero, suc, ◌+◌, ◌-◌, ◌*◌, ◌%◌, ◌^◌, ◌<◌, ◌≤◌, Bool, true, false, cond, not, ◌&&◌, ◌||◌, eqb, ltb, List, get_or, take, drop, sym, refl, ap, ◌∙◌, mul-le-mul, add-one, arith, get_or-drop, get_or-take, ltb-false, ne_eqb}
+use Rattle.std.proofs.Common.{◌≡◌, ℕ, zero, suc, ◌+◌, ◌-◌, ◌*◌, ◌%◌, ◌^◌, ◌<◌, ◌≤◌, Bool, true, false, cond, not, ◌&&◌, ◌||◌, eqb, ltb, List, get_or, take, drop, sym, refl, ap, ◌∙◌, mul-le-mul, add-one, arith, get_or-drop, get_or-take, ltb-false, ne_eqb, Ok}
 use native.Mathlib.Nat.{mod-add-mod}
 use Rattle.model.specs.declared.Block.{Block}
-use Rattle.model.specs.declared.CheckedBlock.TheVariants.{Good, Refused}
 use Rattle.model.specs.Wire.{byte, word}
-use Rattle.model.specs.Block.{known_form, sum_of_words, weighed_words, all_zero, job_of, bad_count, zeros_hold, bad_fields, block_of, check_holds, checked_block}
+use Rattle.model.specs.Block.{known_form, sum_of_words, weighed_words, all_zero, job_of, bad_count, zeros_hold, bad_fields, block_of, check_holds, checked_block, refused}
 use Rattle.model.specs.Block.{most_points}
 
 -- ---- one word more
@@ -69,20 +68,20 @@ words-b n = omega arith
 
 -- ---- the four endings of a check
 module _ (b : List ℕ) where
-  pub unknown-form : known_form (byte b 6) ≡ false → Refused 0 13 ≡ checked_block b
+  pub unknown-form : known_form (byte b 6) ≡ false → refused 0 13 ≡ checked_block b
   unfolding checked_block
   unknown-form e = rw e
 
   module _ (known : known_form (byte b 6) ≡ true) where
-    pub wrong-check : check_holds b ≡ false → Refused 0 10 ≡ checked_block b
+    pub wrong-check : check_holds b ≡ false → refused 0 10 ≡ checked_block b
     unfolding checked_block
     wrong-check e = rw (known, e)
 
-    pub wrong-fields : check_holds b ≡ true → bad_fields b ≡ true → Refused (job_of b) 11 ≡ checked_block b
+    pub wrong-fields : check_holds b ≡ true → bad_fields b ≡ true → refused (job_of b) 11 ≡ checked_block b
     unfolding checked_block
     wrong-fields h e = rw (known, h, e)
 
-    pub all_right : check_holds b ≡ true → bad_fields b ≡ false → Good (block_of b) ≡ checked_block b
+    pub all_right : check_holds b ≡ true → bad_fields b ≡ false → Ok (block_of b) ≡ checked_block b
     unfolding checked_block
     all_right h e = rw (known, h, e)
 
@@ -101,14 +100,14 @@ pub fair-count : (n : ℕ) → bad_count n ≡ false → n ≤ 16
 fair-count n h = ltb-false 16 n (second (eqb n 0) (ltb 16 n) h)
 
 passed : (form sum fields : Bool) (g k : Block) (job : ℕ) →
-    cond form (cond sum (cond fields (Refused job 11) (Good g)) (Refused 0 10)) (Refused 0 13) ≡ Good k → (fields ≡ false) × (g ≡ k)
+    cond form (cond sum (cond fields (refused job 11) (Ok g)) (refused 0 10)) (refused 0 13) ≡ Ok k → (fields ≡ false) × (g ≡ k)
 passed true true false g k job e = (refl, cc)
 passed true true true g k job e = (cc, cc)
 passed true false fields g k job e = (cc, cc)
 passed false sum fields g k job e = (cc, cc)
 
 -- its outlines have at most sixteen points each
-pub good-counts : (b : List ℕ) (k : Block) → checked_block b ≡ Good k → (k.count_a ≤ most_points) × (k.count_b ≤ most_points)
+pub good-counts : (b : List ℕ) (k : Block) → checked_block b ≡ Ok k → (k.count_a ≤ most_points) × (k.count_b ≤ most_points)
 unfolding checked_block
 good-counts b k e =
     let told = passed (known_form (byte b 6)) (check_holds b) (bad_fields b) (block_of b) k (job_of b) e in

@@ -11,7 +11,7 @@ ghost use Rattle.clearance_call.specs.Call.{from_refusal, refusal_by, refusal_of
 use clearance_job::settle_lists;
 use clearance_verdict::Answer;
 use domain::{check_fraction, check_pair, check_slop, check_sweeps, refusal};
-use model::{Checked, Rotation, Sweep, Vector};
+use model::{BAD_FRACTION, Refusal, Rotation, Sweep, Vector};
 use outline::point;
 
 // Places are in 2^24-ths of the way. The three answers of a verdict stand beside the refusal, and not within one case, so that a caller takes all four apart
@@ -34,13 +34,13 @@ pub enum Cleared {
 }
 
 // A start from 0 to the max fraction: 7.
-fn check_from(from: f32, end: f32) -> Checked
+fn check_from(from: f32, end: f32) -> Result<(), Refusal>
     ensures { result ≡ Domain.checked (from_refusal from end) }
 {
     if (from >= 0.0) & (from <= end) {
-        Checked::Passed
+        Ok(())
     } else {
-        Checked::Refused(7)
+        Err(BAD_FRACTION)
     }
 }
 
@@ -82,19 +82,19 @@ fn refusal_by(
     ensures { result ≡ refusal_by points_a.now points_b.now radii limits move_a move_b from }
 {
     let pair = check_pair(points_a, points_b, radii.x, radii.y);
-    let Checked::Passed = pair else {
+    let Ok(()) = pair else {
         return refusal(pair);
     };
     let sweeps = check_sweeps(move_a, move_b);
-    let Checked::Passed = sweeps else {
+    let Ok(()) = sweeps else {
         return refusal(sweeps);
     };
     let fraction = check_fraction(limits.x);
-    let Checked::Passed = fraction else {
+    let Ok(()) = fraction else {
         return refusal(fraction);
     };
     let start = check_from(from, limits.x);
-    let Checked::Passed = start else {
+    let Ok(()) = start else {
         return refusal(start);
     };
     refusal(check_slop(limits.y))

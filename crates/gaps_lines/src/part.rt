@@ -1,8 +1,7 @@
 // The lines of a part of the input, and after the last part the totals.
 ghost use Rattle.std.specs.Prelude.{◌≡◌, ◌+◌, ◌*◌, ◌/◌, ◌≤◌, length};
 ghost use Rattle.std.specs.Float.{binary32};
-ghost use Rattle.model.specs.declared.BlockAnswer.TheVariants as Answer;
-ghost use Rattle.model.specs.Block.{block_size};
+ghost use Rattle.model.specs.Block.{block_size, refused};
 ghost use Rattle.model.specs.Blocks.{whole_blocks};
 ghost use Rattle.model.specs.Parts.{count_limit};
 ghost use Rattle.model.specs.Sheet.{refused_line};
@@ -14,7 +13,7 @@ ghost use Rattle.gaps_lines.specs.Part as Part;
 
 use crate::job::{put_refused, put_worked};
 use crate::put::{put, put_two};
-use model::{BlockAnswer, COUNT_LIMIT};
+use model::COUNT_LIMIT;
 
 // So many bytes are a part: 24 blocks. A shorter one is the last.
 pub const PART_SIZE: usize = 12288;
@@ -48,7 +47,7 @@ struct Lines {
 fn write_refused(out: &mut [u8], lines: Lines, job: u32, number: u32) -> Lines
     requires { (lines.at + longest_line ≤ length out.old) × Below 0xffff_ffff_ffff_ffff lines.tally }
     ensures { Put out.old lines.at (refused_line (lines.tally.blocks + 1) job number) out.new result.at
-        × (result.tally ≡ counted lines.tally (Answer.Refused job number)) }
+        × (result.tally ≡ counted lines.tally (refused job number)) }
 {
     let t = lines.tally;
     let end = put_refused(out, lines.at, t.blocks + 1, job, number);
@@ -67,16 +66,16 @@ fn write_block(bytes: &[u8], out: &mut [u8], lines: Lines) -> Lines
 {
     let answer = work::answer_block(bytes);
     match answer {
-        BlockAnswer::Worked(job, _) => {
+        Ok(worked) => {
             let t = lines.tally;
-            let end = put_worked(out, lines.at, t.blocks + 1, job, bytes);
+            let end = put_worked(out, lines.at, t.blocks + 1, worked.job, bytes);
             let tally = Tally {
                 blocks: t.blocks + 1,
                 refused: t.refused,
             };
             Lines { at: end, tally }
         }
-        BlockAnswer::Refused(job, number) => write_refused(out, lines, job, number),
+        Err(refusal) => write_refused(out, lines, refusal.job, refusal.number),
     }
 }
 

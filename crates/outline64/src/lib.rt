@@ -8,7 +8,7 @@ ghost use Rattle.model64.specs.Support as Support;
 ghost use Rattle.model64.specs.Second as Second;
 
 use domain64::{check_outline, refusal};
-use model::{Checked, SupportAnswer, SupportPair};
+use model::{Refusal, SupportPair};
 use model64::Vector;
 
 // Number k of the list; NaN where there is none.
@@ -121,12 +121,13 @@ pub fn support_index(points: &[f64], direction: Vector) -> u32
 }
 
 // Both of a checked outline, or the number of its refusal.
-pub fn support(points: &[f64], direction: Vector) -> SupportAnswer
+pub fn support(points: &[f64], direction: Vector) -> Result<SupportPair, Refusal>
     ensures { result ≡ Second.support_answer binary64 points.now direction }
 {
     let outline = check_outline(points);
-    let Checked::Passed = outline else {
-        return SupportAnswer::Refused(refusal(outline));
+    let Ok(()) = outline else {
+        let number = refusal(outline);
+        return Err(Refusal { number });
     };
-    SupportAnswer::At(support_pair(points, direction))
+    Ok(support_pair(points, direction))
 }

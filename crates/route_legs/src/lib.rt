@@ -5,10 +5,7 @@ ghost use Rattle.std.specs.Prelude.{◌≡◌, true, false, ◌+◌, ◌*◌, �
 ghost use Rattle.std.specs.Float.{binary32};
 ghost use Rattle.route_legs.specs.Route as Route;
 
-use model::{
-    Contact, Corners, Counts, NO_CORNER, Outcome, Rotation, Status, SupportPair, Sweep,
-    SweepAnswer, Vector,
-};
+use model::{Contact, Corners, Counts, NO_CORNER, Refusal, Rotation, Status, SupportPair, Sweep, SweepAnswer, Vector, Verdict};
 use outline::point;
 use sweep_numbers::turn;
 
@@ -171,16 +168,16 @@ fn calls_of(answer: SweepAnswer) -> u32
     }
 }
 
-fn ended_with(stop: Stop, outcome: Outcome) -> RouteAnswer
+fn ended_with(stop: Stop, outcome: Result<Verdict, Refusal>) -> RouteAnswer
     ensures { result ≡ Route.ended_with stop outcome }
 {
     match outcome {
-        Outcome::Found(v) => {
+        Ok(v) => {
             let status = v.status;
             let contact = v.contact;
             RouteAnswer::Ended(stop, status, contact)
         }
-        Outcome::Refused(number) => RouteAnswer::Refused(stop, number),
+        Err(refusal) => RouteAnswer::Refused(stop, refusal.number),
     }
 }
 

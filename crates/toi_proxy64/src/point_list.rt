@@ -6,7 +6,7 @@ ghost use Rattle.model64.specs.Second.{support_answer};
 ghost use Rattle.toi_proxy64.specs.Points.{point_of, flat, taken, answer_of};
 
 use domain64::bad_vector;
-use model::{SupportAnswer, SupportPair};
+use model::{BAD_OUTLINE_A, BAD_PART, Refusal, SupportPair};
 use model64::Vector;
 
 // What is known of the points so far: the first one's parts, whether any has a bad part, and the best with its value, the first and the second.
@@ -75,23 +75,23 @@ fn take(s: Farthest, i: usize, p: Vector, direction: Vector) -> Farthest
 }
 
 // The answer, once all points are taken.
-fn answer(s: Farthest, count: usize) -> SupportAnswer
+fn answer(s: Farthest, count: usize) -> Result<SupportPair, Refusal>
     ensures { result ≡ answer_of s count }
 {
     if (count == 0) | (count > 64) {
-        return SupportAnswer::Refused(1);
+        return Err(BAD_OUTLINE_A);
     }
     if s.bad {
-        return SupportAnswer::Refused(3);
+        return Err(BAD_PART);
     }
-    SupportAnswer::At(SupportPair {
+    Ok(SupportPair {
         first: (s.best % 0x1_0000_0000) as u32,
         second: (s.second % 0x1_0000_0000) as u32,
     })
 }
 
 // Which points of a list of records lie farthest along a direction, the first and the second; or the number of its refusal: the answer of the flat list.
-pub fn support_points(points: &[Vector], direction: Vector) -> SupportAnswer
+pub fn support_points(points: &[Vector], direction: Vector) -> Result<SupportPair, Refusal>
     ensures { result ≡ support_answer binary64 (flat points.now) direction }
 {
     let mut s = Farthest {

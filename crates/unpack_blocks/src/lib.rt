@@ -7,8 +7,6 @@ ghost use Rattle.job_text.specs.Job.{longest_line};
 ghost use Rattle.job_text.specs.Room.{refusal_room};
 ghost use Rattle.unpack_blocks.specs.Unpack.{unpacked, refused, lines_of, refusals_of, rest_for, used_blocks, blocks_in};
 
-use model::CheckedBlock;
-
 // How many blocks have passed, and the places after both texts.
 #[derive(Clone, Copy)]
 pub struct Unpacked {
@@ -31,13 +29,13 @@ fn put_block(block: &[u8], n: u64, out: &mut [u8], err: &mut [u8], places: Place
         × Put err.old places.told (refused n block.now) err.new result.told }
 {
     match job_text::check_plain(block) {
-        CheckedBlock::Good(_) => Places {
+        Ok(_) => Places {
             at: job_text::put_job(out, places.at, block),
             told: places.told,
         },
-        CheckedBlock::Refused(_, number) => Places {
+        Err(refusal) => Places {
             at: places.at,
-            told: job_text::put_refusal(err, places.told, n, number as u64),
+            told: job_text::put_refusal(err, places.told, n, refusal.number as u64),
         },
     }
 }
