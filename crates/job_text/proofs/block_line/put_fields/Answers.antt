@@ -12,9 +12,6 @@ pub loop-j-init : goal.loop-j-init
 unfolding words_of spaced
 loop-j-init c = (refl, search rules, put-nothing _ _)
 
-pub put_field-to-requires : goal.put_field-to-requires
-put_field-to-requires c = (search rules, search rules, search rules)
-
 pub loop-j-preserved : goal.loop-j-preserved
 loop-j-preserved c = let l = c.loop-j in
     let p = c.put_field-to in (
