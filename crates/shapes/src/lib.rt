@@ -4,59 +4,50 @@
 
 ghost use Rattle.std.specs.Prelude.{◌≡◌, [], ◌∷◌};
 ghost use Rattle.std.specs.Float.{binary32};
+ghost use Rattle.model.specs.Domain.{checked};
 ghost use Rattle.shapes.specs.Shapes as Shapes;
 
 use domain::{bad_vector, check_pose, pose_refusal};
 use ground::transform_point;
-use model::{NO_ROOM, Pose, Refusal, Vector};
+use model::{BAD_PART, NO_ROOM, Pose, Refusal, Vector};
 
 // 3 for a half size that is no part of a point, or below 0.
-fn plate_refusal(half_x: f32, half_y: f32) -> u32
-    ensures { result ≡ Shapes.plate_refusal binary32 half_x half_y }
+fn check_plate(half_x: f32, half_y: f32) -> Result<(), Refusal>
+    ensures { result ≡ checked (Shapes.plate_refusal binary32 half_x half_y) }
 {
     let half = Vector {
         x: half_x,
         y: half_y,
     };
     if bad_vector(half) | (half_x < 0.0) | (half_y < 0.0) {
-        3
+        Err(BAD_PART)
     } else {
-        0
+        Ok(())
     }
 }
 
 // 3 for an end that is no point.
-fn bar_refusal(a: Vector, b: Vector) -> u32
-    ensures { result ≡ Shapes.bar_refusal binary32 a b }
+fn check_bar(a: Vector, b: Vector) -> Result<(), Refusal>
+    ensures { result ≡ checked (Shapes.bar_refusal binary32 a b) }
 {
-    if bad_vector(a) | bad_vector(b) { 3 } else { 0 }
-}
-
-// The shape's own refusal, then 5 and 6 for its pose.
-fn placed_refusal(own: u32, pose: Pose) -> u32
-    ensures { result ≡ Shapes.placed_refusal binary32 own pose }
-{
-    if own != 0 {
-        return own;
+    if bad_vector(a) | bad_vector(b) {
+        Err(BAD_PART)
+    } else {
+        Ok(())
     }
-    pose_refusal(check_pose(pose))
 }
 
-// Four corners, unless something was refused before; 15 where there is no room.
+// Four corners; 15 where there is no room.
 fn build_four(
-    refused: u32,
     p0: Vector,
     p1: Vector,
     p2: Vector,
     p3: Vector,
     out: &mut [f32],
 ) -> Result<usize, Refusal>
-    ensures { (result ≡ Shapes.told refused (p0 ∷ p1 ∷ p2 ∷ p3 ∷ []) out.old)
-        × (out.new ≡ Shapes.left refused (p0 ∷ p1 ∷ p2 ∷ p3 ∷ []) out.old) }
+    ensures { (result ≡ Shapes.told 0 (p0 ∷ p1 ∷ p2 ∷ p3 ∷ []) out.old)
+        × (out.new ≡ Shapes.left 0 (p0 ∷ p1 ∷ p2 ∷ p3 ∷ []) out.old) }
 {
-    if refused != 0 {
-        return Err(Refusal { number: refused });
-    }
     if out.len() < 8 {
         return Err(NO_ROOM);
     }
@@ -72,12 +63,9 @@ fn build_four(
 }
 
 // Two corners in the same way.
-fn build_two(refusal: u32, p0: Vector, p1: Vector, out: &mut [f32]) -> Result<usize, Refusal>
-    ensures { (result ≡ Shapes.told refusal (p0 ∷ p1 ∷ []) out.old) × (out.new ≡ Shapes.left refusal (p0 ∷ p1 ∷ []) out.old) }
+fn build_two(p0: Vector, p1: Vector, out: &mut [f32]) -> Result<usize, Refusal>
+    ensures { (result ≡ Shapes.told 0 (p0 ∷ p1 ∷ []) out.old) × (out.new ≡ Shapes.left 0 (p0 ∷ p1 ∷ []) out.old) }
 {
-    if refusal != 0 {
-        return Err(Refusal { number: refusal });
-    }
     if out.len() < 4 {
         return Err(NO_ROOM);
     }
@@ -93,7 +81,7 @@ pub fn plate(half_x: f32, half_y: f32, out: &mut [f32]) -> Result<usize, Refusal
     ensures { (result ≡ Shapes.plate_told binary32 half_x half_y out.old)
         × (out.new ≡ Shapes.plate_left binary32 half_x half_y out.old) }
 {
-    let refused = plate_refusal(half_x, half_y);
+    check_plate(half_x, half_y)?;
     let p0 = Vector {
         x: half_x,
         y: half_y,
@@ -110,15 +98,15 @@ pub fn plate(half_x: f32, half_y: f32, out: &mut [f32]) -> Result<usize, Refusal
         x: -half_x,
         y: -half_y,
     };
-    build_four(refused, p0, p1, p2, p3, out)
+    build_four(p0, p1, p2, p3, out)
 }
 
 // A bar from a to b.
 pub fn bar(a: Vector, b: Vector, out: &mut [f32]) -> Result<usize, Refusal>
     ensures { (result ≡ Shapes.bar_told binary32 a b out.old) × (out.new ≡ Shapes.bar_left binary32 a b out.old) }
 {
-    let refused = bar_refusal(a, b);
-    build_two(refused, a, b, out)
+    check_bar(a, b)?;
+    build_two(a, b, out)
 }
 
 // The plate, each corner moved by the pose.
@@ -126,36 +114,41 @@ pub fn placed_plate(half_x: f32, half_y: f32, pose: Pose, out: &mut [f32]) -> Re
     ensures { (result ≡ Shapes.placed_plate_told binary32 half_x half_y pose out.old)
         × (out.new ≡ Shapes.placed_plate_left binary32 half_x half_y pose out.old) }
 {
-    let refused = placed_refusal(plate_refusal(half_x, half_y), pose);
+    check_plate(half_x, half_y)?;
+    let posed = check_pose(pose);
+    let Ok(good) = posed else {
+        let number = pose_refusal(posed);
+        return Err(Refusal { number });
+    };
     let q0 = transform_point(
-        pose,
+        good,
         Vector {
             x: half_x,
             y: half_y,
         },
     );
     let q1 = transform_point(
-        pose,
+        good,
         Vector {
             x: -half_x,
             y: half_y,
         },
     );
     let q2 = transform_point(
-        pose,
+        good,
         Vector {
             x: half_x,
             y: -half_y,
         },
     );
     let q3 = transform_point(
-        pose,
+        good,
         Vector {
             x: -half_x,
             y: -half_y,
         },
     );
-    build_four(refused, q0, q1, q2, q3, out)
+    build_four(q0, q1, q2, q3, out)
 }
 
 // The bar, both ends moved by the pose.
@@ -163,8 +156,13 @@ pub fn placed_bar(a: Vector, b: Vector, pose: Pose, out: &mut [f32]) -> Result<u
     ensures { (result ≡ Shapes.placed_bar_told binary32 a b pose out.old)
         × (out.new ≡ Shapes.placed_bar_left binary32 a b pose out.old) }
 {
-    let refused = placed_refusal(bar_refusal(a, b), pose);
-    let q0 = transform_point(pose, a);
-    let q1 = transform_point(pose, b);
-    build_two(refused, q0, q1, out)
+    check_bar(a, b)?;
+    let posed = check_pose(pose);
+    let Ok(good) = posed else {
+        let number = pose_refusal(posed);
+        return Err(Refusal { number });
+    };
+    let q0 = transform_point(good, a);
+    let q1 = transform_point(good, b);
+    build_two(q0, q1, out)
 }

@@ -2,14 +2,11 @@
 use native.Mathlib.Omega.{arith}
 use mathlib.Core.List.{[], ◌∷◌}
 use lib.ListN.{length-set}
-use Rattle.shapes.proofs.Endings.{refused, no_room, stored}
+use Rattle.shapes.proofs.Endings.{no_room, stored}
 use Rattle.shapes.proofs.build_four.Goals as goal
 
-pub returns-then-refused-ne0 : goal.returns-then-refused-ne0
-returns-then-refused-ne0 c = let a = c.args in refused (a.p0 ∷ a.p1 ∷ a.p2 ∷ a.p3 ∷ []) a.out.now a.refused c.if-refused-ne0.true
-
 pub returns-then-out-lt8 : goal.returns-then-out-lt8
-returns-then-out-lt8 c = let a = c.args in no_room (a.p0 ∷ a.p1 ∷ a.p2 ∷ a.p3 ∷ []) a.out.now a.refused c.if-refused-ne0.false c.if-out-lt8.true
+returns-then-out-lt8 c = let a = c.args in no_room (a.p0 ∷ a.p1 ∷ a.p2 ∷ a.p3 ∷ []) a.out.now c.if-out-lt8.true
 
 pub bounds-out-1 : goal.bounds-out-1
 bounds-out-1 c = simp length-set (omega arith)
@@ -33,4 +30,4 @@ pub bounds-out-7 : goal.bounds-out-7
 bounds-out-7 c = simp length-set (omega arith)
 
 pub returns : goal.returns
-returns c = let a = c.args in stored (a.p0 ∷ a.p1 ∷ a.p2 ∷ a.p3 ∷ []) a.out.now a.refused c.if-refused-ne0.false c.if-out-lt8.false
+returns c = let a = c.args in stored (a.p0 ∷ a.p1 ∷ a.p2 ∷ a.p3 ∷ []) a.out.now c.if-out-lt8.false

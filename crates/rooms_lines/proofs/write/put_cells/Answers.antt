@@ -7,10 +7,10 @@ use borrow.Author.Rules.{rules}
 use Rattle.rooms_lines.proofs.write.put_cells.Goals as goal
 
 pub put-e3-requires : goal.put-e3-requires
-put-e3-requires c = omega (arith, c.put-e1.ensures.place, c.put-e1.auto.out, ends c.put_room-e2.ensures (length-room _ _), c.put_room-e2.auto.out, c.requires.0, c.requires.1)
+put-e3-requires c = omega (arith, c.put-e1.ensures.place, c.put-e1.auto.out, ends c.put_room-e2.ensures (length-room _), c.put_room-e2.auto.out, c.requires.0, c.requires.1)
 
 pub put-requires : goal.put-requires
-put-requires c = let room = ends c.put_room-e2.ensures (length-room _ _) in
+put-requires c = let room = ends c.put_room-e2.ensures (length-room _) in
     omega (
       arith,
       c.put-e3.ensures.place,
