@@ -8,7 +8,7 @@ returns-then-bytes-k c = word-past-end _ _ c.if-bytes-k.true
 
 pub returns-then-rest-lt4 : goal.returns-then-rest-lt4
 returns-then-rest-lt4 c = simp (
-  c.joined.ensures,
+  c.from_le_bytes.ensures,
   c.byte-then-rest-lt4-3.ensures,
   c.byte-then-rest-lt4-2.ensures,
   c.byte-then-rest-lt4.ensures,
@@ -16,4 +16,4 @@ returns-then-rest-lt4 c = simp (
 ) (word-of-rest _ _)
 
 pub returns : goal.returns
-returns c = simp c.joined-2.ensures (word-of-rest _ _)
+returns c = simp c.from_le_bytes-2.ensures (word-of-rest _ _)
