@@ -44,7 +44,11 @@ fn take(s: Farthest, i: usize, p: Vector, direction: Vector) -> Farthest
             ..s
         }
     } else if value == s.value {
-        Farthest { bad, second: i, ..s }
+        Farthest {
+            bad,
+            second: i,
+            ..s
+        }
     } else {
         Farthest { bad, ..s }
     }

@@ -1,6 +1,5 @@
 -- `wire::word` meets its contract: the places of the rest are those of the whole from k on. Assumes nothing.
 use Rattle.model.proofs.Wire.{word-of-rest, word-past-end}
-use borrow.Author.Rules.{rules}
 use Rattle.wire.proofs.word.Goals as goal
 
 pub returns-then-bytes-k : goal.returns-then-bytes-k
