@@ -39,10 +39,10 @@ PATCHES = [
     ('sheet64/src/main.rt', 'b"sheet"', 'b"sheet64"'),
     ('sheet64/src/main.rt', 'Prints the sheet of the batch on standard input,', 'Prints the sheet, worked in f64, of the batch on standard input,'),
     # a block's numbers are taken over from f32
-    ('work64/src/lib.rt', 'floats[i] = ground64::from_bits(wire::word(bytes, from + 4 * i));',
-     'floats[i] = taken_over(wire::word(bytes, from + 4 * i));'),
+    ('work64/src/lib.rt', '*x = ground64::from_bits(wire::word(bytes, from + 4 * i));',
+     '*x = taken_over(wire::word(bytes, from + 4 * i));'),
     ('work64/src/lib.rt', 'ghost use Rattle.std.specs.Prelude', 'mod taken;\n\nghost use Rattle.std.specs.Prelude'),
-    ('work64/src/lib.rt', 'use model::{Block, CheckedBlock};', 'use model::{Block, CheckedBlock};\nuse taken::taken_over;'),
+    ('work64/src/lib.rt', 'use model::{Block, BlockRefusal, Refusal};', 'use model::{Block, BlockRefusal, Refusal};\nuse taken::taken_over;'),
     # stored words have eight bytes
     ('replay64/src/floats.rt', ' as u64', ''),
     ('replay64/src/pool.rt', 'wire::word(pool, 16 + 4 * i)', 'wire::word(pool, 32 + 8 * i)'),
@@ -88,9 +88,9 @@ WORD = r'[\w«»]+'
 
 
 def items(text):
-    """The structs and enums of a .rt file: name -> (whole text, its words)."""
+    """The structs, enums and aliases of a .rt file: name -> (whole text, its words)."""
     found = {}
-    for m in re.finditer(r'((?:(?://|#\[)[^\n]*\n)*)pub (?:struct|enum) (\w+) \{.*?\n\}\n', text, re.S):
+    for m in re.finditer(r'((?:(?://|#\[)[^\n]*\n)*)pub (?:struct|enum|type) (\w+) (?:\{.*?\n\}|= [^\n]*;)\n', text, re.S):
         found[m.group(2)] = (m.group(0), set(re.findall(r'\w+', re.sub(r'//[^\n]*|#\[[^\n]*', '', m.group(0)))))
     return found
 

@@ -1,4 +1,5 @@
 -- Blocks searched one after the other, and in two parts. Assumes nothing.
+use Rattle.std.proofs.Common.{Result, Ok, Err}
 use mathlib.Core.Path.{◌≡◌, refl, sym, ap, ◌∙◌}
 use mathlib.Core.Bool.{Bool, true, false, true≢false, ◌||◌}
 use mathlib.Core.List.{List, [], ◌∷◌, ◌++◌}
@@ -9,8 +10,8 @@ use lib.Dec.{eqb, ltb}
 use lib.Ieee.{Float, binary32, of_bits}
 use lib.ListN.{length, take, drop, get_or}
 use lib.Seq.{drop-drop}
-use Rattle.model.specs.declared.CheckedBlock.{CheckedBlock}
-use Rattle.model.specs.declared.CheckedBlock.TheVariants as checked
+use Rattle.model.specs.declared.Block.{Block}
+use Rattle.model.specs.declared.BlockRefusal.{BlockRefusal}
 use Rattle.model.specs.Block.{checked_block}
 use Rattle.model.specs.Blocks.{whole_blocks, blocks}
 use Rattle.model.proofs.Blocks.{blocks-counted, rest_of, rest-short, all_whole, rest-last}
@@ -36,9 +37,9 @@ not-refused : (job number : ℕ) (a : BlockCleared) → a ≡ refused_block job 
 not-refused job number a is e = true≢false (sym e ∙ ap (λ (x : BlockCleared). is_clear x.answer) is)
 
 module _ (b : List ℕ) (a : BlockCleared) (e : is_clear a.answer ≡ true) where
-  by-check : length b ≡ 512 → (x : CheckedBlock) → checked_block b ≡ x → AnswerBy b x a → ClearBlock b
-  by-check whole (checked.Good k) is h = record { whole = whole; block = k; good = is; clear = clear_told _ _ _ _ a.answer h.told e }
-  by-check whole (checked.Refused job number) is h = absurd (not-refused job number a h e)
+  by-check : length b ≡ 512 → (x : Result Block BlockRefusal) → checked_block b ≡ x → AnswerBy b x a → ClearBlock b
+  by-check whole (Ok k) is h = record { whole = whole; block = k; good = is; clear = clear_told _ _ _ _ a.answer h.told e }
+  by-check whole (Err r) is h = absurd (not-refused r.job r.number a h e)
 
   by_size : (c : Bool) → eqb (length b) 512 ≡ c → AnswerIf c b a → ClearBlock b
   by_size true is h = by-check (eqb-true (length b) 512 is) (checked_block b) refl h

@@ -19,6 +19,7 @@ const LONGEST_TEXT: usize = 21;
 // The number of the first block that is not clear, 0 where all are; how many blocks came up to the part's end; whether the search is over.
 #[derive(Clone, Copy)]
 pub struct Searched {
+    // A number, and no Option: `Found` says what 0 and every other number mean.
     pub found: u64,
     pub blocks: u64,
     pub over: bool,

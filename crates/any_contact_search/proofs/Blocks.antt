@@ -8,8 +8,7 @@ use borrow.Author.Tests.{lt-ltb, ne_eqb}
 use lib.Ieee.{binary32}
 use lib.ListN.{length, take, drop}
 use lib.Seq.{drop-drop}
-use Rattle.model.specs.declared.BlockAnswer.{BlockAnswer}
-use Rattle.model.specs.Work.{block_answer}
+use Rattle.model.specs.Work.{block_answer, BlockAnswer}
 use Rattle.model.specs.Blocks.{whole_blocks}
 use Rattle.model.specs.Sheet.{whole_answers}
 use Rattle.model.specs.Block.{block_size}

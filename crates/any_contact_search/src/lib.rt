@@ -18,6 +18,7 @@ const LONGEST_TEXT: usize = 21;
 // The number of the first contact, 0 where none was found; how many whole blocks came up to the part's end; whether the search is over.
 #[derive(Clone, Copy)]
 pub struct Searched {
+    // A number, and no Option: `FirstContact` says what 0 and every other number mean.
     pub found: u64,
     pub blocks: u64,
     pub over: bool,
@@ -40,11 +41,8 @@ fn is_contact(answer: BlockAnswer) -> bool
     ensures { result ≡ is_contact answer }
 {
     match answer {
-        BlockAnswer::Worked(_, verdict) => {
-            let status = verdict.status;
-            touching(status)
-        }
-        BlockAnswer::Refused(_, _) => false,
+        Ok(worked) => touching(worked.verdict.status),
+        Err(_) => false,
     }
 }
 

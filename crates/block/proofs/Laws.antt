@@ -1,12 +1,16 @@
 -- What the loops over a block meet at the place they have reached. Assumes nothing.
-use Rattle.std.proofs.Common.{◌≡◌, ℕ, zero, suc, ◌+◌, ◌-◌, ◌*◌, ◌%◌, ◌^◌, ◌<◌, ◌≤◌, Bool, true, false, cond, not, ◌&&◌, ◌||◌, eqb, ltb, List, refl, ap, ◌∙◌, mul-le-mul, add-one, arith, ltb-false, length}
+use Rattle.std.proofs.Common.{◌≡◌, ℕ, zero, suc, ◌+◌, ◌-◌, ◌*◌, ◌%◌, ◌^◌, ◌<◌, ◌≤◌, Bool, true, false, cond, not, ◌&&◌, ◌||◌, eqb, ltb, List, refl, ap, ◌∙◌, mul-le-mul, add-one, arith, ltb-false, length, sym, Ok, ne_eqb}
 use lib.ListN.{get_or-eq_default}
+use lib.Dec.{eqb-suc-zero}
 use Rattle.std.proofs.Math.Bool.{and-true}
 use native.Mathlib.Nat.{mod-add-mod}
+use Prim.Native.Nat.{max}
+use Rattle.std.specs.Int.{bit_at}
+use Rattle.std.specs.Int.Bits.{bit_or, or_zero_l}
+use Rattle.std.proofs.lemmas.Nat.Bits.{bit_at_or, bit_at-zero, same_from_bits}
 use Rattle.model.specs.declared.Block.{Block}
-use Rattle.model.specs.declared.CheckedBlock.TheVariants.{Good, Refused}
 use Rattle.model.specs.Wire.{byte, word}
-use Rattle.model.specs.Block.{known_form, sum_of_words, weighed_words, all_zero, job_of, bad_count, zeros_hold, bad_fields, block_of, check_holds, checked_block}
+use Rattle.model.specs.Block.{known_form, sum_of_words, weighed_words, all_zero, job_of, bad_count, zeros_hold, bad_fields, block_of, check_holds, checked_block, refused}
 use Rattle.model.specs.Block.{most_points}
 
 -- ---- one word more
@@ -26,6 +30,16 @@ pub weighed-limit : (w weight : ℕ) → w ≤ 4294967296 → weight ≤ 128 →
 weighed-limit w weight h k = mul-le-mul h k
 
 -- ---- the bytes that are there, one more, and those that are missing
+or-zero : (a b : ℕ) → bit_or a b ≡ 0 → a ≡ 0
+or-zero a b e = same_from_bits a 0 (λ i.
+    let most : max (bit_at a i) (bit_at b i) ≡ 0 = sym (bit_at_or a b i) ∙ ap (λ (n : ℕ). bit_at n i) e ∙ bit_at-zero i in
+    let none : bit_at 0 i ≡ 0 = bit_at-zero i in
+    omega arith)
+
+pub both-zero : (a b : ℕ) → eqb (bit_or a b) 0 ≡ (eqb a 0 && eqb b 0)
+both-zero zero b = rw or_zero_l
+both-zero (suc a) b = rw eqb-suc-zero (ne_eqb (bit_or (suc a) b) 0 (λ e. absurd (omega (arith, or-zero (suc a) b e))))
+
 pub zero-step : (b : List ℕ) (k i : ℕ) → (all_zero b k i && eqb (byte b (k + i)) 0) ≡ all_zero b k (i + 1)
 unfolding all_zero
 zero-step b k i = rw add-one
@@ -45,20 +59,20 @@ zero-rest b k i n h l = let e : i + (n - i) ≡ n = omega arith in zero-missing 
 
 -- ---- the four endings of a check
 module _ (b : List ℕ) where
-  pub unknown-form : known_form (byte b 6) ≡ false → Refused 0 13 ≡ checked_block b
+  pub unknown-form : known_form (byte b 6) ≡ false → refused 0 13 ≡ checked_block b
   unfolding checked_block
   unknown-form e = rw e
 
   module _ (known : known_form (byte b 6) ≡ true) where
-    pub wrong-check : check_holds b ≡ false → Refused 0 10 ≡ checked_block b
+    pub wrong-check : check_holds b ≡ false → refused 0 10 ≡ checked_block b
     unfolding checked_block
     wrong-check e = rw (known, e)
 
-    pub wrong-fields : check_holds b ≡ true → bad_fields b ≡ true → Refused (job_of b) 11 ≡ checked_block b
+    pub wrong-fields : check_holds b ≡ true → bad_fields b ≡ true → refused (job_of b) 11 ≡ checked_block b
     unfolding checked_block
     wrong-fields h e = rw (known, h, e)
 
-    pub all_right : check_holds b ≡ true → bad_fields b ≡ false → Good (block_of b) ≡ checked_block b
+    pub all_right : check_holds b ≡ true → bad_fields b ≡ false → Ok (block_of b) ≡ checked_block b
     unfolding checked_block
     all_right h e = rw (known, h, e)
 
@@ -77,14 +91,14 @@ pub fair-count : (n : ℕ) → bad_count n ≡ false → n ≤ 16
 fair-count n h = ltb-false 16 n (second (eqb n 0) (ltb 16 n) h)
 
 passed : (form sum fields : Bool) (g k : Block) (job : ℕ) →
-    cond form (cond sum (cond fields (Refused job 11) (Good g)) (Refused 0 10)) (Refused 0 13) ≡ Good k → (fields ≡ false) × (g ≡ k)
+    cond form (cond sum (cond fields (refused job 11) (Ok g)) (refused 0 10)) (refused 0 13) ≡ Ok k → (fields ≡ false) × (g ≡ k)
 passed true true false g k job e = (refl, cc)
 passed true true true g k job e = (cc, cc)
 passed true false fields g k job e = (cc, cc)
 passed false sum fields g k job e = (cc, cc)
 
 -- its outlines have at most sixteen points each
-pub good-counts : (b : List ℕ) (k : Block) → checked_block b ≡ Good k → (k.count_a ≤ most_points) × (k.count_b ≤ most_points)
+pub good-counts : (b : List ℕ) (k : Block) → checked_block b ≡ Ok k → (k.count_a ≤ most_points) × (k.count_b ≤ most_points)
 unfolding checked_block
 good-counts b k e =
     let told = passed (known_form (byte b 6)) (check_holds b) (bad_fields b) (block_of b) k (job_of b) e in

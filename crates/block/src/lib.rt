@@ -7,7 +7,7 @@ ghost use Rattle.model.specs.Block.{block_of, known_form, sum_of_words, weighed_
 ghost use Rattle.model.specs.Blocks.{is_good};
 ghost use Rattle.model.specs.Wire.{byte, word};
 
-use model::{Block, CheckedBlock};
+use model::{Block, BlockRefusal};
 
 // The words before the check, added modulo 2^32.
 fn plain_sum(bytes: &[u8]) -> u32
@@ -71,13 +71,14 @@ fn all_zero(bytes: &[u8], from: usize, n: usize) -> bool
     ensures { result ≡ all_zero bytes.now from n }
 {
     let end = (from + n).min(bytes.len());
-    let mut zero = true;
-    if from < end {
-        for x in &bytes[from..end] {
-            zero = zero & (*x == 0);
-        }
+    if end <= from {
+        return true;
     }
-    zero
+    let mut seen: u8 = 0;
+    for x in &bytes[from..end] {
+        seen |= *x;
+    }
+    seen == 0
 }
 
 // A count that no outline has.
@@ -132,26 +133,24 @@ fn known_form(form: u8) -> bool
 }
 
 // The block that these bytes are, or the job and the number of its refusal: 13 for a form that is not known, 10 for a wrong check, then 11.
-pub fn check_block(bytes: &[u8]) -> CheckedBlock
+pub fn check_block(bytes: &[u8]) -> Result<Block, BlockRefusal>
     ensures { result ≡ checked_block bytes.now }
 {
     if !known_form(wire::byte(bytes, 6)) {
-        return CheckedBlock::Refused(0, 13);
+        return Err(BlockRefusal { job: 0, number: 13 });
     }
     if !check_holds(bytes) {
-        return CheckedBlock::Refused(0, 10);
+        return Err(BlockRefusal { job: 0, number: 10 });
     }
     if bad_fields(bytes) {
-        return CheckedBlock::Refused(wire::word(bytes, 0), 11);
+        let job = wire::word(bytes, 0);
+        return Err(BlockRefusal { job, number: 11 });
     }
-    CheckedBlock::Good(block_of(bytes))
+    Ok(block_of(bytes))
 }
 
-pub fn good(checked: CheckedBlock) -> bool
+pub fn good(checked: Result<Block, BlockRefusal>) -> bool
     ensures { result ≡ is_good checked }
 {
-    match checked {
-        CheckedBlock::Good(_) => true,
-        CheckedBlock::Refused(_, _) => false,
-    }
+    checked.is_ok()
 }

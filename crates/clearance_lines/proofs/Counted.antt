@@ -7,12 +7,12 @@ use native.Mathlib.Omega.{arith}
 use borrow.Author.Tests.{ne_eqb}
 use lib.Ieee.{binary32}
 use lib.ListN.{length}
-use Rattle.model.specs.declared.BlockAnswer.TheVariants as sheet
 use Rattle.model.specs.declared.Totals.{Totals}
 use Rattle.model.specs.Text.{decimal, line}
 use Rattle.model.specs.Parts.{together}
 use Rattle.model.specs.Sheet.{refused_line, none, total_line}
 use Rattle.model.specs.Counted.{after_blanks, printed_letter, how_many}
+use Rattle.model.specs.Block.{refused}
 use Rattle.model.proofs.Counted.{letter-printed}
 use Rattle.text.proofs.ReadBack.{Digits, decimal-digits}
 use Rattle.clearance_call.specs.declared.Cleared.{Cleared}
@@ -34,7 +34,7 @@ behind-three n job r = past-field 2 (decimal n) _ (decimal-digits 20 n) ∙ past
 
 told-letter : (n job : ℕ) (x : Cleared) → printed_letter (line (decimal n ∷ decimal job ∷ fields_of x)) ≡ letter_told x
 unfolding line refused_line
-told-letter n job (Refused number) = letter-printed binary32 n (sheet.Refused job number)
+told-letter n job (Refused number) = letter-printed binary32 n (refused job number)
 told-letter n job (Clear pieces) = rw (behind-three n job _)
 told-letter n job (Touch u t pieces) = rw (behind-three n job _)
 told-letter n job (Open u pieces) = rw (behind-three n job _)

@@ -79,16 +79,11 @@ fn convert_blocks(part: &[u8], before: u64, file: &mut [u8], text: &mut [u8]) ->
     ensures put_2 { Put text.old 0 (told_from before (whole_of part.now)) text.new result.text }
     ensures text_bound { result.text ≤ 21 * (length part.now / block_size) }
 {
-    let k = part.len() / 512;
     let mut at = Places { file: 0, text: 0 };
     let mut n = before;
-    let mut i: usize = 0;
-    while i < k {
-        let from = 512 * i;
-        let end = from + 512;
-        at = convert_block(&part[from..end], n, file, text, at);
+    for block in part.chunks_exact(512) {
+        at = convert_block(block, n, file, text, at);
         n += 1;
-        i += 1;
     }
     at
 }

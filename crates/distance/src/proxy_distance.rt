@@ -12,8 +12,8 @@ use ground::{
     add, distance, dot, inv_rotate_vec, max, neg, normalize_or_zero, scale, sub, transform_point,
 };
 use model::{
-    Checked, CheckedPose, Distance, DistanceAnswer, Ending, Measurement, Pose, ProxyDistanceOutput,
-    Rounds, SimplexCache, SimplexVertex, Vector, WitnessPoints,
+    Distance, Ending, Measurement, Pose, ProxyDistanceOutput, Refusal, Rounds, SimplexCache,
+    SimplexVertex, Vector, WitnessPoints,
 };
 use outline::{point, support_index};
 use simplex::{solve, witness_points};
@@ -324,26 +324,26 @@ pub fn proxy_distance(
     ensures { result ≡ Model.proxy_distance binary32 pos12 points_a.now radius_a points_b.now radius_b use_radii pair cache }
 {
     let outlines = check_pair(points_a, points_b, radius_a, radius_b);
-    let Checked::Passed = outlines else {
+    let Ok(()) = outlines else {
         let number = refusal(outlines);
         return Distance {
-            answer: DistanceAnswer::Refused(number),
+            answer: Err(Refusal { number }),
             cache,
         };
     };
     let pose = check_pose(pos12);
-    let CheckedPose::Good(good) = pose else {
+    let Ok(good) = pose else {
         let number = pose_refusal(pose);
         return Distance {
-            answer: DistanceAnswer::Refused(number),
+            answer: Err(Refusal { number }),
             cache,
         };
     };
     let owned = check_cache(pair, cache);
-    let Checked::Passed = owned else {
+    let Ok(()) = owned else {
         let number = refusal(owned);
         return Distance {
-            answer: DistanceAnswer::Refused(number),
+            answer: Err(Refusal { number }),
             cache,
         };
     };
@@ -353,7 +353,7 @@ pub fn proxy_distance(
     let output = measured.output;
     let cache = measured.cache;
     Distance {
-        answer: DistanceAnswer::Measured(output),
+        answer: Ok(output),
         cache,
     }
 }

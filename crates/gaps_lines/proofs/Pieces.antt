@@ -1,4 +1,5 @@
 -- The pieces of a line: how long they get, and how a line is made of them. Assumes nothing.
+use Rattle.std.proofs.Common.{Ok, Err}
 use mathlib.Core.Path.{◌≡◌, refl, sym, ap, ◌∙◌}
 use mathlib.Core.List.{List, [], ◌∷◌, ◌++◌, append_assoc, append-nil}
 use Prim.Native.Nat.{ℕ, zero, suc, ◌+◌, ◌*◌, ◌≤◌}
@@ -7,11 +8,9 @@ use native.Mathlib.Numerals.{add-one}
 use lib.Ieee.{Float, binary32, to_bits}
 use lib.ListN.{length, length-append}
 use Rattle.model.specs.declared.Sweep.{Sweep}
-use Rattle.model.specs.declared.BlockAnswer.{BlockAnswer}
-use Rattle.model.specs.declared.BlockAnswer.TheVariants.{Worked, Refused}
 use Rattle.model.specs.Sheet.{refused_line}
 use Rattle.model.specs.Text.{decimal, hex_float, line}
-use Rattle.model.specs.Work.{floats_at, move_at}
+use Rattle.model.specs.Work.{floats_at, move_at, BlockAnswer}
 use Rattle.text.specs.Put.{number}
 use Rattle.text.proofs.Lengths.{length-number, length-hex}
 use Rattle.gaps_lines.specs.declared.part.Tally.{Tally}
@@ -114,5 +113,5 @@ length-refused n job k =
     rw (refused-is n job k, length-append (two n job 32) (number k 10)) (omega (arith, length_two n job 32, length-number k 10))
 
 pub length-line : (n : ℕ) (b : List ℕ) (x : BlockAnswer) → length (line_by binary32 n b x) ≤ longest_line
-length-line n b (Worked job v) = length-worked n job b
-length-line n b (Refused job k) = length-refused n job k
+length-line n b (Ok w) = length-worked n w.job b
+length-line n b (Err r) = length-refused n r.job r.number

@@ -51,10 +51,8 @@ pub fn put_gaps(
         out.new result }
 {
     let mut to = at;
-    let mut k: u16 = 0;
-    while k < 256 {
+    for k in 0..256 {
         to = put_gap(out, to, points_a, sweep_a, points_b, sweep_b, most, k, b' ');
-        k += 1;
     }
     put_gap(
         out, to, points_a, sweep_a, points_b, sweep_b, most, 256, b'\n',

@@ -1,8 +1,7 @@
 // The lines of a part of the input, and after the last part the totals.
 ghost use Rattle.std.specs.Prelude.{◌≡◌, ◌+◌, ◌*◌, ◌/◌, ◌≤◌, length};
 ghost use Rattle.std.specs.Float.{binary32};
-ghost use Rattle.model.specs.declared.BlockAnswer.TheVariants as Answer;
-ghost use Rattle.model.specs.Block.{block_size};
+ghost use Rattle.model.specs.Block.{block_size, refused};
 ghost use Rattle.model.specs.Blocks.{whole_blocks};
 ghost use Rattle.model.specs.Parts.{count_limit};
 ghost use Rattle.model.specs.Sheet.{refused_line};
@@ -14,7 +13,7 @@ ghost use Rattle.gaps_lines.specs.Part as Part;
 
 use crate::job::{put_refused, put_worked};
 use crate::put::{put, put_two};
-use model::{BlockAnswer, COUNT_LIMIT};
+use model::COUNT_LIMIT;
 
 // So many bytes are a part: 24 blocks. A shorter one is the last.
 pub const PART_SIZE: usize = 12288;
@@ -37,6 +36,7 @@ pub struct Printed {
     pub last: bool,
 }
 
+// The place after the lines so far, and the tally after them.
 #[derive(Clone, Copy)]
 struct Lines {
     at: usize,
@@ -44,12 +44,13 @@ struct Lines {
 }
 
 // The line of a refused block more, whose number follows those counted before.
-fn write_refused(out: &mut [u8], at: usize, t: Tally, job: u32, number: u32) -> Lines
-    requires { (at + longest_line ≤ length out.old) × Below 0xffff_ffff_ffff_ffff t }
-    ensures { Put out.old at (refused_line (t.blocks + 1) job number) out.new result.at
-        × (result.tally ≡ counted t (Answer.Refused job number)) }
+fn write_refused(out: &mut [u8], lines: Lines, job: u32, number: u32) -> Lines
+    requires { (lines.at + longest_line ≤ length out.old) × Below 0xffff_ffff_ffff_ffff lines.tally }
+    ensures { Put out.old lines.at (refused_line (lines.tally.blocks + 1) job number) out.new result.at
+        × (result.tally ≡ counted lines.tally (refused job number)) }
 {
-    let end = put_refused(out, at, t.blocks + 1, job, number);
+    let t = lines.tally;
+    let end = put_refused(out, lines.at, t.blocks + 1, job, number);
     let tally = Tally {
         blocks: t.blocks + 1,
         refused: t.refused + 1,
@@ -58,26 +59,28 @@ fn write_refused(out: &mut [u8], at: usize, t: Tally, job: u32, number: u32) -> 
 }
 
 // The line of one block more.
-fn write_block(bytes: &[u8], out: &mut [u8], at: usize, t: Tally) -> Lines
-    requires { (at + longest_line ≤ length out.old) × Below 0xffff_ffff_ffff_ffff t }
-    ensures { Put out.old at (line_by binary32 (t.blocks + 1) bytes.now (block_answer binary32 bytes.now))
-        out.new result.at × (result.tally ≡ counted t (block_answer binary32 bytes.now)) }
+fn write_block(bytes: &[u8], out: &mut [u8], lines: Lines) -> Lines
+    requires { (lines.at + longest_line ≤ length out.old) × Below 0xffff_ffff_ffff_ffff lines.tally }
+    ensures { Put out.old lines.at (line_by binary32 (lines.tally.blocks + 1) bytes.now (block_answer binary32 bytes.now))
+        out.new result.at × (result.tally ≡ counted lines.tally (block_answer binary32 bytes.now)) }
 {
     let answer = work::answer_block(bytes);
     match answer {
-        BlockAnswer::Worked(job, _) => {
-            let end = put_worked(out, at, t.blocks + 1, job, bytes);
+        Ok(worked) => {
+            let t = lines.tally;
+            let end = put_worked(out, lines.at, t.blocks + 1, worked.job, bytes);
             let tally = Tally {
                 blocks: t.blocks + 1,
                 refused: t.refused,
             };
             Lines { at: end, tally }
         }
-        BlockAnswer::Refused(job, number) => write_refused(out, at, t, job, number),
+        Err(refusal) => write_refused(out, lines, refusal.job, refusal.number),
     }
 }
 
-// The lines of the whole blocks of a part, each from its own 512 bytes, with the tally carried on.
+// The lines of the whole blocks of a part, each from its own 512 bytes, with the tally carried on. One walk for all crates of lines would take each
+// crate's answers, lines and totals as a trait with a law for each step: that is longer than the loop.
 fn write_blocks(part: &[u8], out: &mut [u8], t: Tally) -> Lines
     requires { (longest_line * (length part.now / block_size) ≤ length out.old) × Below count_limit t }
     ensures put { Put out.old 0
@@ -86,31 +89,22 @@ fn write_blocks(part: &[u8], out: &mut [u8], t: Tally) -> Lines
     ensures at_bound { (result.at ≤ longest_line * (length part.now / block_size)) × Below (count_limit + length part.now / block_size)
         result.tally }
 {
-    let k = part.len() / 512;
-    let mut tally = t;
-    let mut at: usize = 0;
-    let mut i: usize = 0;
-    while i < k {
-        let from = 512 * i;
-        let end = from + 512;
-        let written = write_block(&part[from..end], out, at, tally);
-        let next = written.tally;
-        at = written.at;
-        tally = next;
-        i += 1;
+    let mut lines = Lines { at: 0, tally: t };
+    for block in part.chunks_exact(512) {
+        lines = write_block(block, out, lines);
     }
-    Lines { at, tally }
+    lines
 }
 
 // The line of a rest of fewer bytes than a block, where there is one.
-fn write_rest(out: &mut [u8], at: usize, t: Tally, rest: usize) -> Lines
-    requires { (at + longest_line ≤ length out.old) × Below 0xffff_ffff_ffff_ffff t }
-    ensures { Put out.old at (rest_line t rest) out.new result.at × (result.tally ≡ rest_tally t rest) }
+fn write_rest(out: &mut [u8], lines: Lines, rest: usize) -> Lines
+    requires { (lines.at + longest_line ≤ length out.old) × Below 0xffff_ffff_ffff_ffff lines.tally }
+    ensures { Put out.old lines.at (rest_line lines.tally rest) out.new result.at × (result.tally ≡ rest_tally lines.tally rest) }
 {
     if rest == 0 {
-        return Lines { at, tally: t };
+        return lines;
     }
-    write_refused(out, at, t, 0, 9)
+    write_refused(out, lines, 0, 9)
 }
 
 // The last line.
@@ -144,7 +138,7 @@ pub fn write_part(part: &[u8], out: &mut [u8], t: Tally) -> Printed
         };
     }
     let blocks = write_blocks(part, out, t);
-    let lines = write_rest(out, blocks.at, blocks.tally, part.len() % 512);
+    let lines = write_rest(out, blocks, part.len() % 512);
     let tally = lines.tally;
     if part.len() < PART_SIZE {
         let end = put_total(out, lines.at, tally);

@@ -5,22 +5,23 @@ ghost use Rattle.text.specs.Put.{Put, hex};
 ghost use Rattle.job_text.specs.Job.{place_of, words_of, job_line, longest_line, line_for, plain_block};
 ghost use Rattle.job_text.specs.Pieces.{spaced, head_of};
 
-use model::CheckedBlock;
+use model::{Block, BlockRefusal};
 
 // No job's line is longer.
 const LONGEST_LINE: usize = 855;
 
 // As `sheet` reads it where byte 6 is 0; else refused, by the sum of form 1.
-pub fn check_plain(bytes: &[u8]) -> CheckedBlock
+pub fn check_plain(bytes: &[u8]) -> Result<Block, BlockRefusal>
     ensures { result ≡ plain_block bytes.now }
 {
     if wire::byte(bytes, 6) == 0 {
         return block::check_block(bytes);
     }
     if block::sum_of_words(bytes) == 0xffff_ffff {
-        return CheckedBlock::Refused(wire::word(bytes, 0), 11);
+        let job = wire::word(bytes, 0);
+        return Err(BlockRefusal { job, number: 11 });
     }
-    CheckedBlock::Refused(0, 10)
+    Err(BlockRefusal { job: 0, number: 10 })
 }
 
 // Where word j of the line stands.

@@ -4,7 +4,7 @@
 use crate::floats::{put_float, put_vector};
 use crate::pool::{cache, index, outline, pose, radii};
 use distance::proxy_distance::proxy_distance;
-use model::{Distance, DistanceAnswer, Ending, ProxyDistanceOutput, SimplexCache};
+use model::{Distance, Ending, ProxyDistanceOutput, SimplexCache};
 use replay_rows::{Words, put};
 
 fn call(row: &[u8], pool: &[u8], numbers: &[f32]) -> Distance {
@@ -54,8 +54,8 @@ pub fn answer(row: &[u8], pool: &[u8], numbers: &[f32], words: &mut Words) {
     let answer = d.answer;
     let cache = d.cache;
     match answer {
-        DistanceAnswer::Refused(n) => put(words, 0, n),
-        DistanceAnswer::Measured(o) => put_output(words, o),
+        Err(refused) => put(words, 0, refused.number),
+        Ok(o) => put_output(words, o),
     }
     put_cache(words, cache);
 }

@@ -4,17 +4,18 @@
 // and of B.
 use crate::floats::{put_float, put_vector};
 use crate::pool::{index, outline, request};
-use model64::{Outcome, Verdict};
+use model::Refusal;
+use model64::Verdict;
 use replay_rows::{Words, put, status_number};
 
 // The kind of a row that has this answer.
-fn kind(answer: Outcome) -> u32 {
+fn kind(answer: Result<Verdict, Refusal>) -> u32 {
     match answer {
-        Outcome::Found(v) => {
+        Ok(v) => {
             let status = v.status;
             status_number(status)
         }
-        Outcome::Refused(number) => number,
+        Err(refusal) => refusal.number,
     }
 }
 
@@ -38,7 +39,7 @@ pub fn answer(row: &[u8], pool: &[u8], numbers: &[f64], words: &mut Words) {
     let answer = sweep_numbers64::told(sweep_numbers64::sweep_of(a, b, &request));
     put(words, 0, kind(answer));
     match answer {
-        Outcome::Found(v) => put_verdict(words, v),
-        Outcome::Refused(_) => {}
+        Ok(v) => put_verdict(words, v),
+        Err(_) => {}
     }
 }

@@ -6,11 +6,8 @@ use replay_rows::{Words, put, status_number};
 // The kind of a row that has this answer.
 fn kind(answer: BlockAnswer) -> u32 {
     match answer {
-        BlockAnswer::Worked(_, v) => {
-            let status = v.status;
-            status_number(status)
-        }
-        BlockAnswer::Refused(_, number) => number,
+        Ok(worked) => status_number(worked.verdict.status),
+        Err(refusal) => refusal.number,
     }
 }
 

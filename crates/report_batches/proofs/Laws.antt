@@ -10,11 +10,10 @@ use lib.Dec.{ltb}
 use lib.Ieee.{binary32}
 use lib.ListN.{length, get_or, take, drop, length-drop, drop_of_length-le}
 use lib.Seq.{take_all, take-length, drop-length, drop-drop, take-suc}
-use Rattle.model.specs.declared.BlockAnswer.{BlockAnswer}
-use Rattle.model.specs.declared.BlockAnswer.TheVariants.{Refused}
-use Rattle.model.specs.Work.{block_answer}
+use Rattle.model.specs.Work.{block_answer, BlockAnswer}
 use Rattle.model.specs.Blocks.{whole_blocks}
 use Rattle.model.specs.Sheet.{whole_answers, rest_answer, answers}
+use Rattle.model.specs.Block.{refused}
 use Rattle.model.proofs.Sheet.{answers-more, answers-cut}
 use Rattle.report_counts.specs.declared.counting.Report.{Report}
 use Rattle.report_counts.specs.Report.{report, counted, counted_all, together}
@@ -42,7 +41,7 @@ pub no-rest : (r : Report) (rest : ℕ) → rest ≡ 0 → r ≡ counted_all r (
 unfolding counted_all
 no-rest r rest e = rw (eq-eqb rest 0 e)
 
-pub a-rest : (r : Report) (rest : ℕ) → (rest ≡ 0 → ⊥) → counted r (Refused 0 9) ≡ counted_all r (rest_answer rest)
+pub a-rest : (r : Report) (rest : ℕ) → (rest ≡ 0 → ⊥) → counted r (refused 0 9) ≡ counted_all r (rest_answer rest)
 unfolding counted_all
 a-rest r rest h = rw (ne_eqb rest 0 h)
 

@@ -1,9 +1,9 @@
 -- The bytes of batches: a part of one worked into its report, and batches one behind another.
 use Rattle.std.specs.Prelude.{ℕ, cond, List, [], ◌∷◌, ltb, take, drop}
 use Rattle.std.specs.Float.{binary32}
-use Rattle.model.specs.declared.BlockAnswer.{BlockAnswer}
 use Rattle.model.specs.Sheet.{answers}
 use Rattle.model.specs.Parts.{is_last}
+use Rattle.model.specs.Work.{BlockAnswer}
 use Rattle.runs.specs.Run.{run}
 use Rattle.report_counts.specs.declared.counting.Report.{Report}
 use Rattle.report_counts.specs.Report.{report, counted_all, together}

@@ -8,7 +8,7 @@ ghost use Rattle.model.specs.Sheet.{answers, whole_answers, rest_answer};
 ghost use Rattle.report_counts.specs.Report.{report, counted_all};
 ghost use Rattle.report_batches.specs.Batches.{added, lesser, batches_in};
 
-use model::{BlockAnswer, PART_SIZE};
+use model::{BlockRefusal, PART_SIZE};
 use report_counts::Report;
 
 // A batch's report so far, and whether the part was its last.
@@ -42,7 +42,7 @@ fn add_rest(r: Report, rest: usize) -> Report
     if rest == 0 {
         return r;
     }
-    report_counts::counted(r, BlockAnswer::Refused(0, 9))
+    report_counts::counted(r, Err(BlockRefusal { job: 0, number: 9 }))
 }
 
 // All answers of a part counted in.

@@ -1,4 +1,5 @@
 -- The lines of a report: what each name is, how long they get, and one row more. Assumes nothing.
+use Rattle.std.proofs.Common.{Option, Some, None}
 use mathlib.Core.Path.{◌≡◌, refl, sym, ap, subst, ◌∙◌}
 use mathlib.Core.Bool.{Bool, true, false, ◌&&◌}
 use mathlib.Core.List.{List, [], ◌∷◌, ◌++◌, append_assoc, append-nil}
@@ -13,7 +14,6 @@ use lib.Seq.{take_all, drop-drop}
 use Rattle.text.specs.Put.{Put, where_room, number}
 use Rattle.text.proofs.Lengths.{length-number, roomy}
 use Rattle.report_counts.specs.declared.most.Most.{Most}
-use Rattle.report_counts.specs.declared.most.Most.TheVariants.{Nowhere, At}
 use Rattle.report_lines.specs.Text.{labels, row_text, rows_text, place_text, most_text, named_text}
 
 -- ---- names
@@ -152,9 +152,9 @@ length-place n i j =
     rw (length-append (number n 32 ++ number i 32) (number j 10), length-append (number n 32) (number i 32))
     (omega (arith, length-number n 32, length-number i 32, length-number j 10))
 
-length_most : (m : Most) → length (most_text m) ≤ 63
-length_most Nowhere = length-place 0 0 0
-length_most (At n i j) = length-place n i j
+length_most : (m : Option Most) → length (most_text m) ≤ 63
+length_most None = length-place 0 0 0
+length_most (Some s) = length-place s.count s.batch s.block
 
-pub length-named : (name : List ℕ) (m : Most) → length (named_text name m) ≤ length name + 63
+pub length-named : (name : List ℕ) (m : Option Most) → length (named_text name m) ≤ length name + 63
 length-named name m = rw (length-append name (most_text m)) (omega (arith, length_most m))

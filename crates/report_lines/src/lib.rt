@@ -5,7 +5,7 @@ ghost use Rattle.std.specs.Prelude.{◌+◌, ◌<◌, ◌≤◌, ◌≡◌, [], 
 ghost use Rattle.text.specs.Put.{Put};
 ghost use Rattle.report_lines.specs.Text.{labels, row_text, rows_text, place_text, most_text, named_text, largest_text, text_in};
 
-use report_counts::{Largest, Most, Report};
+use report_counts::{Largest, Report, Most};
 
 // How many rows a report has.
 const ROWS: usize = 28;
@@ -67,10 +67,8 @@ fn put_rows(out: &mut [u8], at: usize, counts: [u64; ROWS]) -> usize
     ensures upper_bound { result ≤ at + 896 }
 {
     let mut end = at;
-    let mut i: usize = 0;
-    while i < ROWS {
-        end = put_row(out, end, i, counts[i]);
-        i += 1;
+    for (row, n) in counts.iter().enumerate() {
+        end = put_row(out, end, row, *n);
     }
     end
 }
@@ -86,18 +84,18 @@ fn put_place(out: &mut [u8], at: usize, n: u64, batch: u64, block: u64) -> usize
 }
 
 // A largest count with its place; zeros where there is none.
-fn put_most(out: &mut [u8], at: usize, m: Most) -> usize
+fn put_most(out: &mut [u8], at: usize, m: Option<Most>) -> usize
     requires { at + 63 ≤ length out.old }
     ensures { Put out.old at (most_text m) out.new result }
 {
     match m {
-        Most::Nowhere => put_place(out, at, 0, 0, 0),
-        Most::At(n, batch, block) => put_place(out, at, n as u64, batch, block),
+        None => put_place(out, at, 0, 0, 0),
+        Some(s) => put_place(out, at, s.count as u64, s.batch, s.block),
     }
 }
 
 // The same after a name.
-fn put_named(out: &mut [u8], at: usize, name: &[u8], m: Most) -> usize
+fn put_named(out: &mut [u8], at: usize, name: &[u8], m: Option<Most>) -> usize
     requires { (at + 72 ≤ length out.old) × (length name.now ≤ 9) }
     ensures { Put out.old at (named_text name.now m) out.new result }
 {

@@ -1,5 +1,5 @@
 // The room of a move: the largest distance found that it is proved to keep throughout. How it is found is not trusted: what is told was proved clear.
-ghost use Rattle.std.specs.Prelude.{true, ◌≡◌, ◌≤◌, take, length};
+ghost use Rattle.std.specs.Prelude.{true, ◌≡◌, ◌≤◌, take, length, IfSome};
 ghost use Rattle.rooms_block.specs.Rooms.{is_clear, Keeps};
 
 use crate::look::look;
@@ -11,13 +11,6 @@ struct Span {
     room: f32,
     limit: f32,
     closed: bool,
-}
-
-// Whether there is one, and how much.
-#[derive(Clone, Copy)]
-pub struct Room {
-    pub found: bool,
-    pub room: f32,
 }
 
 fn is_clear(answer: Cleared) -> bool
@@ -114,23 +107,19 @@ fn widest(points_a: &[f32], points_b: &[f32], numbers: [f32; 32], least: f32, fi
     s.room
 }
 
-// The room of a move, where it is clear with its own slop.
+// The room of a move; none where it is not proved clear with its own slop.
 pub fn room_of(
     points_a: &[f32],
     points_b: &[f32],
     numbers: [f32; 32],
     slop: f32,
     first: f32,
-) -> Room
+) -> Option<f32>
     requires { length numbers ≡ 32 }
-    ensures { result.found ≡ true → Keeps points_a.now points_b.now (take 24 numbers) result.room }
+    ensures { IfSome result (λ room. Keeps points_a.now points_b.now (take 24 numbers) room) }
 {
     if !keeps(points_a, points_b, numbers, slop) {
-        return Room {
-            found: false,
-            room: 0.0,
-        };
+        return None;
     }
-    let room = widest(points_a, points_b, numbers, slop, first);
-    Room { found: true, room }
+    Some(widest(points_a, points_b, numbers, slop, first))
 }

@@ -1,4 +1,5 @@
 -- Blocks worked one after the other, what there is room for, and that no count overflows. Assumes nothing.
+use Rattle.std.proofs.Common.{is_err}
 use mathlib.Core.Path.{◌≡◌, refl, sym, ap, ◌∙◌}
 use mathlib.Core.Bool.{Bool, true, false, ◌&&◌, cond, true≢false}
 use mathlib.Core.List.{List, [], ◌∷◌, ◌++◌, append-nil}
@@ -16,8 +17,7 @@ use Rattle.model.proofs.Blocks.{blocks_more}
 use Rattle.model.proofs.DistanceCall.{both}
 use Rattle.text.specs.Put.{Put}
 use Rattle.text.proofs.Pasted.{put-nothing, put_then}
-use Rattle.rooms_block.specs.declared.BlockRooms.{BlockRooms}
-use Rattle.rooms_block.specs.Answer.{AnswerOf, AnswersOf}
+use Rattle.rooms_block.specs.Answer.{BlockRooms, AnswerOf, AnswersOf}
 use Rattle.rooms_lines.specs.Lines.{longest_line, line_of, lines_from, counted, totals_from, total_line}
 use Rattle.rooms_lines.specs.Part.{Below, countable, fits, Worked, PartWorked}
 use Rattle.rooms_lines.proofs.Folds.{lines-append, totals-append, answers-append, blocks-counted}
@@ -32,7 +32,7 @@ at_most_one true r n h = omega arith
 at_most_one false r n h = omega arith
 
 pub below_more : (n : ℕ) (t : Tally) (x : BlockRooms) → Below n t → Below (n + 1) (counted t x)
-below_more n t x h = record { blocks = omega (arith, h.blocks); refused = at_most_one (ltb 0 x.number) t.refused n h.refused }
+below_more n t x h = record { blocks = omega (arith, h.blocks); refused = at_most_one (is_err x) t.refused n h.refused }
 
 -- ---- what there is room for
 countable-below : (t : Tally) → countable t ≡ true → Below count_limit t

@@ -14,8 +14,7 @@ use Rattle.model.proofs.Sheet.{WholeParts}
 use Rattle.model.proofs.Blocks.{blocks-in-two-parts, whole-counted}
 use Rattle.runs.specs.Run.{Cut}
 use Rattle.runs.proofs.Whole.{run-makes-whole, text-steps}
-use Rattle.rooms_block.specs.declared.BlockRooms.{BlockRooms}
-use Rattle.rooms_block.specs.Answer.{AnswersOf}
+use Rattle.rooms_block.specs.Answer.{BlockRooms, AnswersOf}
 use Rattle.rooms_lines.specs.Lines.{longest_line, lines_from, none, totals_from, total_line, text_of}
 use Rattle.rooms_lines.specs.Part.{countable, fits, text_for, totals_for, last_for, answers_from, came_for, run, EachPart, Printed}
 use Rattle.rooms_lines.proofs.Folds.{lines-append, totals-append, answers-append, blocks-counted, no-more-refused}

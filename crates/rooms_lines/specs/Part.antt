@@ -6,8 +6,7 @@ use Rattle.model.specs.Blocks.{blocks}
 use Rattle.model.specs.Parts.{count_limit, is_last}
 use Rattle.text.specs.Put.{Put}
 use Rattle.runs.specs.Run.{text_run}
-use Rattle.rooms_block.specs.declared.BlockRooms.{BlockRooms}
-use Rattle.rooms_block.specs.Answer.{AnswersOf}
+use Rattle.rooms_block.specs.Answer.{BlockRooms, AnswersOf}
 use Rattle.rooms_lines.specs.declared.part.Written.{Written}
 use Rattle.rooms_lines.specs.Lines.{longest_line, lines_from, totals_from, total_line, text_of}
 

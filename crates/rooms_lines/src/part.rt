@@ -1,5 +1,5 @@
 // The lines of a part of the input, and after the last part the totals.
-ghost use Rattle.std.specs.Prelude.{◌≡◌, ◌+◌, ◌*◌, ◌/◌, ◌≤◌, length};
+ghost use Rattle.std.specs.Prelude.{◌≡◌, ◌+◌, ◌*◌, ◌/◌, ◌≤◌, length, IfOk};
 ghost use Rattle.model.specs.Block.{block_size};
 ghost use Rattle.model.specs.Blocks.{whole_blocks, short_rest};
 ghost use Rattle.model.specs.Parts.{count_limit};
@@ -42,21 +42,21 @@ fn counted(t: Tally, a: BlockRooms) -> Tally
     requires { Below 0xffff_ffff_ffff_ffff t }
     ensures { result ≡ Printed.counted t a }
 {
-    if a.number > 0 {
-        return Tally {
+    match a {
+        Ok(_) => Tally {
+            blocks: t.blocks + 1,
+            refused: t.refused,
+        },
+        Err(_) => Tally {
             blocks: t.blocks + 1,
             refused: t.refused + 1,
-        };
-    }
-    Tally {
-        blocks: t.blocks + 1,
-        refused: t.refused,
+        },
     }
 }
 
 // The line of one answer more, whose number follows those counted before.
 fn write_answer(out: &mut [u8], at: usize, t: Tally, a: BlockRooms) -> Lines
-    requires { (at + longest_line ≤ length out.old) × Below 0xffff_ffff_ffff_ffff t × (length a.cells ≡ 64) }
+    requires { (at + longest_line ≤ length out.old) × Below 0xffff_ffff_ffff_ffff t × IfOk a (λ p. length p.cells ≡ 64) }
     ensures { Put out.old at (line_of (t.blocks + 1) a) out.new result.at × (result.totals ≡ Printed.counted t a) }
 {
     let end = put_answer(out, at, t.blocks + 1, a);

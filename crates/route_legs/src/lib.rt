@@ -5,10 +5,7 @@ ghost use Rattle.std.specs.Prelude.{◌≡◌, true, false, ◌+◌, ◌*◌, �
 ghost use Rattle.std.specs.Float.{binary32};
 ghost use Rattle.route_legs.specs.Route as Route;
 
-use model::{
-    Contact, Corners, Counts, NO_CORNER, Outcome, Rotation, Status, SupportPair, Sweep,
-    SweepAnswer, Vector,
-};
+use model::{Contact, Corners, Counts, NO_CORNER, Refusal, Rotation, Status, SupportPair, Sweep, SweepAnswer, Vector, Verdict};
 use outline::point;
 use sweep_numbers::turn;
 
@@ -80,10 +77,8 @@ fn start_of(lengths: &[u32], j: usize) -> usize
     ensures { (result ≡ Route.start_of lengths.now j) × (result ≤ 0x1_0000_0000 * j) }
 {
     let mut start: usize = 0;
-    let mut i: usize = 0;
-    while i < j {
-        start += lengths[i] as usize;
-        i += 1;
+    for n in &lengths[..j] {
+        start += *n as usize;
     }
     start
 }
@@ -163,16 +158,16 @@ fn calls_of(answer: SweepAnswer) -> u32
     }
 }
 
-fn ended_with(stop: Stop, outcome: Outcome) -> RouteAnswer
+fn ended_with(stop: Stop, outcome: Result<Verdict, Refusal>) -> RouteAnswer
     ensures { result ≡ Route.ended_with stop outcome }
 {
     match outcome {
-        Outcome::Found(v) => {
+        Ok(v) => {
             let status = v.status;
             let contact = v.contact;
             RouteAnswer::Ended(stop, status, contact)
         }
-        Outcome::Refused(number) => RouteAnswer::Refused(stop, number),
+        Err(refusal) => RouteAnswer::Refused(stop, refusal.number),
     }
 }
 
@@ -230,8 +225,7 @@ fn walk(
     ensures { result ≡ Route.walk_from binary32 cart.now waypoints.now stills.now lengths.now slop sweeps 0 0 }
 {
     let mut calls = 0u32;
-    let mut k = 0u32;
-    while k < sweeps {
+    for k in 0..sweeps {
         let leg = leg_of(outlines, k);
         let outline = outline_of(outlines, k);
         let answer = sweep_at(cart, waypoints, stills, lengths, slop, leg, outline);
@@ -239,7 +233,6 @@ fn walk(
         if !is_separated(answer) {
             return ended_by(answer, stop_at(leg, outline, calls));
         }
-        k += 1;
     }
     RouteAnswer::Clear(calls)
 }

@@ -8,10 +8,10 @@ use borrow.Author.Tests.{lt-ltb, le-ltb}
 use lib.ListN.{length, drop}
 use lib.Seq.{sets, sets-eq}
 use lib.Ieee.{Float}
+use Rattle.std.proofs.Common.{Ok, Err}
 use Rattle.model.specs.declared.Vector.{Vector}
 use Rattle.model.specs.declared.Pose.{Pose}
-use Rattle.model.specs.Domain.{or_else, checked, checked_pose, refusal_of_pose}
-use Rattle.shapes.specs.declared.Built.TheVariants.{Corners, Refused}
+use Rattle.model.specs.Domain.{or_else, checked, checked_pose, refusal_of_pose, numbered}
 use Rattle.shapes.specs.Shapes.{flat, told, left}
 
 -- ---- the number of a check
@@ -30,12 +30,12 @@ flat-length [] = refl
 flat-length (v ∷ s) = omega (arith, flat-length s)
 
 module _ (corners : List Vector) (out : List Float) where
-  pub refused : (n : ℕ) → (n ≡ 0 → ⊥) → (Refused n ≡ told n corners out) × (out ≡ left n corners out)
+  pub refused : (n : ℕ) → (n ≡ 0 → ⊥) → (Err (numbered n) ≡ told n corners out) × (out ≡ left n corners out)
   unfolding told left
   refused zero h = absurd (h refl)
   refused (suc n) h = (refl, refl)
 
-  pub no_room : (n : ℕ) → n ≡ 0 → length out < 2 * length corners → (Refused 15 ≡ told n corners out) × (out ≡ left n corners out)
+  pub no_room : (n : ℕ) → n ≡ 0 → length out < 2 * length corners → (Err (numbered 15) ≡ told n corners out) × (out ≡ left n corners out)
   unfolding told left
   no_room n none short =
       let test = lt-ltb (length out) (2 * length corners) short in
@@ -46,7 +46,7 @@ module _ (corners : List Vector) (out : List Float) where
       rw (zero-add (length (flat corners)), flat-length corners) at (sets-eq (flat corners) out 0 (omega (arith, flat-length corners)))
 
   pub stored : (n : ℕ) → n ≡ 0 → 2 * length corners ≤ length out →
-      (Corners (length corners) ≡ told n corners out) × (sets out 0 (flat corners) ≡ left n corners out)
+      (Ok (length corners) ≡ told n corners out) × (sets out 0 (flat corners) ≡ left n corners out)
   unfolding told left
   stored n none room =
       let test = le-ltb (length out) (2 * length corners) room in

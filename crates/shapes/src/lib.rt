@@ -1,5 +1,5 @@
 // Outlines without typing corners: a plate from two half sizes, a bar from two ends, and both placed by a pose. The corners go to the front of a
-// lent list, x y each, and the rest of it stays; a refused build writes nothing.
+// lent list, x y each, and the rest of it stays. A build answers how many corners it wrote; a refused one writes nothing.
 #![tactic(auto)]
 
 ghost use Rattle.std.specs.Prelude.{◌≡◌, [], ◌∷◌};
@@ -8,14 +8,7 @@ ghost use Rattle.shapes.specs.Shapes as Shapes;
 
 use domain::{bad_vector, check_pose, pose_refusal};
 use ground::transform_point;
-use model::{Pose, Vector};
-
-// The number of corners written, or the number of the refusal.
-#[derive(Clone, Copy)]
-pub enum Built {
-    Corners(usize),
-    Refused(u32),
-}
+use model::{NO_ROOM, Pose, Refusal, Vector};
 
 // 3 for a half size that is no part of a point, or below 0.
 fn plate_refusal(half_x: f32, half_y: f32) -> u32
@@ -57,15 +50,15 @@ fn build_four(
     p2: Vector,
     p3: Vector,
     out: &mut [f32],
-) -> Built
+) -> Result<usize, Refusal>
     ensures { (result ≡ Shapes.told refused (p0 ∷ p1 ∷ p2 ∷ p3 ∷ []) out.old)
         × (out.new ≡ Shapes.left refused (p0 ∷ p1 ∷ p2 ∷ p3 ∷ []) out.old) }
 {
     if refused != 0 {
-        return Built::Refused(refused);
+        return Err(Refusal { number: refused });
     }
     if out.len() < 8 {
-        return Built::Refused(15);
+        return Err(NO_ROOM);
     }
     out[0] = p0.x;
     out[1] = p0.y;
@@ -75,28 +68,28 @@ fn build_four(
     out[5] = p2.y;
     out[6] = p3.x;
     out[7] = p3.y;
-    Built::Corners(4)
+    Ok(4)
 }
 
 // Two corners in the same way.
-fn build_two(refusal: u32, p0: Vector, p1: Vector, out: &mut [f32]) -> Built
+fn build_two(refusal: u32, p0: Vector, p1: Vector, out: &mut [f32]) -> Result<usize, Refusal>
     ensures { (result ≡ Shapes.told refusal (p0 ∷ p1 ∷ []) out.old) × (out.new ≡ Shapes.left refusal (p0 ∷ p1 ∷ []) out.old) }
 {
     if refusal != 0 {
-        return Built::Refused(refusal);
+        return Err(Refusal { number: refusal });
     }
     if out.len() < 4 {
-        return Built::Refused(15);
+        return Err(NO_ROOM);
     }
     out[0] = p0.x;
     out[1] = p0.y;
     out[2] = p1.x;
     out[3] = p1.y;
-    Built::Corners(2)
+    Ok(2)
 }
 
 // A plate about the origin. Corner k has the half sizes, x negated where bit 0 of k is set and y where bit 1 is.
-pub fn plate(half_x: f32, half_y: f32, out: &mut [f32]) -> Built
+pub fn plate(half_x: f32, half_y: f32, out: &mut [f32]) -> Result<usize, Refusal>
     ensures { (result ≡ Shapes.plate_told binary32 half_x half_y out.old)
         × (out.new ≡ Shapes.plate_left binary32 half_x half_y out.old) }
 {
@@ -121,7 +114,7 @@ pub fn plate(half_x: f32, half_y: f32, out: &mut [f32]) -> Built
 }
 
 // A bar from a to b.
-pub fn bar(a: Vector, b: Vector, out: &mut [f32]) -> Built
+pub fn bar(a: Vector, b: Vector, out: &mut [f32]) -> Result<usize, Refusal>
     ensures { (result ≡ Shapes.bar_told binary32 a b out.old) × (out.new ≡ Shapes.bar_left binary32 a b out.old) }
 {
     let refused = bar_refusal(a, b);
@@ -129,7 +122,7 @@ pub fn bar(a: Vector, b: Vector, out: &mut [f32]) -> Built
 }
 
 // The plate, each corner moved by the pose.
-pub fn placed_plate(half_x: f32, half_y: f32, pose: Pose, out: &mut [f32]) -> Built
+pub fn placed_plate(half_x: f32, half_y: f32, pose: Pose, out: &mut [f32]) -> Result<usize, Refusal>
     ensures { (result ≡ Shapes.placed_plate_told binary32 half_x half_y pose out.old)
         × (out.new ≡ Shapes.placed_plate_left binary32 half_x half_y pose out.old) }
 {
@@ -166,7 +159,7 @@ pub fn placed_plate(half_x: f32, half_y: f32, pose: Pose, out: &mut [f32]) -> Bu
 }
 
 // The bar, both ends moved by the pose.
-pub fn placed_bar(a: Vector, b: Vector, pose: Pose, out: &mut [f32]) -> Built
+pub fn placed_bar(a: Vector, b: Vector, pose: Pose, out: &mut [f32]) -> Result<usize, Refusal>
     ensures { (result ≡ Shapes.placed_bar_told binary32 a b pose out.old)
         × (out.new ≡ Shapes.placed_bar_left binary32 a b pose out.old) }
 {

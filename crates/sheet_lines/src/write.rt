@@ -39,13 +39,13 @@ pub fn put_answer(out: &mut [u8], at: usize, n: u64, answer: BlockAnswer) -> usi
     ensures { Put out.old at (answer_line binary32 n answer) out.new result }
 {
     match answer {
-        BlockAnswer::Worked(job, verdict) => put_worked(out, at, n, job, verdict),
-        BlockAnswer::Refused(job, number) => put_three(
+        Ok(worked) => put_worked(out, at, n, worked.job, worked.verdict),
+        Err(refusal) => put_three(
             out,
             at,
             n,
-            job as u64,
-            number as u64,
+            refusal.job as u64,
+            refusal.number as u64,
             b'\n',
         ),
     }

@@ -1,5 +1,6 @@
 -- Written by tests/written/wide.py from sheet_lines, in f64.
 -- Lines one after the other, what there is room for, and that no count overflows. Assumes nothing.
+use Rattle.std.proofs.Common.{Ok, Err}
 use mathlib.Core.Path.{◌≡◌, ◌∙◌}
 use mathlib.Core.Bool.{Bool, true, false, ◌&&◌, cond}
 use mathlib.Core.List.{List, [], ◌∷◌, ◌++◌, append-nil}
@@ -12,10 +13,8 @@ use lib.Ieee.{binary64}
 use lib.ListN.{length, take, drop}
 use Rattle.model.specs.declared.Status.{Status}
 use Rattle.model.specs.declared.Status.TheVariants.{Overlapped, Hit, Separated, Failed}
-use Rattle.model64.specs.declared.BlockAnswer.{BlockAnswer}
-use Rattle.model64.specs.declared.BlockAnswer.TheVariants.{Worked, Refused}
 use Rattle.model.specs.declared.Totals.{Totals}
-use Rattle.model64.specs.Work.{block_answer}
+use Rattle.model64.specs.Work.{block_answer, BlockAnswer}
 use Rattle.model.specs.Sheet.{one_worked}
 use Rattle.model64.specs.Sheet.{whole_answers, rest_answer, answers, answer_line, lines_from, counted, totals_from}
 use Rattle.model.specs.Sheet as Sheet
@@ -24,6 +23,7 @@ use Rattle.model64.proofs.DistanceCall.{both}
 use Rattle.model64.proofs.Sheet.{lines-append, totals-append, blocks-counted, answers-more, answers-cut}
 use Rattle.text.specs.Put.{Put}
 use Rattle.model.specs.Parts.{count_limit}
+use Rattle.model.specs.Block.{refused}
 use Rattle.sheet_lines64.specs.Part.{Below, countable, fits, longest_line}
 use Rattle.text.proofs.Pasted.{put_then}
 use Rattle.sheet_lines64.proofs.Pieces.{length-line}
@@ -41,7 +41,7 @@ below_less le h =
 
 -- an answer adds at most one to each
 pub below_more : (n : ℕ) (t : Totals) (x : BlockAnswer) → Below n t → Below (n + 1) (counted t x)
-below_more n t (Refused job number) h =
+below_more n t (Err r) h =
     record {
       blocks = omega (arith, h.blocks);
       clear = omega (arith, h.clear);
@@ -49,7 +49,7 @@ below_more n t (Refused job number) h =
       undecided = omega (arith, h.undecided);
       refused = omega (arith, h.refused);
     }
-below_more n t (Worked job v) h = go v.status
+below_more n t (Ok w) h = go w.verdict.status
   where
     go : (s : Status) → Below (n + 1) (one_worked t s)
     go Overlapped = record {
@@ -143,9 +143,9 @@ pub length_rest : (n rest : ℕ) → length (lines_from binary64 n (rest_answer 
 unfolding lines_from
 length_rest n rest = go (eqb rest 0)
   where
-    go : (b : Bool) → length (lines_from binary64 n (cond b [] (Refused 0 9 ∷ []))) ≤ longest_line
+    go : (b : Bool) → length (lines_from binary64 n (cond b [] (refused 0 9 ∷ []))) ≤ longest_line
     go true = omega arith
-    go false = rw append-nil (length-line (n + 1) (Refused 0 9))
+    go false = rw append-nil (length-line (n + 1) (refused 0 9))
 
 module _ (t₀ t : Totals) (b : List ℕ) (so_far : t ≡ totals_from t₀ (whole_answers binary64 (length b / 512) b)) where
   pub all_lines : {d₀ d d' : List ℕ} {at at' : ℕ} → Put d₀ 0 (lines_from binary64 t₀.blocks (whole_answers binary64 (length b / 512) b)) d at

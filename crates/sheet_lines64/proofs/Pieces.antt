@@ -1,5 +1,6 @@
 -- Written by tests/written/wide.py from sheet_lines, in f64.
 -- The pieces of a line: how long they get, and how a line is made of them. Assumes nothing.
+use Rattle.std.proofs.Common.{Ok, Err}
 use mathlib.Core.Path.{◌≡◌, refl}
 use mathlib.Core.Bool.{Bool, true, false, cond}
 use mathlib.Core.List.{List, [], ◌∷◌, ◌++◌, append_assoc}
@@ -11,14 +12,13 @@ use lib.Ieee.{binary64}
 use lib.ListN.{length, length-append}
 use Rattle.model.specs.declared.SupportPair.{SupportPair}
 use Rattle.model.specs.declared.Corners.{Corners}
-use Rattle.model64.specs.declared.BlockAnswer.{BlockAnswer}
-use Rattle.model64.specs.declared.BlockAnswer.TheVariants.{Worked, Refused}
 use Rattle.model64.specs.declared.Verdict.{Verdict}
 use Rattle.model.specs.declared.Totals.{Totals}
 use Rattle.model.specs.Sheet.{letter_of, refused_line, total_line}
 use Rattle.model64.specs.Sheet.{worked_line, answer_line}
 use Rattle.model.specs.Separation.{no_index}
 use Rattle.model.specs.Text.{decimal, line}
+use Rattle.model64.specs.Work.{BlockAnswer}
 use Rattle.text.specs.Put.{number}
 use Rattle.text.proofs.Lengths.{length-number}
 use Rattle.fields64.specs.Floats.{floats}
@@ -109,5 +109,5 @@ length-worked n job v =
     ))
 
 pub length-line : (n : ℕ) (x : BlockAnswer) → length (answer_line binary64 n x) ≤ longest_line
-length-line n (Worked job v) = length-worked n job v
-length-line n (Refused job number) = rw (refused-is n job number) (omega (arith, length_three n job number 10))
+length-line n (Ok w) = length-worked n w.job w.verdict
+length-line n (Err r) = rw (refused-is n r.job r.number) (omega (arith, length_three n r.job r.number 10))

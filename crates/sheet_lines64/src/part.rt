@@ -12,7 +12,7 @@ ghost use Rattle.sheet_lines64.specs.Part as Part;
 
 use crate::answer::{countable, counted};
 use crate::write::{put_answer, put_total};
-use model::{PART_SIZE, Totals};
+use model::{BlockRefusal, PART_SIZE, Totals};
 use model64::BlockAnswer;
 
 // No line is longer.
@@ -87,7 +87,7 @@ fn write_rest(out: &mut [u8], at: usize, t: Totals, rest: usize) -> Lines
     if rest == 0 {
         return Lines { at, totals: t };
     }
-    write_answer(out, at, t, BlockAnswer::Refused(0, 9))
+    write_answer(out, at, t, Err(BlockRefusal { job: 0, number: 9 }))
 }
 
 // Whether there is room for a line of each block, of a rest and of the totals, and the totals can be counted on.

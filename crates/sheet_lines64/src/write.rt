@@ -42,15 +42,8 @@ pub fn put_answer(out: &mut [u8], at: usize, n: u64, answer: BlockAnswer) -> usi
     ensures { Put out.old at (answer_line binary64 n answer) out.new result }
 {
     match answer {
-        BlockAnswer::Worked(job, verdict) => put_worked(out, at, n, job, verdict),
-        BlockAnswer::Refused(job, number) => put_three(
-            out,
-            at,
-            n,
-            job as u64,
-            number as u64,
-            b'\n',
-        ),
+        Ok(worked) => put_worked(out, at, n, worked.job, worked.verdict),
+        Err(refusal) => put_three(out, at, n, refusal.job as u64, refusal.number as u64, b'\n'),
     }
 }
 

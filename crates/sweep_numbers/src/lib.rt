@@ -1,12 +1,12 @@
 // A sweep by numbers: the moves and the sweep that they ask for, and what its answer comes to. For blocks, routes and lists from C alike.
 #![tactic(auto)]
 
-ghost use Rattle.std.specs.Prelude.{◌≡◌, ◌+◌, ◌≤◌};
+ghost use Rattle.std.specs.Prelude.{◌≡◌, ◌+◌, ◌≤◌, Ok};
 ghost use Rattle.std.specs.Float.{binary32};
 ghost use Rattle.model.specs.Work as Work;
 
 use model::{
-    Contact, Corners, Counts, Outcome, Rotation, Status, Sweep, SweepAnswer, Swept, Vector, Verdict,
+    Contact, Corners, Counts, Refusal, Rotation, Status, Sweep, SweepAnswer, Swept, Vector, Verdict,
 };
 use outline::point;
 
@@ -56,10 +56,10 @@ pub fn sweep_of(points_a: &[f32], points_b: &[f32], numbers: &[f32]) -> Swept
     )
 }
 
-fn found(status: Status, contact: Contact, counts: Counts, corners: Corners) -> Outcome
-    ensures { result ≡ Outcome.Found (Work.verdict status contact counts corners) }
+fn found(status: Status, contact: Contact, counts: Counts, corners: Corners) -> Result<Verdict, Refusal>
+    ensures { result ≡ Ok (Work.verdict status contact counts corners) }
 {
-    Outcome::Found(Verdict {
+    Ok(Verdict {
         status,
         contact,
         counts,
@@ -68,7 +68,7 @@ fn found(status: Status, contact: Contact, counts: Counts, corners: Corners) -> 
 }
 
 // What a sweep's answer comes to, with the corners beside it. An overlap has fraction 0 and zeros.
-pub fn told_by(corners: Corners, answer: SweepAnswer) -> Outcome
+pub fn told_by(corners: Corners, answer: SweepAnswer) -> Result<Verdict, Refusal>
     ensures { result ≡ Work.told_by binary32 corners answer }
 {
     let zero = Vector { x: 0.0, y: 0.0 };
@@ -84,12 +84,12 @@ pub fn told_by(corners: Corners, answer: SweepAnswer) -> Outcome
             found(Status::Separated, contact, counts, corners)
         }
         SweepAnswer::Failed(contact, counts) => found(Status::Failed, contact, counts, corners),
-        SweepAnswer::Refused(number) => Outcome::Refused(number),
+        SweepAnswer::Refused(number) => Err(Refusal { number }),
     }
 }
 
 // The same with the corners of the sweep's last search.
-pub fn told(swept: Swept) -> Outcome
+pub fn told(swept: Swept) -> Result<Verdict, Refusal>
     ensures { result ≡ Work.told binary32 swept }
 {
     let answer = swept.answer;

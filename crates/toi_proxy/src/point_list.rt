@@ -5,7 +5,7 @@ ghost use Rattle.model.specs.Second.{support_answer};
 ghost use Rattle.toi_proxy.specs.Points.{flat, taken, answer_of};
 
 use domain::bad_vector;
-use model::{SupportAnswer, SupportPair, Vector};
+use model::{BAD_OUTLINE_A, BAD_PART, Refusal, SupportPair, Vector};
 
 // What is known of the points so far: the first one's parts, whether any has a bad part, and the best with its value, the first and the second.
 #[derive(Clone, Copy)]
@@ -55,23 +55,23 @@ fn take(s: Farthest, i: usize, p: Vector, direction: Vector) -> Farthest
 }
 
 // The answer, once all points are taken.
-fn answer(s: Farthest, count: usize) -> SupportAnswer
+fn answer(s: Farthest, count: usize) -> Result<SupportPair, Refusal>
     ensures { result ≡ answer_of s count }
 {
     if (count == 0) | (count > 64) {
-        return SupportAnswer::Refused(1);
+        return Err(BAD_OUTLINE_A);
     }
     if s.bad {
-        return SupportAnswer::Refused(3);
+        return Err(BAD_PART);
     }
-    SupportAnswer::At(SupportPair {
+    Ok(SupportPair {
         first: (s.best % 0x1_0000_0000) as u32,
         second: (s.second % 0x1_0000_0000) as u32,
     })
 }
 
 // Which points of a list of records lie farthest along a direction, the first and the second; or the number of its refusal: the answer of the flat list.
-pub fn support_points(points: &[Vector], direction: Vector) -> SupportAnswer
+pub fn support_points(points: &[Vector], direction: Vector) -> Result<SupportPair, Refusal>
     ensures { result ≡ support_answer binary32 (flat points.now) direction }
 {
     let mut s = Farthest {

@@ -1,4 +1,5 @@
 -- Lines and refusals of blocks, one block more. Assumes nothing.
+use Rattle.std.proofs.Common.{Result, Ok, Err}
 use mathlib.Core.Path.{◌≡◌, refl, sym, ap, ◌∙◌}
 use mathlib.Core.List.{List, [], ◌∷◌, ◌++◌, append_assoc, append-nil}
 use Prim.Native.Nat.{ℕ, suc, ◌+◌, ◌*◌, ◌≤◌}
@@ -7,8 +8,8 @@ use native.Mathlib.Numerals.{add-one}
 use borrow.Author.Tests.{eq-eqb, le-ltb}
 use lib.ListN.{length, take, drop, length-drop}
 use lib.Seq.{length-take-le}
-use Rattle.model.specs.declared.CheckedBlock.{CheckedBlock}
-use Rattle.model.specs.declared.CheckedBlock.TheVariants.{Good, Refused}
+use Rattle.model.specs.declared.Block.{Block}
+use Rattle.model.specs.declared.BlockRefusal.{BlockRefusal}
 use Rattle.text.specs.Put.{Put}
 use Rattle.text.proofs.Pasted.{put_then}
 use Rattle.model.specs.Wire.{byte}
@@ -70,14 +71,14 @@ pub length-unpacked : (b : List ℕ) → length (unpacked b) ≤ longest_line
 unfolding unpacked
 length-unpacked b = go (plain_block b) refl
   where
-    go : (k : CheckedBlock) → plain_block b ≡ k → length (line_or b k) ≤ longest_line
-    go (Good k) e = let p = what-passed b (ap is_good e) in length-job b p.count-a p.count-b
-    go (Refused job number) e = omega arith
+    go : (k : Result Block BlockRefusal) → plain_block b ≡ k → length (line_or b k) ≤ longest_line
+    go (Ok k) e = let p = what-passed b (ap is_good e) in length-job b p.count-a p.count-b
+    go (Err r) e = omega arith
 
 pub length-refused : (n : ℕ) (b : List ℕ) → length (refused n b) ≤ refusal_room
 unfolding refused
 length-refused n b = go (plain_block b)
   where
-    go : (k : CheckedBlock) → length (refusal_or n k) ≤ refusal_room
-    go (Good k) = omega arith
-    go (Refused job number) = length-refusal n number
+    go : (k : Result Block BlockRefusal) → length (refusal_or n k) ≤ refusal_room
+    go (Ok k) = omega arith
+    go (Err r) = length-refusal n r.number

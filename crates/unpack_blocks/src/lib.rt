@@ -7,8 +7,6 @@ ghost use Rattle.job_text.specs.Job.{longest_line};
 ghost use Rattle.job_text.specs.Room.{refusal_room};
 ghost use Rattle.unpack_blocks.specs.Unpack.{unpacked, refused, lines_of, refusals_of, rest_for, used_blocks, blocks_in};
 
-use model::CheckedBlock;
-
 // How many blocks have passed, and the places after both texts.
 #[derive(Clone, Copy)]
 pub struct Unpacked {
@@ -30,13 +28,13 @@ fn put_block(block: &[u8], n: u64, out: &mut [u8], at: usize, err: &mut [u8], to
         × Put err.old told (refused n block.now) err.new result.told }
 {
     match job_text::check_plain(block) {
-        CheckedBlock::Good(_) => Places {
+        Ok(_) => Places {
             at: job_text::put_job(out, at, block),
             told,
         },
-        CheckedBlock::Refused(_, number) => Places {
+        Err(refusal) => Places {
             at,
-            told: job_text::put_refusal(err, told, n, number as u64),
+            told: job_text::put_refusal(err, told, n, refusal.number as u64),
         },
     }
 }

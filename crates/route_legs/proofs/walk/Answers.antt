@@ -1,4 +1,4 @@
--- `route_legs::walk` meets its contract: what is left to sweep comes to what the whole does, and the sweeps left fall. Assumes nothing.
+-- `route_legs::walk` meets its contract: what is left to sweep comes to what the whole does. Assumes nothing.
 use Rattle.route_legs.proofs.Walks.{at_first, leg-few, outline-few, few-calls-of, swept-in-order, stopped-in-order, ends-here, goes_on, all-passed}
 use mathlib.Core.Path.{ap, ◌∙◌}
 use mathlib.Core.Bool.{not}
@@ -9,7 +9,7 @@ use Rattle.route_legs.proofs.walk.Goals as goal
 
 pub loop-k-init : goal.loop-k-init
 loop-k-init c = let a = c.args in
-    (search rules, search rules, at_first binary32 a.cart.now a.waypoints.now a.stills.now a.lengths.now a.slop a.sweeps)
+    (omega arith, at_first binary32 a.cart.now a.waypoints.now a.stills.now a.lengths.now a.slop a.sweeps)
 
 pub sweep_at-answer-requires : goal.sweep_at-answer-requires
 sweep_at-answer-requires c = let k = c.loop-k.k in
@@ -17,7 +17,7 @@ sweep_at-answer-requires c = let k = c.loop-k.k in
     let p = c.requires.outlines_value in
     let inside = outline-few k a.outlines c.outline_of-outline.ensures p.1 in record {
       i_bound = (
-        leg-few k a.outlines 1024 c.leg_of-leg.ensures (omega (arith, c.loop-k-test.true, p.3)),
+        leg-few k a.outlines 1024 c.leg_of-leg.ensures (omega (arith, p.3)),
         omega (arith, inside, p.0),
         omega (arith, p.0, p.2),
       );
@@ -32,8 +32,7 @@ overflow_add-calls c = let l = c.loop-k in
     omega (
       arith,
       few,
-      l.invariant.1,
-      c.loop-k-test.true,
+      l.invariant.0,
       c.requires.outlines_value.3,
     )
 
@@ -42,7 +41,7 @@ stop_at-requires c = let k = c.loop-k.k in
     let a = c.args in
     let p = c.requires.outlines_value in
     let leg = leg-few k a.outlines 1024 c.leg_of-leg.ensures
-    (omega (arith, c.loop-k-test.true, p.3)) in
+    (omega (arith, p.3)) in
     (leg, omega (arith, outline-few k a.outlines c.outline_of-outline.ensures p.1, p.2))
 
 pub returns-then-not-is_separated : goal.returns-then-not-is_separated
@@ -56,9 +55,9 @@ returns-then-not-is_separated c = let l = c.loop-k in
     let stopped = stopped-in-order binary32 a.cart.now a.waypoints.now a.stills.now a.lengths.now a.slop l.k
     a.outlines all leg past _ c.stop_at.ensures in
     ends-here binary32 a.cart.now a.waypoints.now a.stills.now a.lengths.now a.slop a.sweeps l.k l.calls _ _
-    c.loop-k-test.true swept c.calls_of-calls.ensures _
+    (omega arith) swept c.calls_of-calls.ensures _
     c.is_separated.ensures (ap not c.if-not-is_separated.true) _ stopped _ c.ended_by.ensures
-    ∙ l.invariant.2
+    ∙ l.invariant.1
 
 pub loop-k-preserved : goal.loop-k-preserved
 loop-k-preserved c = let l = c.loop-k in
@@ -68,20 +67,19 @@ loop-k-preserved c = let l = c.loop-k in
     let swept = swept-in-order binary32 a.cart.now a.waypoints.now a.stills.now a.lengths.now a.slop l.k a.outlines
     c.requires.outlines_value.0
     c.leg_of-leg.ensures c.outline_of-outline.ensures answer in (
-      search rules,
       omega (
         arith,
         few-calls-of binary32 a.cart.now a.waypoints.now a.stills.now a.lengths.now a.slop _ _ calls.result _ answer
             calls.ensures,
-        l.invariant.1,
+        l.invariant.0,
       ),
       goes_on binary32 a.cart.now a.waypoints.now a.stills.now a.lengths.now a.slop a.sweeps l.k l.calls _ _
-          c.loop-k-test.true swept calls.ensures _ c.is_separated.ensures (ap not c.if-not-is_separated.false)
-          ∙ l.invariant.2,
+          (omega arith) swept calls.ensures _ c.is_separated.ensures (ap not c.if-not-is_separated.false)
+          ∙ l.invariant.1,
     )
 
 pub returns : goal.returns
 returns c = let l = c.loop-k in
     let a = c.args in
-    all-passed binary32 a.cart.now a.waypoints.now a.stills.now a.lengths.now a.slop a.sweeps l.k l.calls c.loop-k-test.false
-    ∙ l.invariant.2
+    all-passed binary32 a.cart.now a.waypoints.now a.stills.now a.lengths.now a.slop a.sweeps l.k l.calls (omega arith)
+    ∙ l.invariant.1

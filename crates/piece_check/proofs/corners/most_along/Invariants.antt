@@ -15,7 +15,4 @@ use Rattle.board.specs.Corners.{offset, corner_of, Along, Most}
 use Rattle.piece_check.proofs.corners.most_along.Given as goal
 
 abbrev pub invariant-loop-i : goal.invariant-loop-i
-invariant-loop-i l = (l.i ≤ length l.xs) × Most l.w l.xs l.ys l.i l.best
-
-abbrev pub decreases-loop-i : goal.decreases-loop-i
-decreases-loop-i l = length l.xs - l.i
+invariant-loop-i l = Most l.w l.outline.xs.now l.outline.ys.now l.i l.best

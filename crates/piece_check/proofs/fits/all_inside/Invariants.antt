@@ -14,7 +14,4 @@ use mathlib.Core.Bool.{true≢false}
 use Rattle.piece_check.proofs.fits.all_inside.Given as goal
 
 abbrev pub invariant-loop-i : goal.invariant-loop-i
-invariant-loop-i l = (l.i ≤ length l.xs) × Inside l.reach l.xs l.ys l.i
-
-abbrev pub decreases-loop-i : goal.decreases-loop-i
-decreases-loop-i l = length l.xs - l.i
+invariant-loop-i l = Inside l.reach l.outline.xs.now l.outline.ys.now l.i
