@@ -2,7 +2,7 @@
 // lent list, x y each, and the rest of it stays. A build answers how many corners it wrote; a refused one writes nothing.
 #![tactic(auto)]
 
-ghost use Rattle.std.specs.Prelude.{◌≡◌, [], ◌∷◌};
+ghost use Rattle.std.specs.Prelude.{◌≡◌};
 ghost use Rattle.std.specs.Float.{binary32};
 ghost use Rattle.shapes.specs.Shapes as Shapes;
 
@@ -42,75 +42,64 @@ fn placed_refusal(own: u32, pose: Pose) -> u32
     pose_refusal(check_pose(pose))
 }
 
-// Four corners, unless something was refused before; 15 where there is no room.
-fn build_four(
-    refused: u32,
-    p0: Vector,
-    p1: Vector,
-    p2: Vector,
-    p3: Vector,
-    out: &mut [f32],
-) -> Result<usize, Refusal>
-    ensures { (result ≡ Shapes.told refused (p0 ∷ p1 ∷ p2 ∷ p3 ∷ []) out.old)
-        × (out.new ≡ Shapes.left refused (p0 ∷ p1 ∷ p2 ∷ p3 ∷ []) out.old) }
+// The corners, unless something was refused before; 15 where there is no room.
+fn build(refused: u32, corners: &[Vector], out: &mut [f32]) -> Result<usize, Refusal>
+    ensures { (result ≡ Shapes.told refused corners.now out.old) × (out.new ≡ Shapes.left refused corners.now out.old) }
 {
     if refused != 0 {
         return Err(Refusal { number: refused });
     }
-    if out.len() < 8 {
+    if out.len() / 2 < corners.len() {
         return Err(NO_ROOM);
     }
-    out[0] = p0.x;
-    out[1] = p0.y;
-    out[2] = p1.x;
-    out[3] = p1.y;
-    out[4] = p2.x;
-    out[5] = p2.y;
-    out[6] = p3.x;
-    out[7] = p3.y;
-    Ok(4)
+    for (i, p) in corners.iter().enumerate() {
+        out[2 * i] = p.x;
+        out[2 * i + 1] = p.y;
+    }
+    Ok(corners.len())
 }
 
-// Two corners in the same way.
-fn build_two(refusal: u32, p0: Vector, p1: Vector, out: &mut [f32]) -> Result<usize, Refusal>
-    ensures { (result ≡ Shapes.told refusal (p0 ∷ p1 ∷ []) out.old) × (out.new ≡ Shapes.left refusal (p0 ∷ p1 ∷ []) out.old) }
+// Corner k has the half sizes, x negated where bit 0 of k is set and y where bit 1 is.
+fn plate_corners(half_x: f32, half_y: f32) -> [Vector; 4]
+    ensures { result ≡ Shapes.plate_corners half_x half_y }
 {
-    if refusal != 0 {
-        return Err(Refusal { number: refusal });
-    }
-    if out.len() < 4 {
-        return Err(NO_ROOM);
-    }
-    out[0] = p0.x;
-    out[1] = p0.y;
-    out[2] = p1.x;
-    out[3] = p1.y;
-    Ok(2)
+    [
+        Vector {
+            x: half_x,
+            y: half_y,
+        },
+        Vector {
+            x: -half_x,
+            y: half_y,
+        },
+        Vector {
+            x: half_x,
+            y: -half_y,
+        },
+        Vector {
+            x: -half_x,
+            y: -half_y,
+        },
+    ]
 }
 
-// A plate about the origin. Corner k has the half sizes, x negated where bit 0 of k is set and y where bit 1 is.
+// Moves each corner by the pose.
+fn place(pose: Pose, corners: &mut [Vector])
+    ensures { corners.new ≡ Shapes.placed binary32 pose corners.old }
+{
+    for corner in corners.iter_mut() {
+        *corner = transform_point(pose, *corner);
+    }
+}
+
+// A plate about the origin.
 pub fn plate(half_x: f32, half_y: f32, out: &mut [f32]) -> Result<usize, Refusal>
     ensures { (result ≡ Shapes.plate_told binary32 half_x half_y out.old)
         × (out.new ≡ Shapes.plate_left binary32 half_x half_y out.old) }
 {
     let refused = plate_refusal(half_x, half_y);
-    let p0 = Vector {
-        x: half_x,
-        y: half_y,
-    };
-    let p1 = Vector {
-        x: -half_x,
-        y: half_y,
-    };
-    let p2 = Vector {
-        x: half_x,
-        y: -half_y,
-    };
-    let p3 = Vector {
-        x: -half_x,
-        y: -half_y,
-    };
-    build_four(refused, p0, p1, p2, p3, out)
+    let corners = plate_corners(half_x, half_y);
+    build(refused, &corners, out)
 }
 
 // A bar from a to b.
@@ -118,7 +107,8 @@ pub fn bar(a: Vector, b: Vector, out: &mut [f32]) -> Result<usize, Refusal>
     ensures { (result ≡ Shapes.bar_told binary32 a b out.old) × (out.new ≡ Shapes.bar_left binary32 a b out.old) }
 {
     let refused = bar_refusal(a, b);
-    build_two(refused, a, b, out)
+    let corners = [a, b];
+    build(refused, &corners, out)
 }
 
 // The plate, each corner moved by the pose.
@@ -127,35 +117,9 @@ pub fn placed_plate(half_x: f32, half_y: f32, pose: Pose, out: &mut [f32]) -> Re
         × (out.new ≡ Shapes.placed_plate_left binary32 half_x half_y pose out.old) }
 {
     let refused = placed_refusal(plate_refusal(half_x, half_y), pose);
-    let q0 = transform_point(
-        pose,
-        Vector {
-            x: half_x,
-            y: half_y,
-        },
-    );
-    let q1 = transform_point(
-        pose,
-        Vector {
-            x: -half_x,
-            y: half_y,
-        },
-    );
-    let q2 = transform_point(
-        pose,
-        Vector {
-            x: half_x,
-            y: -half_y,
-        },
-    );
-    let q3 = transform_point(
-        pose,
-        Vector {
-            x: -half_x,
-            y: -half_y,
-        },
-    );
-    build_four(refused, q0, q1, q2, q3, out)
+    let mut corners = plate_corners(half_x, half_y);
+    place(pose, &mut corners);
+    build(refused, &corners, out)
 }
 
 // The bar, both ends moved by the pose.
@@ -164,7 +128,7 @@ pub fn placed_bar(a: Vector, b: Vector, pose: Pose, out: &mut [f32]) -> Result<u
         × (out.new ≡ Shapes.placed_bar_left binary32 a b pose out.old) }
 {
     let refused = placed_refusal(bar_refusal(a, b), pose);
-    let q0 = transform_point(pose, a);
-    let q1 = transform_point(pose, b);
-    build_two(refused, q0, q1, out)
+    let mut corners = [a, b];
+    place(pose, &mut corners);
+    build(refused, &corners, out)
 }

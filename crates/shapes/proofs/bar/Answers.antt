@@ -2,4 +2,4 @@
 use Rattle.shapes.proofs.bar.Goals as goal
 
 pub returns : goal.returns
-returns c = rw c.bar_refusal-refused.ensures at c.build_two.ensures
+returns c = rw c.bar_refusal-refused.ensures at c.build.ensures

@@ -2,9 +2,4 @@
 use Rattle.shapes.proofs.placed_bar.Goals as goal
 
 pub returns : goal.returns
-returns c = rw (
-  c.placed_refusal-refused.ensures,
-  c.bar_refusal.ensures,
-  c.transform_point-q0.ensures,
-  c.transform_point-q1.ensures,
-) at c.build_two.ensures
+returns c = rw (c.placed_refusal-refused.ensures, c.bar_refusal.ensures, c.place.ensures) at c.build.ensures

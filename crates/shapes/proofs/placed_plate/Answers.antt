@@ -2,11 +2,4 @@
 use Rattle.shapes.proofs.placed_plate.Goals as goal
 
 pub returns : goal.returns
-returns c = rw (
-  c.placed_refusal-refused.ensures,
-  c.plate_refusal.ensures,
-  c.transform_point-q0.ensures,
-  c.transform_point-q1.ensures,
-  c.transform_point-q2.ensures,
-  c.transform_point-q3.ensures,
-) at c.build_four.ensures
+returns c = rw (c.placed_refusal-refused.ensures, c.plate_refusal.ensures, c.place.ensures, c.plate_corners-corners.ensures) at c.build.ensures

@@ -2,4 +2,4 @@
 use Rattle.shapes.proofs.plate.Goals as goal
 
 pub returns : goal.returns
-returns c = rw c.plate_refusal-refused.ensures at c.build_four.ensures
+returns c = rw (c.plate_refusal-refused.ensures, c.plate_corners-corners.ensures) at c.build.ensures
