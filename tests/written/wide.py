@@ -63,8 +63,8 @@ PATCHES = [
     # the text and the totals of a part are model's
     ('sheet_lines64/proofs/Parts.antt', 'use Rattle.model64.proofs.DistanceCall.{both}',
      'use Rattle.model.specs.Sheet as Sheet\nuse Rattle.bridge.proofs.Sheet.{lines_same, totals-same}\nuse Rattle.model64.proofs.DistanceCall.{both}'),
-    ('sheet_lines64/proofs/Parts.antt', "→ Put d₀ 0 (lines_from binary64 t₀.blocks (answers binary64 b)) d' at'",
-     "→ Put d₀ 0 (Sheet.lines_from binary64 t₀.blocks (Sheet.answers binary64 b)) d' at'"),
+    ('sheet_lines64/proofs/Parts.antt', "→ Wrote (k + m) p₀ (lines_from binary64 t₀.blocks (answers binary64 b)) p'",
+     "→ Wrote (k + m) p₀ (Sheet.lines_from binary64 t₀.blocks (Sheet.answers binary64 b)) p'"),
     ('sheet_lines64/proofs/Parts.antt', '      rw (answers-cut binary64 b, lines-append',
      '      rw (← lines_same binary64 t₀.blocks b, answers-cut binary64 b, lines-append'),
     ('sheet_lines64/proofs/Parts.antt', "→ t' ≡ totals_from t₀ (answers binary64 b)", "→ t' ≡ Sheet.totals_from t₀ (Sheet.answers binary64 b)"),

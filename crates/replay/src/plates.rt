@@ -7,7 +7,8 @@ pub fn answer(row: &[u8], words: &mut Words) {
     let half_x = ground::from_bits(wire::word(row, 4));
     let half_y = ground::from_bits(wire::word(row, 8));
     let mut corners = [0.0f32; 8];
-    shapes::plate(half_x, half_y, &mut corners);
+    // a plate that is refused leaves the zeros
+    let _ = shapes::plate(half_x, half_y, &mut corners);
     put_float(words, 0, corners[0]);
     put_float(words, 1, corners[1]);
     put_float(words, 2, corners[2]);

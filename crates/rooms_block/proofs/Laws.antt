@@ -58,15 +58,15 @@ module _ (a b ns : List Float) where
           less other = omega (arith, below, other)
 
   -- ---- a job's answer, told
-  pub roomed : (l : List Float) (j n : ℕ) (limits : Vector) (room : Option Float) (cells : List ℕ) → n ≡ refusal_of a b ns (of_bits binary32 0)
-      → n ≤ 0 → l ≡ ns → limits ≡ point ns 1 → IfSome room (λ x. Keeps a b l x) → (length cells ≡ 64) × CellsTo a b l limits.x cells 64
+  pub roomed : (j n : ℕ) (limits : Vector) (room : Option Float) (cells : List ℕ) → n ≡ refusal_of a b ns (of_bits binary32 0)
+      → n ≤ 0 → limits ≡ point ns 1 → IfSome room (λ x. Keeps a b ns x) → (length cells ≡ 64) × CellsTo a b ns limits.x cells 64
       → Roomed a b ns j (record { job = j; room = room; cells = cells })
-  roomed l j n limits room cells e none same at-limits k h = record {
+  roomed j n limits room cells e none at-limits k h = record {
     job = refl;
     passed = sym e ∙ omega (arith, none);
     letters = h.0;
-    room = rw same at k;
-    cells = rw (same, at-limits) at h.1;
+    room = k;
+    cells = rw at-limits at h.1;
   }
 
 -- ---- every answer that is told has 64 letters

@@ -5,13 +5,14 @@ mod cells;
 mod look;
 mod room;
 
-ghost use Rattle.std.specs.Prelude.{◌≡◌, ◌≤◌, take, length};
+ghost use Rattle.std.specs.Prelude.{◌≡◌, ◌≤◌, length};
 ghost use Rattle.model.specs.Block.{most_points, checked_block};
 ghost use Rattle.rooms_block.specs.Answer.{Numbered, Told, AnswerBy, AnswerOf};
 
 use block_floats::floats_at;
 use cells::cells_of;
 use clearance_call::refusal_of;
+use look::Move;
 use model::{Block, BlockRefusal};
 use outline::point;
 use room::room_of;
@@ -27,26 +28,20 @@ pub struct Proved {
 // What a block comes to; of a refused one the job, 0 where none can be told, and the number.
 pub type BlockRooms = Result<Proved, BlockRefusal>;
 
-// Of a job's numbers, lent and at the start of the array.
-fn rooms_of(
-    points_a: &[f32],
-    points_b: &[f32],
-    lent: &[f32],
-    numbers: [f32; 32],
-    job: u32,
-) -> BlockRooms
-    requires { (length numbers ≡ 32) × (take 24 numbers ≡ lent.now) }
-    ensures { Numbered points_a.now points_b.now lent.now job result }
+// Of a move, under its job.
+fn rooms_of(planned: Move<'_>, job: u32) -> BlockRooms
+    requires { length planned.numbers.now ≡ 24 }
+    ensures { Numbered planned.entry.points_a.now planned.entry.points_b.now planned.entry.numbers.now job result }
 {
-    let number = refusal_of(points_a, points_b, lent, 0.0);
+    let number = refusal_of(planned.points_a, planned.points_b, planned.numbers, 0.0);
     if number > 0 {
         return Err(BlockRefusal { job, number });
     }
-    let radii = point(lent, 0);
-    let limits = point(lent, 1);
+    let radii = point(planned.numbers, 0);
+    let limits = point(planned.numbers, 1);
     let first = ground::max(limits.y, radii.x + radii.y);
-    let room = room_of(points_a, points_b, numbers, limits.y, first);
-    let cells = cells_of(points_a, points_b, numbers, limits.x);
+    let room = room_of(planned, limits.y, first);
+    let cells = cells_of(planned, limits.x);
     Ok(Proved { job, room, cells })
 }
 
@@ -58,15 +53,13 @@ fn rooms_along(part: &[u8], k: Block) -> BlockRooms
     let n_b = 2 * k.count_b;
     let points_a = floats_at(part, 104, n_a);
     let points_b = floats_at(part, 232, n_b);
-    let lent = floats_at(part, 8, 24);
-    let numbers = lent;
-    rooms_of(
-        &points_a[..n_a],
-        &points_b[..n_b],
-        &lent[..24],
-        numbers,
-        k.job,
-    )
+    let numbers = floats_at(part, 8, 24);
+    let planned = Move {
+        points_a: &points_a[..n_a],
+        points_b: &points_b[..n_b],
+        numbers: &numbers[..24],
+    };
+    rooms_of(planned, k.job)
 }
 
 fn rooms_checked(part: &[u8]) -> BlockRooms

@@ -1,5 +1,5 @@
 -- The answer of a text: the line of its route, or 14 and the number of the first line that is none of a route.
-use Rattle.std.specs.Prelude.{ℕ, ◌+◌, ◌-◌, ◌*◌, ◌/◌, Bool, true, false, ◌&&◌, cond, List, [], ◌∷◌, ◌++◌, eqb, ltb, length, take, drop, Float}
+use Rattle.std.specs.Prelude.{ℕ, ◌+◌, ◌-◌, ◌*◌, ◌/◌, cond, List, [], ◌∷◌, ◌++◌, ltb, length, take, drop, Float}
 use Rattle.std.specs.Float.{binary32}
 use Rattle.model.specs.declared.Contact.{Contact}
 use Rattle.model.specs.declared.Status.{Status}
@@ -14,7 +14,7 @@ use Rattle.route_legs.specs.Route.{route}
 use Rattle.route_read.specs.declared.Kept.{Kept}
 use Rattle.route_read.specs.declared.Reader.{Reader}
 use Rattle.route_line.specs.Line.{is_route}
-use Rattle.route_read.specs.Read.{Run, run, no_text, next_line, run_over, text_by}
+use Rattle.route_read.specs.Read.{run, no_text, next_line, run_over, text_by}
 
 -- ---- the route
 abbrev pub least : ℕ → ℕ → ℕ

@@ -1,4 +1,5 @@
 pub mod Pasted
+pub mod Written
 mod Digits
 pub mod ReadBack
 pub mod Lengths

@@ -7,4 +7,4 @@ pub returns-then-number-gt0 : goal.returns-then-number-gt0
 returns-then-number-gt0 c = (refl, c.refusal_of-number.ensures, c.if-number-gt0.true)
 
 pub returns : goal.returns
-returns c = roomed _ _ _ _ _ _ _ _ _ c.refusal_of-number.ensures c.if-number-gt0.false c.requires.1 c.point-limits.ensures c.room_of-room.ensures c.cells_of-cells.ensures
+returns c = roomed _ _ _ _ _ _ _ _ c.refusal_of-number.ensures c.if-number-gt0.false c.point-limits.ensures c.room_of-room.ensures c.cells_of-cells.ensures

@@ -1,13 +1,10 @@
 -- `build` meets its contract, ending by ending. Assumes nothing.
 use Rattle.std.proofs.Common.{◌≡◌, length, arith}
-use Rattle.shapes.proofs.Endings.{refused, no_room, stored, stored_more}
+use Rattle.shapes.proofs.Endings.{no_room, stored, stored_more}
 use Rattle.shapes.proofs.build.Goals as goal
 
-pub returns-then-refused-ne0 : goal.returns-then-refused-ne0
-returns-then-refused-ne0 c = let a = c.args in refused a.corners.now a.out.now a.refused c.if-refused-ne0.true
-
 pub returns-then-out-corners : goal.returns-then-out-corners
-returns-then-out-corners c = let a = c.args in no_room a.corners.now a.out.now a.refused c.if-refused-ne0.false (omega (arith, c.if-out-corners.true))
+returns-then-out-corners c = let a = c.args in no_room a.corners.now a.out.now (omega (arith, c.if-out-corners.true))
 
 pub loop-i-preserved : goal.loop-i-preserved
 loop-i-preserved c = let l = c.loop-i in
@@ -18,4 +15,4 @@ pub returns : goal.returns
 returns c = let l = c.loop-i in
     let a = c.args in
     let all : l.i ≡ length a.corners.now = omega (arith, c.loop-i-test.false, l.auto.i-end) in
-    rw (l.invariant, all) (stored a.corners.now a.out.now a.refused c.if-refused-ne0.false (omega (arith, c.if-out-corners.false)))
+    rw (l.invariant, all) (stored a.corners.now a.out.now (omega (arith, c.if-out-corners.false)))

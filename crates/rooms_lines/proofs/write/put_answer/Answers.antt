@@ -13,7 +13,7 @@ pub returns-in-Ok : goal.returns-in-Ok
 returns-in-Ok c = rw (c.in-Ok.is, told-line-is _ _) (put_then (search rules) c.put_two-end.ensures c.put_cells.ensures)
 
 pub put_number-requires : goal.put_number-requires
-put_number-requires c = omega (arith, ends c.put_two-end.ensures (length_two _ _ _), c.put_two-end.auto.out, c.requires.0)
+put_number-requires c = omega (arith, ends c.put_two-end-in-Err.ensures (length_two _ _ _), c.put_two-end-in-Err.auto.out, c.requires.0)
 
 pub returns-in-Err : goal.returns-in-Err
-returns-in-Err c = rw (c.in-Err.is, refused-line-is _ _) (put_then (search rules) c.put_two-end.ensures c.put_number.ensures)
+returns-in-Err c = rw (c.in-Err.is, refused-line-is _ _) (put_then (search rules) c.put_two-end-in-Err.ensures c.put_number.ensures)

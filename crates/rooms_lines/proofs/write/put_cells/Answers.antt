@@ -10,14 +10,14 @@ pub put-e3-requires : goal.put-e3-requires
 put-e3-requires c = let q = c.before.before.before.before in
     let p = q.before.before.before.before in
     let a = p.before.before.before.before in
-    omega (arith, p.put-e1.ensures.place, p.put-e1.auto.out, ends q.put_room-e2.ensures (length-room _ _), q.put_room-e2.auto.out, a.requires.0, a.requires.1)
+    omega (arith, p.put-e1.ensures.place, p.put-e1.auto.out, ends q.put_room-e2.ensures (length-room _), q.put_room-e2.auto.out, a.requires.0, a.requires.1)
 
 pub put-requires : goal.put-requires
 put-requires c = let s = c.before.before.before.before in
     let q = s.before.before.before.before.before in
     let p = q.before.before.before.before in
     let a = p.before.before.before.before in
-    let room = ends q.put_room-e2.ensures (length-room _ _) in
+    let room = ends q.put_room-e2.ensures (length-room _) in
     omega (
       arith,
       s.put-e3.ensures.place,
