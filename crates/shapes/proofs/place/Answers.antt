@@ -12,7 +12,7 @@ loop-corner-preserved c =
     let l = c.loop-corner in
     let inside : l.corner-index < length l.corners = omega (arith, c.loop-corner-test.true, l.auto.corners) in
     rw c.transform_point.ensures (
-      map_over_more (on_point binary32 c.args.pose) c.args.corners.now l.corners l.corner-index _ c.loop-corner-test.true l.invariant (get_or_default _ _ _ _ inside)
+    map_over_more (on_point binary32 c.args.pose) c.args.corners.now l.corners l.corner-index _ c.loop-corner-test.true l.invariant (get_or_default _ _ _ _ inside)
     )
 
 pub returns : goal.returns
