@@ -1,5 +1,5 @@
 -- `gaps_lines::fractions::put_gaps` meets its contract: the gaps so far stand from the place on. Assumes nothing.
-use Prim.Native.Nat.{◌≤◌, ◌+◌, ◌*◌, ◌-◌}
+use Prim.Native.Nat.{◌+◌, ◌*◌, ◌-◌}
 use mathlib.Core.Path.{◌≡◌}
 use lib.ListN.{length}
 use Rattle.text.specs.Put.{Put}

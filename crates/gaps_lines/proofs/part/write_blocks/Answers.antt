@@ -1,5 +1,5 @@
 -- `gaps_lines::part::write_blocks` meets its contract: the lines of the blocks so far stand at the start, and the tally is theirs. Assumes nothing.
-use Rattle.std.proofs.Common.{◌≡◌, refl, ◌∙◌, ◌+◌, ◌*◌, ◌≤◌, [], ◌∷◌, length, arith}
+use Rattle.std.proofs.Common.{refl, ◌∙◌, ◌+◌, [], ◌∷◌, length, arith}
 use Rattle.std.proofs.Math.ListN.{length-append}
 use Rattle.std.specs.Float.{binary32}
 use Rattle.model.specs.Blocks.{whole_blocks}
