@@ -1,4 +1,4 @@
--- `digits` meets its contract. The invariant: q and rem are the root of the number's digits down to the weight 4 ^ k, and what is left of those. The measure is k. Assumes nothing.
+-- `digits` meets its contract. The invariant: q and rem are the root of the number's digits down to the weight 4 ^ k, and what is left of those. Assumes nothing.
 use Rattle.std.proofs.Common.{◌*◌, ◌^◌, arith}
 use Rattle.root64.proofs.Pairs.{start, room, again, ends}
 use Rattle.root64.proofs.digits.Goals as goal
