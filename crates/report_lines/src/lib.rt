@@ -5,7 +5,7 @@ ghost use Rattle.std.specs.Prelude.{◌+◌, ◌<◌, ◌≤◌, ◌≡◌, [], 
 ghost use Rattle.text.specs.Put.{Put};
 ghost use Rattle.report_lines.specs.Text.{labels, row_text, rows_text, place_text, most_text, named_text, largest_text, text_in};
 
-use report_counts::{Largest, Report, Most};
+use report_counts::{Largest, Most, Report};
 
 // How many rows a report has.
 const ROWS: usize = 28;
