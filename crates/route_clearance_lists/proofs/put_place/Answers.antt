@@ -7,4 +7,5 @@ use Rattle.route_clearance_lists.proofs.put_place.Goals as goal
 
 pub returns : goal.returns
 unfolding stored
-returns c = (refl, filled c.args.place.now (c.args.end.leg ∷ c.args.end.outline ∷ c.args.end.pieces ∷ []) c.requires.0)
+returns c = let a = c.before in
+    (refl, filled a.args.place.now (a.args.end.leg ∷ a.args.end.outline ∷ a.args.end.pieces ∷ []) a.requires.0)
