@@ -184,8 +184,7 @@ fn rounds(pos12: Pose, points_a: &[f64], points_b: &[f64], cache: SimplexCache) 
     let mut simplex = begin.simplex;
     let mut count = begin.count;
     let mut direction = zero();
-    let mut iterations: u32 = 0;
-    while iterations < MAX_ITERATIONS {
+    for iterations in 0..MAX_ITERATIONS {
         let solved = solve(simplex, count);
         let d = solved.direction;
         let kept = solved.count;
@@ -218,7 +217,6 @@ fn rounds(pos12: Pose, points_a: &[f64], points_b: &[f64], cache: SimplexCache) 
         }
         simplex = grown(pos12, points_a, points_b, slots, kept, index_a, index_b);
         direction = d;
-        iterations += 1;
         count = kept + 1;
     }
     Rounds {
@@ -226,7 +224,7 @@ fn rounds(pos12: Pose, points_a: &[f64], points_b: &[f64], cache: SimplexCache) 
         simplex,
         count,
         direction,
-        iterations,
+        iterations: MAX_ITERATIONS,
     }
 }
 

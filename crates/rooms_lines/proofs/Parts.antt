@@ -72,12 +72,11 @@ worked_then {t} {t₁} {bs = bs} {cs = cs} inside w v =
       totals = rw (totals-append t xs ys, ← w.totals) v.totals;
     }
 
--- n bytes from the block's start are its 512
-pub block-worked : {t₀ t t' : Tally} {d₀ d d' : List ℕ} {at at' : ℕ} (part : List ℕ) (i n : ℕ) (a : BlockRooms) → n ≡ 512
-    → Worked t₀ (whole_blocks i part) d₀ 0 d at t → AnswerOf (take n (drop (512 * i) part)) a → Put d at (line_of (t.blocks + 1) a) d' at'
+-- block i of a part
+pub block-worked : {t₀ t t' : Tally} {d₀ d d' : List ℕ} {at at' : ℕ} (part : List ℕ) (i : ℕ) (a : BlockRooms)
+    → Worked t₀ (whole_blocks i part) d₀ 0 d at t → AnswerOf (take 512 (drop (512 * i) part)) a → Put d at (line_of (t.blocks + 1) a) d' at'
     → t' ≡ counted t a → Worked t₀ (whole_blocks (i + 1) part) d₀ 0 d' at' t'
-block-worked part i n a whole w h p q =
-    rw (add-one i, blocks_more i part) (worked_then (omega arith) w (one-worked a (rw whole at h) p q))
+block-worked part i a w h p q = rw (add-one i, blocks_more i part) (worked_then (omega arith) w (one-worked a h p q))
 
 -- the rest of a part, by whether there is one: all the bytes behind the whole blocks
 abbrev from : List ℕ → ℕ

@@ -31,6 +31,7 @@ pub struct Written {
     pub last: bool,
 }
 
+// The place after the lines so far, and the totals after them.
 #[derive(Clone, Copy)]
 struct Lines {
     at: usize,
@@ -55,16 +56,18 @@ fn counted(t: Tally, a: BlockRooms) -> Tally
 }
 
 // The line of one answer more, whose number follows those counted before.
-fn write_answer(out: &mut [u8], at: usize, t: Tally, a: BlockRooms) -> Lines
-    requires { (at + longest_line ≤ length out.old) × Below 0xffff_ffff_ffff_ffff t × IfOk a (λ p. length p.cells ≡ 64) }
-    ensures { Put out.old at (line_of (t.blocks + 1) a) out.new result.at × (result.totals ≡ Printed.counted t a) }
+fn write_answer(out: &mut [u8], lines: Lines, a: BlockRooms) -> Lines
+    requires { (lines.at + longest_line ≤ length out.old) × Below 0xffff_ffff_ffff_ffff lines.totals × IfOk a (λ p. length p.cells ≡ 64) }
+    ensures { Put out.old lines.at (line_of (lines.totals.blocks + 1) a) out.new result.at × (result.totals ≡ Printed.counted lines.totals a) }
 {
-    let end = put_answer(out, at, t.blocks + 1, a);
+    let t = lines.totals;
+    let end = put_answer(out, lines.at, t.blocks + 1, a);
     let totals = counted(t, a);
     Lines { at: end, totals }
 }
 
-// The lines of the whole blocks of a part, each from its own 512 bytes, with the totals carried on.
+// The lines of the whole blocks of a part, each from its own 512 bytes, with the totals carried on. One walk for all crates of lines would take each
+// crate's answers, lines and totals as a trait with a law for each step: that is longer than the loop.
 fn write_blocks(part: &[u8], out: &mut [u8], t: Tally) -> Lines
     requires { (longest_line * (length part.now / block_size) ≤ length out.old) × Below count_limit t }
     ensures worked { Worked t (whole_blocks (length part.now / block_size) part.now) out.old 0 out.new result.at
@@ -72,34 +75,25 @@ fn write_blocks(part: &[u8], out: &mut [u8], t: Tally) -> Lines
     ensures at_bound { (result.at ≤ longest_line * (length part.now / block_size)) × Below (count_limit + length part.now / block_size)
         result.totals }
 {
-    let k = part.len() / 512;
-    let mut totals = t;
-    let mut at: usize = 0;
-    let mut i: usize = 0;
-    while i < k {
-        let from = 512 * i;
-        let end = from + 512;
-        let answer = block_rooms(&part[from..end]);
-        let written = write_answer(out, at, totals, answer);
-        let next = written.totals;
-        at = written.at;
-        totals = next;
-        i += 1;
+    let mut lines = Lines { at: 0, totals: t };
+    for block in part.chunks_exact(512) {
+        let answer = block_rooms(block);
+        lines = write_answer(out, lines, answer);
     }
-    Lines { at, totals }
+    lines
 }
 
 // The line of a rest of fewer bytes than a block, where there is one.
-fn write_rest(part: &[u8], out: &mut [u8], at: usize, t: Tally) -> Lines
-    requires { (at + longest_line ≤ length out.old) × Below 0xffff_ffff_ffff_ffff t }
-    ensures { Worked t (short_rest part.now) out.old at out.new result.at result.totals × (result.at ≤ at + longest_line) }
+fn write_rest(part: &[u8], out: &mut [u8], lines: Lines) -> Lines
+    requires { (lines.at + longest_line ≤ length out.old) × Below 0xffff_ffff_ffff_ffff lines.totals }
+    ensures { Worked lines.totals (short_rest part.now) out.old lines.at out.new result.at result.totals × (result.at ≤ lines.at + longest_line) }
 {
     if part.len() % 512 == 0 {
-        return Lines { at, totals: t };
+        return lines;
     }
     let from = 512 * (part.len() / 512);
     let answer = block_rooms(&part[from..]);
-    write_answer(out, at, t, answer)
+    write_answer(out, lines, answer)
 }
 
 // Whether there is room for a line of each block, of a rest and of the totals, and the totals can be counted on.
@@ -123,7 +117,7 @@ pub fn write_part(part: &[u8], out: &mut [u8], t: Tally) -> Written
         };
     }
     let blocks = write_blocks(part, out, t);
-    let lines = write_rest(part, out, blocks.at, blocks.totals);
+    let lines = write_rest(part, out, blocks);
     let totals = lines.totals;
     if part.len() < PART_SIZE {
         let end = put_total(out, lines.at, totals.blocks, totals.refused);

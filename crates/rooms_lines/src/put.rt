@@ -1,4 +1,5 @@
-// Pieces of a line, each written from a place on; the answer is the place after it.
+// Pieces of a line, each written from a place on; the answer is the place after it. Every crate of lines has its own: they ask for room, and no function that
+// a library lets another crate call asks anything of its caller.
 ghost use Rattle.std.specs.Prelude.{◌+◌, ◌≤◌, length};
 ghost use Rattle.text.specs.Put.{Put, number};
 ghost use Rattle.rooms_lines.specs.Pieces.{two};

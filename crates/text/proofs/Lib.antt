@@ -3,4 +3,5 @@ pub mod Written
 mod Digits
 pub mod ReadBack
 pub mod Lengths
+pub mod Ends
 mod Slips

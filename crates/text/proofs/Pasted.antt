@@ -1,12 +1,12 @@
 -- What a pasted text does to a list: its length stays, a byte more is one store, and two texts one after the other are one. Assumes nothing.
 use mathlib.Core.Path.{◌≡◌, refl, sym, ap, ◌∙◌}
 use mathlib.Core.List.{List, [], ◌∷◌, ◌++◌, append_assoc}
-use Prim.Native.Nat.{ℕ, suc, ◌+◌, ◌≤◌, ◌<◌}
+use Prim.Native.Nat.{ℕ, ◌+◌, ◌≤◌, ◌<◌}
 use native.Mathlib.Omega.{arith}
 use native.Mathlib.Nat.{le_refl}
 use native.Mathlib.Numerals.{add-one}
 use lib.ListN.{length, take, drop, set, get_or, length-append}
-use lib.Seq.{paste, paste-zero, paste-suc, length-paste, length_paste_head, length-take-le, take-length, take_at, drop_at, drop-drop, set_split}
+use lib.Seq.{paste, paste-zero, paste-suc, length-paste, length-take-le, take-length, take_at, drop_at, drop-drop, set_split}
 use Rattle.text.specs.Put.{pasted, Put}
 
 -- the whole of a text, copied byte by byte

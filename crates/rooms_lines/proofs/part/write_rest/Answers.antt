@@ -19,5 +19,5 @@ returns c = let w = c.write_answer in
     let x = c.block_rooms-answer in
     let a = c.args in (
       rest-worked a.part.now x.result c.if-part-eq0.false x.ensures w.ensures.0 w.ensures.1,
-      ends w.ensures.0 (length-line (a.t.blocks + 1) x.result (letters-told _ x.result x.ensures)),
+      ends w.ensures.0 (length-line (a.lines.totals.blocks + 1) x.result (letters-told _ x.result x.ensures)),
     )

@@ -5,5 +5,4 @@ use borrow.Author.Rules.{rules}
 use Rattle.rooms_lines.proofs.put.put.Goals as goal
 
 pub returns : goal.returns
-returns c = let a = c.before.before.before.before.before.before in
-    roomy (length a.args.text.now) c.put_text.ensures a.requires
+returns c = roomy (length c.args.text.now) c.put_text.ensures c.requires

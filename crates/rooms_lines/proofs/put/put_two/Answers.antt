@@ -7,7 +7,7 @@ use borrow.Author.Rules.{rules}
 use Rattle.rooms_lines.proofs.put.put_two.Goals as goal
 
 pub put_number-requires : goal.put_number-requires
-put_number-requires c = let p = c.before.before.before in omega (arith, ends p.put_number-e1.ensures (length-number _ _), p.put_number-e1.auto.out)
+put_number-requires c = omega (arith, ends c.put_number-e1.ensures (length-number _ _), c.put_number-e1.auto.out)
 
 pub returns : goal.returns
 returns c = rw two_is (put_then (search rules) c.put_number-e1.ensures c.put_number.ensures)

@@ -5,5 +5,4 @@ use borrow.Author.Rules.{rules}
 use Rattle.rooms_lines.proofs.write.put_total.Goals as goal
 
 pub returns : goal.returns
-returns c = let q = c.before.before in
-    rw (total-is _) (put_then (search rules) q.put-e1.ensures q.put_two.ensures)
+returns c = rw (total-is _) (put_then (search rules) c.put-e1.ensures c.put_two.ensures)
