@@ -53,10 +53,8 @@ fn put_fields(out: &mut [u8], at: usize, block: &[u8], n: usize) -> usize
     ensures { Put out.old at (spaced (words_of block.now n)) out.new result }
 {
     let mut to = at;
-    let mut j: usize = 0;
-    while j < n {
+    for j in 0..n {
         to = put_field(out, to, block, j, b' ');
-        j += 1;
     }
     to
 }

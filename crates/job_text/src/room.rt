@@ -2,7 +2,6 @@
 ghost use Rattle.std.specs.Prelude.{◌≡◌, ◌+◌, ◌≤◌, length};
 ghost use Rattle.text.specs.Put.{Put, where_room};
 ghost use Rattle.job_text.specs.Room.{refusal, refusal_room, told_for, used_of};
-ghost use Rattle.job_text.specs.Room as Room;
 
 use model::COUNT_LIMIT;
 
@@ -41,18 +40,12 @@ pub fn tell_refusal(before: u64, why: u64, err: &mut [u8]) -> usize
     put_refusal(err, 0, before + 1, why)
 }
 
-pub fn least(a: usize, b: usize) -> usize
-    ensures { result ≡ Room.least a b }
-{
-    if b < a { b } else { a }
-}
-
 // Of so many bytes or blocks those that have room, if each of them were written and each refused.
 pub fn used_of(size: usize, most: usize, told: usize, before: u64) -> usize
     ensures { result ≡ used_of size most told before }
 {
     if before < COUNT_LIMIT {
-        return least(least(size, most), told / REFUSAL_ROOM);
+        return size.min(most).min(told / REFUSAL_ROOM);
     }
     0
 }

@@ -16,7 +16,8 @@ use Rattle.route_read.specs.declared.Kept.{Kept}
 use Rattle.route_read.specs.declared.Reader.{Reader}
 use Rattle.route_line.specs.Line.{is_route}
 use Rattle.route_read.specs.Read.{next_line}
-use Rattle.route_text.specs.Answer.{least, cut, whole_end, two}
+use Rattle.route_text.specs.declared.Cuts.{Cuts}
+use Rattle.route_text.specs.Answer.{cut, cuts_of, two}
 use Rattle.route_text.proofs.Lines.{length_two, no-route-is}
 use Rattle.route_clearance_legs.specs.declared.End.{End}
 use Rattle.route_clearance_legs.specs.declared.RouteCleared.{RouteCleared}
@@ -75,11 +76,8 @@ module _ (reader : Reader) (numbers : List Float) (lengths : List ℕ) {d d' : L
   }
 
 -- ---- the route of what is kept
-module _ (k : Kept) (numbers : List Float) (lengths : List ℕ) where
-  pub route-kept : {used ways cart start n whole : ℕ} {first : Vector} {x : RouteCleared} → used ≡ least k.used (length numbers) →
-      ways ≡ least k.way_end used → cart ≡ least k.cart_end ways → start ≡ least 1 cart → n ≡ least k.outlines (length lengths) →
-      whole ≡ whole_end cart ways → first ≡ point numbers 0 →
-      Told (cut numbers start cart) (cut numbers cart whole) (cut numbers ways used) (take n lengths) first.x x →
-      ToldOf k numbers lengths x
-  unfolding ToldOf
-  route-kept a b c d e g f is = rw (f, g, e, d, c, b, a) at is
+pub route-kept : (k : Kept) (numbers : List Float) (lengths : List ℕ) {c : Cuts} {first : Vector} {x : RouteCleared}
+    → c ≡ cuts_of k (length numbers) (length lengths) → first ≡ point numbers 0
+    → Told (cut numbers c.start c.cart) (cut numbers c.cart c.whole) (cut numbers c.ways c.used) (take c.outlines lengths) first.x x → ToldOf k numbers lengths x
+unfolding ToldOf
+route-kept k numbers lengths is at told = rw (is, at) at told

@@ -1,7 +1,7 @@
 // The answer of a route that was read as text and looked at as a whole, as a line.
 #![tactic(auto)]
 
-ghost use Rattle.std.specs.Prelude.{◌≡◌, ◌+◌, ◌≤◌, length};
+ghost use Rattle.std.specs.Prelude.{◌+◌, ◌≤◌, length};
 ghost use Rattle.text.specs.Put.{Put};
 ghost use Rattle.route_text.specs.Answer as Route;
 ghost use Rattle.route_clearance_text.specs.Answer as Answer;
@@ -9,6 +9,7 @@ ghost use Rattle.route_clearance_text.specs.Answer as Answer;
 use places::place_bits;
 use route_clearance_legs::{End, RouteCleared};
 use route_read::{Kept, Reader};
+use route_text::cuts_of;
 
 // No line is longer.
 const LONGEST_LINE: usize = 128;
@@ -16,41 +17,22 @@ const LONGEST_LINE: usize = 128;
 // A text that is no route.
 const NO_ROUTE: u64 = 14;
 
-fn least(a: usize, b: usize) -> usize
-    ensures { (result ≡ Route.least a b) × (result ≤ a) × (result ≤ b) }
-{
-    if b < a { b } else { a }
-}
-
-// Where the last whole waypoint ends: a text with more numbers than there are places for may end within one.
-fn whole_end(cart: usize, ways: usize) -> usize
-    requires { cart ≤ ways }
-    ensures { (result ≡ Route.whole_end cart ways) × (cart ≤ result) × (result ≤ ways) }
-{
-    cart + (ways - cart) / 4 * 4
-}
-
 // The route that the kept numbers and lengths stand for.
 fn route_of(kept: Kept, floats: &[f32], lengths: &[u32]) -> RouteCleared
     ensures { Answer.ToldOf kept floats.now lengths.now result }
 {
-    let used = least(kept.used, floats.len());
-    let ways = least(kept.way_end, used);
-    let cart = least(kept.cart_end, ways);
-    let start = least(1, cart);
-    let n = least(kept.outlines, lengths.len());
-    let whole = whole_end(cart, ways);
+    let cuts = cuts_of(kept, floats.len(), lengths.len());
     let first = outline::point(floats, 0);
     route_clearance_legs::route_clearance(
-        &floats[start..cart],
-        &floats[cart..whole],
-        &floats[ways..used],
-        &lengths[..n],
+        &floats[cuts.start..cuts.cart],
+        &floats[cuts.cart..cuts.whole],
+        &floats[cuts.ways..cuts.used],
+        &lengths[..cuts.outlines],
         first.x,
     )
 }
 
-// Two numbers with a blank between, and a byte after them.
+// Two numbers with a blank between, and a byte after them. Each crate of lines has its own, since it asks for room and nothing public asks its caller.
 fn put_pair(out: &mut [u8], at: usize, a: u64, b: u64, end: u8) -> usize
     requires { at + 42 ≤ length out.old }
     ensures { Put out.old at (Route.two a b end) out.new result }

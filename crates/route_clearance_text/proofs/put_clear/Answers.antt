@@ -7,8 +7,7 @@ use borrow.Author.Rules.{rules}
 use Rattle.route_clearance_text.proofs.put_clear.Goals as goal
 
 pub returns : goal.returns
-returns c = let a = c.before.before.before.before.before.before.before.before.before.before in
-    let p = c.put_text-e in
-    let first = roomy 8 p.ensures (omega (arith, a.requires)) in
-    let second = roomy 21 c.put_number.ensures (omega (arith, first.place, p.auto.out, a.requires)) in
+returns c = let p = c.put_text-e in
+    let first = roomy 8 p.ensures (omega (arith, c.requires)) in
+    let second = roomy 21 c.put_number.ensures (omega (arith, first.place, p.auto.out, c.requires)) in
     rw clear-is (put_then (omega arith) first second)

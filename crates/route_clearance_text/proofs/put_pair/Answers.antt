@@ -7,8 +7,7 @@ use borrow.Author.Rules.{rules}
 use Rattle.route_clearance_text.proofs.put_pair.Goals as goal
 
 pub returns : goal.returns
-returns c = let a = c.before.before.before.before.before.before.before.before.before in
-    let p = c.put_number-e in
-    let first = roomy 21 p.ensures (omega (arith, a.requires)) in
-    let second = roomy 21 c.put_number.ensures (omega (arith, ends first (length-number _ _), p.auto.out, a.requires)) in
-    rw two_is (put_then (omega (arith, a.requires)) first second)
+returns c = let p = c.put_number-e in
+    let first = roomy 21 p.ensures (omega (arith, c.requires)) in
+    let second = roomy 21 c.put_number.ensures (omega (arith, ends first (length-number _ _), p.auto.out, c.requires)) in
+    rw two_is (put_then (omega (arith, c.requires)) first second)

@@ -5,5 +5,4 @@ use borrow.Author.Rules.{rules}
 use Rattle.route_clearance_text.proofs.put_place.Goals as goal
 
 pub returns : goal.returns
-returns c = let at-start = c.before.before.before in
-    rw (← at-start.place_bits.ensures) (roomy 9 c.put_hex.ensures (omega (arith, at-start.requires)))
+returns c = rw (← c.place_bits.ensures) (roomy 9 c.put_hex.ensures (omega (arith, c.requires)))

@@ -8,8 +8,7 @@ use borrow.Author.Rules.{rules}
 use Rattle.route_clearance_text.proofs.put_refused.Goals as goal
 
 pub put_pair-requires : goal.put_pair-requires
-put_pair-requires c = let first = c.before.before.before.before in
-    omega (arith, ends first.put_pair-e.ensures (length_two _ _ _), first.put_pair-e.auto.out, first.requires)
+put_pair-requires c = omega (arith, ends c.put_pair-e.ensures (length_two _ _ _), c.put_pair-e.auto.out, c.requires)
 
 pub returns : goal.returns
 returns c = rw refused-is (put_then (omega arith) c.put_pair-e.ensures

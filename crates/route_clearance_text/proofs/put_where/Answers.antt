@@ -12,6 +12,5 @@ put_pair-requires c = let p = c.put_text-e in
     omega (arith, (roomy 2 p.ensures (omega (arith, pre))).place, p.auto.out, pre)
 
 pub returns : goal.returns
-returns c = let at-start = c.before.before.before.before.before.before.before.before in
-    rw where-is (put_then (omega arith) (roomy 2 at-start.put_text-e.ensures (omega (arith, at-start.requires)))
+returns c = rw where-is (put_then (omega arith) (roomy 2 c.put_text-e.ensures (omega (arith, c.requires)))
     c.put_pair.ensures)
