@@ -232,7 +232,7 @@ class Gen:
 
     # ---- files
     def model(self):
-        src = ['// The records of model that hold floats, in f64. The others are model\'s.']
+        src = ['// The records of model that hold floats, in f64. The others are model\'s.', '#![tactic(auto)]', '']
         used = set()
         body = []
         for n, (text, ws) in self.decls.items():

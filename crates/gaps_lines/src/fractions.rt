@@ -1,13 +1,14 @@
 // The gaps at 257 fractions of two moves.
-ghost use Rattle.std.specs.Prelude.{◌≡◌, ◌+◌, ◌≤◌, length};
+ghost use Rattle.std.specs.Prelude.{◌≡◌};
 ghost use Rattle.std.specs.Float.{binary32};
-ghost use Rattle.text.specs.Put.{Put};
+ghost use Rattle.text.specs.Written.{Room, Wrote};
 ghost use Rattle.gaps_lines.specs.Gaps as Gaps;
 ghost use Rattle.gaps_lines.specs.Pieces.{gap_room, gap_text, gaps_text, gaps_room};
 
 use crate::put::put_float;
 use at_fraction::gap;
 use model::Sweep;
+use text::Draft;
 
 // Two outlines, their moves, and the max fraction of these.
 #[derive(Clone, Copy)]
@@ -27,10 +28,10 @@ fn fraction_at(most: f32, k: u16) -> f32
 }
 
 // The gap there, and a byte after it.
-fn put_gap(out: &mut [u8], at: usize, moves: Moves, k: u16, end: u8) -> usize
-    requires { at + gap_room ≤ length out.old }
-    ensures { Put out.old at (gap_text moves.entry.points_a.now moves.entry.sweep_a moves.entry.points_b.now moves.entry.sweep_b moves.entry.most k end)
-        out.new result }
+fn put_gap(draft: &mut Draft<'_>, moves: Moves, k: u16, end: u8)
+    requires { Room gap_room draft.old }
+    ensures { Wrote gap_room draft.old
+        (gap_text moves.entry.points_a.now moves.entry.sweep_a moves.entry.points_b.now moves.entry.sweep_b moves.entry.most k end) draft.new }
 {
     let fraction = fraction_at(moves.most, k);
     let apart = gap(
@@ -40,18 +41,17 @@ fn put_gap(out: &mut [u8], at: usize, moves: Moves, k: u16, end: u8) -> usize
         moves.sweep_b,
         fraction,
     );
-    put_float(out, at, apart, end)
+    put_float(draft, apart, end);
 }
 
 // All of them, with a blank between and a newline.
-pub fn put_gaps(out: &mut [u8], at: usize, moves: Moves) -> usize
-    requires { at + gaps_room ≤ length out.old }
-    ensures { Put out.old at (gaps_text moves.entry.points_a.now moves.entry.sweep_a moves.entry.points_b.now moves.entry.sweep_b moves.entry.most)
-        out.new result }
+pub fn put_gaps(draft: &mut Draft<'_>, moves: Moves)
+    requires { Room gaps_room draft.old }
+    ensures { Wrote gaps_room draft.old
+        (gaps_text moves.entry.points_a.now moves.entry.sweep_a moves.entry.points_b.now moves.entry.sweep_b moves.entry.most) draft.new }
 {
-    let mut to = at;
     for k in 0..256 {
-        to = put_gap(out, to, moves, k, b' ');
+        put_gap(draft, moves, k, b' ');
     }
-    put_gap(out, to, moves, 256, b'\n')
+    put_gap(draft, moves, 256, b'\n');
 }

@@ -1,5 +1,4 @@
 -- The lines of a report: what each name is, how long they get, and one row more. Assumes nothing.
-use Rattle.std.proofs.Common.{Option, Some, None}
 use mathlib.Core.Path.{◌≡◌, refl, sym, ap, ◌∙◌}
 use mathlib.Core.Bool.{Bool, true, false, ◌&&◌}
 use mathlib.Core.List.{List, [], ◌∷◌, ◌++◌, append_assoc, append-nil}
@@ -8,12 +7,9 @@ use native.Mathlib.Omega.{arith}
 use native.Mathlib.Numerals.{add-one}
 use borrow.Author.Tests.{leb-true}
 use lib.Dec.{leb}
-use lib.ListN.{length, get_or, take, length-append}
+use lib.ListN.{length, get_or, take}
 use lib.Seq.{take_all}
-use Rattle.text.specs.Put.{number}
-use Rattle.text.proofs.Lengths.{length-number}
-use Rattle.report_counts.specs.declared.most.Most.{Most}
-use Rattle.report_lines.specs.Text.{labels, row_text, rows_text, place_text, most_text, named_text}
+use Rattle.report_lines.specs.Text.{labels, row_text, rows_text}
 
 -- ---- names
 -- whether all are of at most 11 bytes
@@ -37,9 +33,6 @@ unfolding labels all_short
 length_label row = short-at labels row refl
 
 -- ---- lines
-pub length-row : (row n : ℕ) → length (row_text (get_or labels row []) n) ≤ 32
-length-row row n = rw (length-append (get_or labels row []) (number n 10)) (omega (arith, length_label row, length-number n 10))
-
 rows-more-of : (ls : List (List ℕ)) (ns : List ℕ) (i : ℕ) → i < length ls → i < length ns →
     rows_text (take (suc i) ls) (take (suc i) ns) ≡ rows_text (take i ls) (take i ns) ++ row_text (get_or ls i []) (get_or ns i 0)
 unfolding rows_text
@@ -66,16 +59,3 @@ no_rows ns = refl
 
 pub all-rows : (ns : List ℕ) (i : ℕ) → length ns ≡ 28 → 28 ≤ i → first_rows ns i ≡ rows_text labels ns
 all-rows ns i e h = rw (take_all i labels (omega (arith, labels-counted)), take_all i ns (omega arith))
-
--- ---- the largest counts
-length-place : (n i j : ℕ) → length (place_text n i j) ≤ 63
-length-place n i j =
-    rw (length-append (number n 32 ++ number i 32) (number j 10), length-append (number n 32) (number i 32))
-    (omega (arith, length-number n 32, length-number i 32, length-number j 10))
-
-length_most : (m : Option Most) → length (most_text m) ≤ 63
-length_most None = length-place 0 0 0
-length_most (Some s) = length-place s.count s.batch s.block
-
-pub length-named : (name : List ℕ) (m : Option Most) → length (named_text name m) ≤ length name + 63
-length-named name m = rw (length-append name (most_text m)) (omega (arith, length_most m))

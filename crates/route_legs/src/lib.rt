@@ -5,7 +5,10 @@ ghost use Rattle.std.specs.Prelude.{◌≡◌, true, false, ◌+◌, ◌*◌, �
 ghost use Rattle.std.specs.Float.{binary32};
 ghost use Rattle.route_legs.specs.Route as Route;
 
-use model::{Contact, Corners, Counts, NO_CORNER, Refusal, Rotation, Status, SupportPair, Sweep, SweepAnswer, Vector, Verdict};
+use model::{
+    Contact, Corners, Counts, NO_CORNER, Refusal, Rotation, Status, SupportPair, Sweep,
+    SweepAnswer, Vector, Verdict,
+};
 use outline::point;
 use sweep_numbers::turn;
 
