@@ -39,8 +39,8 @@ PATCHES = [
     ('sheet64/src/main.rt', 'b"sheet"', 'b"sheet64"'),
     ('sheet64/src/main.rt', 'Prints the sheet of the batch on standard input,', 'Prints the sheet, worked in f64, of the batch on standard input,'),
     # a block's numbers are taken over from f32
-    ('work64/src/lib.rt', 'floats[i] = ground64::from_bits(wire::word(bytes, from + 4 * i));',
-     'floats[i] = taken_over(wire::word(bytes, from + 4 * i));'),
+    ('work64/src/lib.rt', '*x = ground64::from_bits(wire::word(bytes, from + 4 * i));',
+     '*x = taken_over(wire::word(bytes, from + 4 * i));'),
     ('work64/src/lib.rt', 'ghost use Rattle.std.specs.Prelude', 'mod taken;\n\nghost use Rattle.std.specs.Prelude'),
     ('work64/src/lib.rt', 'use model::{Block, BlockRefusal, Refusal};', 'use model::{Block, BlockRefusal, Refusal};\nuse taken::taken_over;'),
     # stored words have eight bytes
@@ -232,7 +232,7 @@ class Gen:
 
     # ---- files
     def model(self):
-        src = ['// The records of model that hold floats, in f64. The others are model\'s.']
+        src = ['// The records of model that hold floats, in f64. The others are model\'s.', '#![tactic(auto)]', '']
         used = set()
         body = []
         for n, (text, ws) in self.decls.items():

@@ -7,7 +7,7 @@ use Prim.Native.Nat.{ℕ, zero, suc, ◌+◌, ◌-◌, ◌*◌, ◌/◌, ◌%◌
 use native.Mathlib.Omega.{arith}
 use borrow.Author.Tests.{eqb-true, lt-ltb, le-ltb}
 use lib.Dec.{eqb, ltb}
-use lib.Ieee.{Float, binary32, of_bits}
+use lib.Ieee.{Float}
 use lib.ListN.{length, take, drop, get_or}
 use lib.Seq.{drop-drop}
 use Rattle.model.specs.declared.Block.{Block}
@@ -98,9 +98,9 @@ pub none_left : (b : List ℕ) (k before n i : ℕ) → k < i + 1 → LeftFrom b
 unfolding whole_blocks
 none_left b k before n i done left = let e : k - i ≡ 0 = omega arith in left 0 (rw e (found_none n))
 
--- block i, of so many bytes, answered by a
-module _ (b : List ℕ) (k before n i size : ℕ) (more : i < k) (whole : size ≡ 512) (a : BlockCleared)
-    (answer : AnswerOf (take size (drop (512 * i) b)) a) (left : LeftFrom b k before n i) where
+-- block i, answered by a
+module _ (b : List ℕ) (k before n i : ℕ) (more : i < k) (a : BlockCleared) (answer : AnswerOf (take 512 (drop (512 * i) b)) a)
+    (left : LeftFrom b k before n i) where
   one_block : (found : ℕ) → Found n (take 512 (drop (512 * i) b) ∷ whole_blocks (k - (i + 1)) (drop (512 * (i + 1)) b)) found
       → Found before (whole_blocks k b) found
   unfolding whole_blocks
@@ -110,10 +110,10 @@ module _ (b : List ℕ) (k before n i size : ℕ) (more : i < k) (whole : size �
       left found (rw (count, drop-drop 512 (512 * i) b, place) h)
 
   pub stopped : is_clear a.answer ≡ false → Found before (whole_blocks k b) (n + 1)
-  stopped e = one_block (n + 1) (found_here n _ _ (record { came = a; sound = rw whole at answer; other = e }))
+  stopped e = one_block (n + 1) (found_here n _ _ (record { came = a; sound = answer; other = e }))
 
   pub passed : is_clear a.answer ≡ true → LeftFrom b k before (n + 1) (i + 1)
-  passed e found h = one_block found (found-behind n _ _ found (cleared _ a e (rw whole at answer)) h)
+  passed e found h = one_block found (found-behind n _ _ found (cleared _ a e answer) h)
 
 pub none_above : (found : ℕ) → found ≤ 0 → found ≡ 0
 none_above found h = omega (arith, h)

@@ -1,5 +1,5 @@
 -- What a block that passes has in its places. Assumes nothing.
-use Rattle.std.proofs.Common.{◌≡◌, ℕ, zero, suc, ◌+◌, ◌-◌, ◌*◌, ◌<◌, ◌≤◌, Bool, true, false, cond, not, ◌&&◌, ◌||◌, eqb, ltb, List, sym, refl, ap, ◌∙◌, true≢false, arith, ltb-false, ltb-true, eqb-true, Ok}
+use Rattle.std.proofs.Common.{◌≡◌, ℕ, zero, suc, ◌+◌, ◌-◌, ◌*◌, ◌<◌, ◌≤◌, Bool, true, false, cond, not, ◌&&◌, ◌||◌, eqb, ltb, List, sym, refl, true≢false, arith, ltb-false, ltb-true, eqb-true, Ok}
 use Rattle.model.specs.Wire.{byte}
 use Rattle.model.specs.Block.{job_of, block_of, known_form, check_holds, all_zero, bad_count, zeros_hold, bad_fields, checked_block, refused}
 use Rattle.model.specs.Blocks.{is_good}

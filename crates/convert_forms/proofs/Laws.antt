@@ -8,7 +8,9 @@ use native.Mathlib.Numerals.{add-one}
 use borrow.Author.Tests.{leb-true, ltb-true, eq-eqb}
 use lib.Dec.{leb, ltb}
 use lib.ListN.{length, take, drop, set, length-set, length-drop}
-use lib.Seq.{drop-length, take-length, length-take-le, get_or-set_same}
+use lib.Seq.{length-take-le, get_or-set_same, drop-drop, sets-eq}
+use borrow.Rule.Slice.PartMut.{put_mid}
+use Rattle.wire.specs.Bytes.{word_bytes}
 use Rattle.model.specs.Wire.{byte}
 use Rattle.model.specs.Block.{sum_before, checked_block}
 use Rattle.model.specs.Blocks.{whole_blocks, blocks, is_good, passes}
@@ -32,6 +34,13 @@ made b t form s h e f g =
   where
     sealed' : List ℕ → List ℕ
     sealed' l = with_check l (fitting_check l)
+
+-- the check copied behind the other words
+pub check-copied : (b : List ℕ) (c : ℕ) → length b ≡ 512 → put_mid 508 4 b (word_bytes c) ≡ with_check b c
+check-copied b c h =
+    let bytes = word_bytes c in
+    ap (λ (r : List ℕ). take 508 b ++ (bytes ++ r)) (drop-drop 4 508 b) ∙ sym (append_assoc (take 508 b) bytes (drop 512 b))
+    ∙ sym (sets-eq bytes b 508 (omega (arith, h)))
 
 length-check : (b : List ℕ) (c : ℕ) → length (with_check b c) ≡ length b
 length-check b c = rw (length-set, length-set, length-set, length-set)

@@ -42,11 +42,7 @@ fn other_form(bytes: &[u8]) -> [u8; 512]
     let form = other_number(turned[6]);
     turned[6] = form;
     let check = 0xffff_ffff - block::sum_before(&turned, form);
-    let last = wire::word_bytes(check);
-    turned[508] = last[0];
-    turned[509] = last[1];
-    turned[510] = last[2];
-    turned[511] = last[3];
+    turned[508..].copy_from_slice(&wire::word_bytes(check));
     turned
 }
 

@@ -94,7 +94,7 @@ fn from_cache(cache: SimplexCache, na: usize, nb: usize) -> bool
     some & cache_is_valid(cache, na, nb)
 }
 
-// What the rounds start with: three slots, and how many of them count.
+// What the rounds start with: three slots, and how many of them count. The memory is fixed, so a simplex is an array of three with its count beside it.
 #[derive(Clone, Copy)]
 struct Slots {
     simplex: [SimplexVertex; 3],
@@ -183,8 +183,7 @@ fn rounds(pos12: Pose, points_a: &[f32], points_b: &[f32], cache: SimplexCache) 
     let mut simplex = begin.simplex;
     let mut count = begin.count;
     let mut direction = zero();
-    let mut iterations: u32 = 0;
-    while iterations < MAX_ITERATIONS {
+    for iterations in 0..MAX_ITERATIONS {
         let solved = solve(simplex, count);
         let d = solved.direction;
         let kept = solved.count;
@@ -217,7 +216,6 @@ fn rounds(pos12: Pose, points_a: &[f32], points_b: &[f32], cache: SimplexCache) 
         }
         simplex = grown(pos12, points_a, points_b, slots, kept, index_a, index_b);
         direction = d;
-        iterations += 1;
         count = kept + 1;
     }
     Rounds {
@@ -225,7 +223,7 @@ fn rounds(pos12: Pose, points_a: &[f32], points_b: &[f32], cache: SimplexCache) 
         simplex,
         count,
         direction,
-        iterations,
+        iterations: MAX_ITERATIONS,
     }
 }
 

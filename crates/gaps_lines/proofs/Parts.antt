@@ -23,12 +23,12 @@ use Rattle.model.specs.Work.{block_answer, answer_by, BlockAnswer, worked}
 use Rattle.block.proofs.Passed.{is-passed, fields-of}
 use Rattle.model.proofs.Blocks.{blocks_more, rest_of, rest-short}
 use Rattle.model.proofs.DistanceCall.{both}
-use Rattle.text.specs.Put.{Put}
-use Rattle.text.proofs.Pasted.{put_then}
+use Rattle.text.specs.declared.draft.Draft.{Draft}
+use Rattle.text.specs.Written.{Wrote}
+use Rattle.text.proofs.Written.{wrote-then}
 use Rattle.gaps_lines.specs.declared.part.Tally.{Tally}
 use Rattle.gaps_lines.specs.Gaps.{longest_line, line_by, line_of, lines_from, counted, tally_from}
 use Rattle.gaps_lines.specs.Part.{Below, rest_line, rest_tally, fits}
-use Rattle.gaps_lines.proofs.Pieces.{length-refused}
 
 -- ---- folds over blocks in two parts
 pub lines-append : (n : ℕ) (xs ys : List (List ℕ)) → lines_from binary32 n (xs ++ ys) ≡ lines_from binary32 n xs ++ lines_from binary32 (n + length xs) ys
@@ -104,13 +104,13 @@ module _ (t₀ t : Tally) (b : List ℕ) (i : ℕ) (inside : 512 * i + 512 ≤ l
   number : t.blocks ≡ t₀.blocks + length (whole_blocks i b)
   number = rw so_far (blocks-counted t₀ (whole_blocks i b))
 
-  pub line_step : {d₀ d d' : List ℕ} {at at' : ℕ} → Put d₀ 0 (lines_from binary32 t₀.blocks (whole_blocks i b)) d at
-      → Put d at (line_by binary32 (t.blocks + 1) x (block_answer binary32 x)) d' at'
-      → Put d₀ 0 (lines_from binary32 t₀.blocks (whole_blocks (i + 1) b)) d' at'
+  pub line_step : {k m : ℕ} {p₀ p p' : Draft} → p₀.at ≤ length p₀.bytes.now → Wrote k p₀ (lines_from binary32 t₀.blocks (whole_blocks i b)) p
+      → Wrote m p (line_by binary32 (t.blocks + 1) x (block_answer binary32 x)) p'
+      → Wrote (k + m) p₀ (lines_from binary32 t₀.blocks (whole_blocks (i + 1) b)) p'
   unfolding lines_from
-  line_step p q =
+  line_step start v w =
       let one = line_by binary32 (t.blocks + 1) x (block_answer binary32 x) in
-      rw (more, lines-append t₀.blocks (whole_blocks i b) (x ∷ []), ← number, answered, append-nil one) (put_then (omega arith) p q)
+      rw (more, lines-append t₀.blocks (whole_blocks i b) (x ∷ []), ← number, answered, append-nil one) (wrote-then start v w)
 
   pub tally-step : {t' : Tally} → t' ≡ counted t (block_answer binary32 x) → t' ≡ tally_from binary32 t₀ (whole_blocks (i + 1) b)
   unfolding tally_from
@@ -133,25 +133,19 @@ rest-tally b t = go (eqb (length b % 512) 0)
     go true = refl
     go false = rw (rest-short b)
 
-pub length_rest : (t : Tally) (rest : ℕ) → length (rest_line t rest) ≤ longest_line
-length_rest t rest = go (eqb rest 0)
-  where
-    go : (none : Bool) → length (cond none [] (refused_line (t.blocks + 1) 0 9)) ≤ longest_line
-    go true = omega arith
-    go false = length-refused (t.blocks + 1) 0 9
-
 -- ---- the whole blocks and the rest are the blocks of the part
 in_two : (b : List ℕ) → blocks b ≡ whole_blocks (length b / 512) b ++ short_rest b
 unfolding blocks
 in_two b = refl
 
 module _ (t₀ t : Tally) (b : List ℕ) (so_far : t ≡ tally_from binary32 t₀ (whole_blocks (length b / 512) b)) where
-  pub all_lines : {d₀ d d' : List ℕ} {at at' : ℕ} → Put d₀ 0 (lines_from binary32 t₀.blocks (whole_blocks (length b / 512) b)) d at
-      → Put d at (rest_line t (length b % 512)) d' at' → Put d₀ 0 (lines_from binary32 t₀.blocks (blocks b)) d' at'
-  all_lines p q =
+  pub all_lines : {k m : ℕ} {p₀ p p' : Draft} → p₀.at ≤ length p₀.bytes.now
+      → Wrote k p₀ (lines_from binary32 t₀.blocks (whole_blocks (length b / 512) b)) p
+      → Wrote m p (rest_line t (length b % 512)) p' → Wrote (k + m) p₀ (lines_from binary32 t₀.blocks (blocks b)) p'
+  all_lines start v w =
       let xs = whole_blocks (length b / 512) b in
       let number : t.blocks ≡ t₀.blocks + length xs = rw so_far (blocks-counted t₀ xs) in
-      rw (in_two b, lines-append t₀.blocks xs (short_rest b), ← number, rest_lines b t) (put_then (omega arith) p q)
+      rw (in_two b, lines-append t₀.blocks xs (short_rest b), ← number, rest_lines b t) (wrote-then start v w)
 
   pub all-tally : {t' : Tally} → t' ≡ rest_tally t (length b % 512) → t' ≡ tally_from binary32 t₀ (blocks b)
   all-tally e =

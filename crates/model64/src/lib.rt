@@ -1,5 +1,7 @@
 // Written by tests/written/wide.py from model, in f64.
 // The records of model that hold floats, in f64. The others are model's.
+#![tactic(auto)]
+
 use model::{BlockRefusal, Corners, Counts, Ending, Refusal, SeparationType, SimplexCache, Status};
 
 // A point or a direction of the plane.

@@ -96,14 +96,7 @@ pub fn support_pair(points: &[f64], direction: Vector) -> SupportPair
         second: 0,
         value: 0.0,
     };
-    let mut i: usize = 1;
-    // two corners a round, and the one that may be left behind them
-    while i + 1 < count {
-        let one = taken(points, direction, origin, best, i);
-        best = taken(points, direction, origin, one, i + 1);
-        i += 2;
-    }
-    if i < count {
+    for i in 1..count {
         best = taken(points, direction, origin, best, i);
     }
     SupportPair {

@@ -860,13 +860,6 @@ module _ {M : Type 1} {𝓤 : Ura M} (𝓛 : Logic 𝓤) (mem : Memory → SProp
     once = λ κs a g r r' v v'. told 𝓤 (λ p q. (search (same-value, built-by-parts), refl));
   }
 
-  pub job-text-least : OneResult 𝓛 job_text.least.ended (job_text.least.spec 𝓛 mem run)
-  job-text-least = record {
-    clauses = job_text.least.clauses 𝓛 mem run;
-    of-contract = refl;
-    once = λ κs a g r r' v v'. told 𝓤 (λ p q. (search same-value, refl));
-  }
-
   pub job-text-put-job : OneResult 𝓛 job_text.put_job.ended (job_text.put_job.spec 𝓛 mem run)
   job-text-put-job = record {
     clauses = job_text.put_job.clauses 𝓛 mem run;
@@ -1030,6 +1023,13 @@ module _ {M : Type 1} {𝓤 : Ura M} (𝓛 : Logic 𝓤) (mem : Memory → SProp
   }
 
   -- ---- route_text
+  pub route-text-cuts-of : OneResult 𝓛 route_text.cuts_of.ended (route_text.cuts_of.spec 𝓛 mem run)
+  route-text-cuts-of = record {
+    clauses = route_text.cuts_of.clauses 𝓛 mem run;
+    of-contract = refl;
+    once = λ κs a g r r' v v'. told 𝓤 (λ p q. (search same-value, refl));
+  }
+
   pub route-text-write-answer : OneResult 𝓛 route_text.write_answer.ended (route_text.write_answer.spec 𝓛 mem run)
   route-text-write-answer = record {
     clauses = route_text.write_answer.clauses 𝓛 mem run;

@@ -7,7 +7,7 @@ ghost use Rattle.route_read.specs.Read as Read;
 use model::COUNT_LIMIT;
 use route_line::{AFTER_WORD, BETWEEN, Kind, LAST_DIGIT, Line, MOST_WORDS, line_after};
 
-// How many numbers and how many lengths are kept, and where among the numbers the cart and the waypoints end.
+// How many numbers and how many lengths are kept, and where among the numbers the cart and the waypoints end: places in lent lists that are still written.
 #[derive(Clone, Copy)]
 pub struct Kept {
     pub used: usize,

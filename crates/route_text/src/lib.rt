@@ -18,41 +18,50 @@ const LONGEST_LINE: usize = 128;
 // A text that is no route.
 const NO_ROUTE: u64 = 14;
 
-fn least(a: usize, b: usize) -> usize
-    ensures { (result ≡ Answer.least a b) × (result ≤ a) × (result ≤ b) }
-{
-    if b < a { b } else { a }
+// Where the lists of a route begin and end among the numbers that are kept, and how many lengths there are.
+#[derive(Clone, Copy)]
+pub struct Cuts {
+    pub start: usize,
+    pub cart: usize,
+    pub whole: usize,
+    pub ways: usize,
+    pub used: usize,
+    pub outlines: usize,
 }
 
-// Where the last whole waypoint ends: a text with more numbers than there are places for may end within one.
-fn whole_end(cart: usize, ways: usize) -> usize
-    requires { cart ≤ ways }
-    ensures { (result ≡ Answer.whole_end cart ways) × (cart ≤ result) × (result ≤ ways) }
+// The cuts of so many numbers and lengths. A text with more numbers than there are places for may end within a waypoint, and whole ones alone are taken.
+pub fn cuts_of(kept: Kept, numbers: usize, lengths: usize) -> Cuts
+    ensures { result ≡ Answer.cuts_of kept numbers lengths }
 {
-    cart + (ways - cart) / 4 * 4
+    let used = kept.used.min(numbers);
+    let ways = kept.way_end.min(used);
+    let cart = kept.cart_end.min(ways);
+    Cuts {
+        start: cart.min(1),
+        cart,
+        whole: cart + (ways - cart) / 4 * 4,
+        ways,
+        used,
+        outlines: kept.outlines.min(lengths),
+    }
 }
 
 // The route that the kept numbers and lengths stand for.
 fn route_of(kept: Kept, floats: &[f32], lengths: &[u32]) -> RouteAnswer
     ensures { result ≡ Answer.route_of kept floats.now lengths.now }
 {
-    let used = least(kept.used, floats.len());
-    let ways = least(kept.way_end, used);
-    let cart = least(kept.cart_end, ways);
-    let start = least(1, cart);
-    let n = least(kept.outlines, lengths.len());
-    let whole = whole_end(cart, ways);
+    let cuts = cuts_of(kept, floats.len(), lengths.len());
     let first = outline::point(floats, 0);
     route_legs::route(
-        &floats[start..cart],
-        &floats[cart..whole],
-        &floats[ways..used],
-        &lengths[..n],
+        &floats[cuts.start..cuts.cart],
+        &floats[cuts.cart..cuts.whole],
+        &floats[cuts.ways..cuts.used],
+        &lengths[..cuts.outlines],
         first.x,
     )
 }
 
-// Two numbers with a blank between, and a byte after them.
+// Two numbers with a blank between, and a byte after them. Each crate of lines has its own, since it asks for room and nothing public asks its caller.
 fn put_pair(draft: &mut Draft<'_>, a: u64, b: u64, end: u8)
     requires { Room 42 draft.old }
     ensures { Wrote 42 draft.old (Answer.two a b end) draft.new }

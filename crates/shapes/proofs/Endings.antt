@@ -1,23 +1,23 @@
 -- The endings of a build: refused by a check, no room, or the corners stored one after the other. Assumes nothing.
-use Prim.Native.Nat.{ℕ, suc, ◌*◌, ◌≤◌, ◌<◌}
+use Prim.Native.Nat.{ℕ, zero, suc, ◌+◌, ◌*◌, ◌≤◌, ◌<◌}
 use native.Mathlib.Omega.{arith}
-use native.Mathlib.Nat.{zero-add}
 use mathlib.Core.Path.{◌≡◌, refl, sym, ap, ◌∙◌}
-use mathlib.Core.List.{List, [], ◌∷◌, ◌++◌}
+use mathlib.Core.List.{List, [], ◌∷◌, ◌++◌, map}
 use borrow.Author.Tests.{lt-ltb, le-ltb}
-use lib.ListN.{length, drop}
-use lib.Seq.{sets, sets-eq}
-use lib.Ieee.{Float}
+use lib.ListN.{length, take, drop, set, get_or}
+use lib.Seq.{take-length}
+use lib.Ieee.{Float, Format}
 use Rattle.std.proofs.Common.{Result, Ok, Err}
 use Rattle.std.proofs.lemmas.Result.{err_from_is_err_and}
 use Rattle.std.specs.Result.{IsErrAnd}
 use Rattle.model.specs.declared.Refusal.{Refusal}
 use Rattle.model.specs.declared.Vector.{Vector}
 use Rattle.model.specs.declared.Pose.{Pose}
+use Rattle.model.specs.Ground.{on_point}
 use Rattle.model.specs.Domain.{checked, refusal, checked_pose, refusal_of_pose, numbered}
 use Rattle.model.proofs.Domain.{passed, refused}
 use Rattle.model.proofs.Domain as Domain
-use Rattle.shapes.specs.Shapes.{flat, told, left}
+use Rattle.shapes.specs.Shapes.{flat, told, left, placed}
 
 -- what `?` returns of a refusal
 handed_on : {A : Type 0} (a : Result A Refusal) (r : Refusal) → IsErrAnd a (λ e. e ≡ r) → a ≡ Err r
@@ -79,10 +79,26 @@ module _ (corners : List Vector) (out : List Float) where
   unfolding told left
   no_room short = let test = lt-ltb (length out) (2 * length corners) short in rw test (refl, refl)
 
-  front : 2 * length corners ≤ length out → sets out 0 (flat corners) ≡ flat corners ++ drop (2 * length corners) out
-  front room =
-      rw (zero-add (length (flat corners)), flat-length corners) at (sets-eq (flat corners) out 0 (omega (arith, flat-length corners)))
-
-  pub stored : 2 * length corners ≤ length out → (Ok (length corners) ≡ told 0 corners out) × (sets out 0 (flat corners) ≡ left 0 corners out)
+  pub stored : 2 * length corners ≤ length out →
+      (Ok (length corners) ≡ told 0 corners out) × (flat (take (length corners) corners) ++ drop (2 * length corners) out ≡ left 0 corners out)
   unfolding told left
-  stored room = let test = le-ltb (length out) (2 * length corners) room in rw test (refl, front room)
+  stored room = let test = le-ltb (length out) (2 * length corners) room in rw (test, take-length corners) (refl, refl)
+
+-- ---- the corners one after the other
+pub stored_more : (corners : List Vector) (out : List Float) (i : ℕ) (d : Vector) → i < length corners → 2 * length corners ≤ length out →
+    set (set (flat (take i corners) ++ drop (2 * i) out) (2 * i) (get_or corners i d).x) (2 * i + 1) (get_or corners i d).y
+    ≡ flat (take (i + 1) corners) ++ drop (2 * (i + 1)) out
+stored_more [] out i d h room = absurd (omega (arith, h))
+stored_more (p ∷ ps) [] i d h room = absurd (omega (arith, room))
+stored_more (p ∷ ps) (a ∷ []) i d h room = absurd (omega (arith, room))
+stored_more (p ∷ ps) (a ∷ b ∷ out) zero d h room = refl
+stored_more (p ∷ ps) (a ∷ b ∷ out) (suc i) d h room =
+    let here : 2 * suc i ≡ suc (suc (2 * i)) = omega arith in
+    let one : suc i + 1 ≡ suc (i + 1) = omega arith in
+    let next : 2 * suc (i + 1) ≡ suc (suc (2 * (i + 1))) = omega arith in
+    let beside : suc (suc (2 * i)) + 1 ≡ suc (suc (2 * i + 1)) = omega arith in
+    rw (one, here, next, beside) (ap (λ (l : List Float). p.x ∷ p.y ∷ l) (stored_more ps out i d (omega (arith, h)) (omega (arith, room))))
+
+pub placed-all : (f : Format) (p : Pose) (corners : List Vector) → map (on_point f p) (take (length corners) corners) ++ drop (length corners) corners ≡ placed f p corners
+placed-all f p [] = refl
+placed-all f p (v ∷ s) = ap (λ (l : List Vector). on_point f p v ∷ l) (placed-all f p s)

@@ -2,7 +2,7 @@
 // lent list, x y each, and the rest of it stays. A build answers how many corners it wrote; a refused one writes nothing.
 #![tactic(auto)]
 
-ghost use Rattle.std.specs.Prelude.{◌≡◌, [], ◌∷◌};
+ghost use Rattle.std.specs.Prelude.{◌≡◌};
 ghost use Rattle.std.specs.Float.{binary32};
 ghost use Rattle.model.specs.Domain.{checked};
 ghost use Rattle.shapes.specs.Shapes as Shapes;
@@ -37,68 +37,61 @@ fn check_bar(a: Vector, b: Vector) -> Result<(), Refusal>
     }
 }
 
-// Four corners; 15 where there is no room.
-fn build_four(
-    p0: Vector,
-    p1: Vector,
-    p2: Vector,
-    p3: Vector,
-    out: &mut [f32],
-) -> Result<usize, Refusal>
-    ensures { (result ≡ Shapes.told 0 (p0 ∷ p1 ∷ p2 ∷ p3 ∷ []) out.old)
-        × (out.new ≡ Shapes.left 0 (p0 ∷ p1 ∷ p2 ∷ p3 ∷ []) out.old) }
+// The corners; 15 where there is no room.
+fn build(corners: &[Vector], out: &mut [f32]) -> Result<usize, Refusal>
+    ensures { (result ≡ Shapes.told 0 corners.now out.old) × (out.new ≡ Shapes.left 0 corners.now out.old) }
 {
-    if out.len() < 8 {
+    if out.len() / 2 < corners.len() {
         return Err(NO_ROOM);
     }
-    out[0] = p0.x;
-    out[1] = p0.y;
-    out[2] = p1.x;
-    out[3] = p1.y;
-    out[4] = p2.x;
-    out[5] = p2.y;
-    out[6] = p3.x;
-    out[7] = p3.y;
-    Ok(4)
-}
-
-// Two corners in the same way.
-fn build_two(p0: Vector, p1: Vector, out: &mut [f32]) -> Result<usize, Refusal>
-    ensures { (result ≡ Shapes.told 0 (p0 ∷ p1 ∷ []) out.old) × (out.new ≡ Shapes.left 0 (p0 ∷ p1 ∷ []) out.old) }
-{
-    if out.len() < 4 {
-        return Err(NO_ROOM);
+    for (i, p) in corners.iter().enumerate() {
+        out[2 * i] = p.x;
+        out[2 * i + 1] = p.y;
     }
-    out[0] = p0.x;
-    out[1] = p0.y;
-    out[2] = p1.x;
-    out[3] = p1.y;
-    Ok(2)
+    Ok(corners.len())
 }
 
-// A plate about the origin. Corner k has the half sizes, x negated where bit 0 of k is set and y where bit 1 is.
+// Corner k has the half sizes, x negated where bit 0 of k is set and y where bit 1 is.
+fn plate_corners(half_x: f32, half_y: f32) -> [Vector; 4]
+    ensures { result ≡ Shapes.plate_corners half_x half_y }
+{
+    [
+        Vector {
+            x: half_x,
+            y: half_y,
+        },
+        Vector {
+            x: -half_x,
+            y: half_y,
+        },
+        Vector {
+            x: half_x,
+            y: -half_y,
+        },
+        Vector {
+            x: -half_x,
+            y: -half_y,
+        },
+    ]
+}
+
+// Moves each corner by the pose.
+fn place(pose: Pose, corners: &mut [Vector])
+    ensures { corners.new ≡ Shapes.placed binary32 pose corners.old }
+{
+    for corner in corners.iter_mut() {
+        *corner = transform_point(pose, *corner);
+    }
+}
+
+// A plate about the origin.
 pub fn plate(half_x: f32, half_y: f32, out: &mut [f32]) -> Result<usize, Refusal>
     ensures { (result ≡ Shapes.plate_told binary32 half_x half_y out.old)
         × (out.new ≡ Shapes.plate_left binary32 half_x half_y out.old) }
 {
     check_plate(half_x, half_y)?;
-    let p0 = Vector {
-        x: half_x,
-        y: half_y,
-    };
-    let p1 = Vector {
-        x: -half_x,
-        y: half_y,
-    };
-    let p2 = Vector {
-        x: half_x,
-        y: -half_y,
-    };
-    let p3 = Vector {
-        x: -half_x,
-        y: -half_y,
-    };
-    build_four(p0, p1, p2, p3, out)
+    let corners = plate_corners(half_x, half_y);
+    build(&corners, out)
 }
 
 // A bar from a to b.
@@ -106,7 +99,8 @@ pub fn bar(a: Vector, b: Vector, out: &mut [f32]) -> Result<usize, Refusal>
     ensures { (result ≡ Shapes.bar_told binary32 a b out.old) × (out.new ≡ Shapes.bar_left binary32 a b out.old) }
 {
     check_bar(a, b)?;
-    build_two(a, b, out)
+    let corners = [a, b];
+    build(&corners, out)
 }
 
 // The plate, each corner moved by the pose.
@@ -120,35 +114,9 @@ pub fn placed_plate(half_x: f32, half_y: f32, pose: Pose, out: &mut [f32]) -> Re
         let number = pose_refusal(posed);
         return Err(Refusal { number });
     };
-    let q0 = transform_point(
-        good,
-        Vector {
-            x: half_x,
-            y: half_y,
-        },
-    );
-    let q1 = transform_point(
-        good,
-        Vector {
-            x: -half_x,
-            y: half_y,
-        },
-    );
-    let q2 = transform_point(
-        good,
-        Vector {
-            x: half_x,
-            y: -half_y,
-        },
-    );
-    let q3 = transform_point(
-        good,
-        Vector {
-            x: -half_x,
-            y: -half_y,
-        },
-    );
-    build_four(q0, q1, q2, q3, out)
+    let mut corners = plate_corners(half_x, half_y);
+    place(good, &mut corners);
+    build(&corners, out)
 }
 
 // The bar, both ends moved by the pose.
@@ -162,7 +130,7 @@ pub fn placed_bar(a: Vector, b: Vector, pose: Pose, out: &mut [f32]) -> Result<u
         let number = pose_refusal(posed);
         return Err(Refusal { number });
     };
-    let q0 = transform_point(good, a);
-    let q1 = transform_point(good, b);
-    build_two(q0, q1, out)
+    let mut corners = [a, b];
+    place(good, &mut corners);
+    build(&corners, out)
 }

@@ -56,7 +56,12 @@ pub fn sweep_of(points_a: &[f32], points_b: &[f32], numbers: &[f32]) -> Swept
     )
 }
 
-fn found(status: Status, contact: Contact, counts: Counts, corners: Corners) -> Result<Verdict, Refusal>
+fn found(
+    status: Status,
+    contact: Contact,
+    counts: Counts,
+    corners: Corners,
+) -> Result<Verdict, Refusal>
     ensures { result ≡ Ok (Work.verdict status contact counts corners) }
 {
     Ok(Verdict {

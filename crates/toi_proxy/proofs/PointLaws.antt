@@ -172,8 +172,6 @@ answers f d (p ∷ ps) =
     by_tests _ _ _ _ _ _ _ _ (outline-tests _ _ (length-flat (p ∷ ps))) (bad-from f d (p ∷ ps) (start f) 0) (best-all f d p ps) (second-all f d p ps)
 
 -- where all points are taken
-pub finishes : (f : Format) (d : Vector) (ps : List Vector) (i : ℕ) (s : Farthest) → i ≤ length ps → length ps ≤ i → taken_from f d s i (drop i ps)
-    ≡ taken_from f d (start f) 0 ps → answer_of s i ≡ support_answer f (flat ps) d
-finishes f d ps i s below above e =
-    let all : i ≡ length ps = omega (arith, below, above) in
-    ap (λ (t : Farthest). answer_of t i) (sym (ends f d ps i s above) ∙ e) ∙ (ap (answer_of (taken_from f d (start f) 0 ps)) all ∙ answers f d ps)
+pub finishes : (f : Format) (d : Vector) (ps : List Vector) (i : ℕ) (s : Farthest) → length ps ≤ i → taken_from f d s i (drop i ps)
+    ≡ taken_from f d (start f) 0 ps → answer_of s (length ps) ≡ support_answer f (flat ps) d
+finishes f d ps i s above e = ap (λ (t : Farthest). answer_of t (length ps)) (sym (ends f d ps i s above) ∙ e) ∙ answers f d ps

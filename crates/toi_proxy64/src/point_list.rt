@@ -1,9 +1,9 @@
 // Written by tests/written/wide.py from toi_proxy, in f64.
 // The support of a lent list of point records: that of the flat list of their parts.
-ghost use Rattle.std.specs.Prelude.{◌<◌, ◌≡◌, length};
+ghost use Rattle.std.specs.Prelude.{◌≡◌};
 ghost use Rattle.std.specs.Float.{binary64};
 ghost use Rattle.model64.specs.Second.{support_answer};
-ghost use Rattle.toi_proxy64.specs.Points.{point_of, flat, taken, answer_of};
+ghost use Rattle.toi_proxy64.specs.Points.{flat, taken, answer_of};
 
 use domain64::bad_vector;
 use model::{BAD_OUTLINE_A, BAD_PART, Refusal, SupportPair};
@@ -18,13 +18,6 @@ struct Farthest {
     best: usize,
     second: usize,
     value: f64,
-}
-
-fn point_at(points: &[Vector], i: usize) -> Vector
-    requires { i < length points.now }
-    ensures { result ≡ point_of points.now i }
-{
-    points[i]
 }
 
 // Takes point i: the first is the origin of all values, and a later one is better where its value is above the best, and the second where
@@ -46,31 +39,20 @@ fn take(s: Farthest, i: usize, p: Vector, direction: Vector) -> Farthest
     let value = direction.x * (p.x - s.x) + direction.y * (p.y - s.y);
     if value > s.value {
         Farthest {
-            x: s.x,
-            y: s.y,
             bad,
             best: i,
             second: i,
             value,
+            ..s
         }
     } else if value == s.value {
         Farthest {
-            x: s.x,
-            y: s.y,
             bad,
-            best: s.best,
             second: i,
-            value: s.value,
+            ..s
         }
     } else {
-        Farthest {
-            x: s.x,
-            y: s.y,
-            bad,
-            best: s.best,
-            second: s.second,
-            value: s.value,
-        }
+        Farthest { bad, ..s }
     }
 }
 
@@ -102,11 +84,8 @@ pub fn support_points(points: &[Vector], direction: Vector) -> Result<SupportPai
         second: 0,
         value: 0.0,
     };
-    let mut i: usize = 0;
-    while i < points.len() {
-        let p = point_at(points, i);
-        s = take(s, i, p, direction);
-        i += 1;
+    for (i, p) in points.iter().enumerate() {
+        s = take(s, i, *p, direction);
     }
-    answer(s, i)
+    answer(s, points.len())
 }

@@ -10,15 +10,14 @@ ghost use Rattle.work.specs.Refusal.{refusal_by};
 use model::{Block, BlockAnswer, BlockRefusal, Refusal, Swept, Verdict, Worked};
 
 // The 32 floats from a place on: as many as sixteen points have. A number that is fixed lets several be read as one; who asks for fewer lends the first.
+// Not `block_floats`' loop: this crate is there in both widths, of which the wider takes each float over from a block's; a loop of both would be two crates more.
 fn floats_at(bytes: &[u8], from: usize) -> [f32; 32]
     requires { from ≤ 512 }
     ensures { (length result ≡ 32) × ((n : ℕ) → n ≤ 32 → take n result ≡ Work.floats_at bytes.now from n) }
 {
     let mut floats = [0.0f32; 32];
-    let mut i: usize = 0;
-    while i < 32 {
-        floats[i] = ground::from_bits(wire::word(bytes, from + 4 * i));
-        i += 1;
+    for (i, x) in floats.iter_mut().enumerate() {
+        *x = ground::from_bits(wire::word(bytes, from + 4 * i));
     }
     floats
 }

@@ -15,15 +15,14 @@ use model64::{BlockAnswer, Swept, Verdict, Worked};
 use taken::taken_over;
 
 // The 32 floats from a place on: as many as sixteen points have. A number that is fixed lets several be read as one; who asks for fewer lends the first.
+// Not `block_floats`' loop: this crate is there in both widths, of which the wider takes each float over from a block's; a loop of both would be two crates more.
 fn floats_at(bytes: &[u8], from: usize) -> [f64; 32]
     requires { from ≤ 512 }
     ensures { (length result ≡ 32) × ((n : ℕ) → n ≤ 32 → take n result ≡ Work.floats_at bytes.now from n) }
 {
     let mut floats = [0.0f64; 32];
-    let mut i: usize = 0;
-    while i < 32 {
-        floats[i] = taken_over(wire::word(bytes, from + 4 * i));
-        i += 1;
+    for (i, x) in floats.iter_mut().enumerate() {
+        *x = taken_over(wire::word(bytes, from + 4 * i));
     }
     floats
 }

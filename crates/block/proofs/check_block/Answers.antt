@@ -1,5 +1,5 @@
 -- `block::check_block` meets its contract: the form comes first, then the check, then the fields. Assumes nothing.
-use Rattle.std.proofs.Common.{sym, ap, ◌∙◌, rules}
+use Rattle.std.proofs.Common.{sym, ap, ◌∙◌}
 use Rattle.model.specs.Block.{known_form}
 use Rattle.block.proofs.Laws.{unknown-form, wrong-check, wrong-fields, all_right}
 use Rattle.block.proofs.check_block.Goals as goal

@@ -9,7 +9,7 @@ use Rattle.route_legs.proofs.walk.Goals as goal
 
 pub loop-k-init : goal.loop-k-init
 loop-k-init c = let a = c.args in
-    (omega arith, at_first binary32 a.cart.now a.waypoints.now a.stills.now a.lengths.now a.slop a.sweeps)
+    (omega arith, at_first binary32 a.lists.cart.now a.lists.waypoints.now a.lists.stills.now a.lists.lengths.now a.lists.slop a.sweeps)
 
 pub sweep_at-answer-requires : goal.sweep_at-answer-requires
 sweep_at-answer-requires c = let k = c.loop-k.k in
@@ -27,7 +27,7 @@ sweep_at-answer-requires c = let k = c.loop-k.k in
 pub overflow_add-calls : goal.overflow_add-calls
 overflow_add-calls c = let l = c.loop-k in
     let a = c.args in
-    let few = few-calls-of binary32 a.cart.now a.waypoints.now a.stills.now a.lengths.now a.slop _ _ c.calls_of-calls.result _
+    let few = few-calls-of binary32 a.lists.cart.now a.lists.waypoints.now a.lists.stills.now a.lists.lengths.now a.lists.slop _ _ c.calls_of-calls.result _
     c.sweep_at-answer.ensures c.calls_of-calls.ensures in
     omega (
       arith,
@@ -50,11 +50,11 @@ returns-then-not-is_separated c = let l = c.loop-k in
     let all = c.requires.outlines_value.0 in
     let leg = c.leg_of-leg.ensures in
     let past = c.outline_of-outline.ensures in
-    let swept = swept-in-order binary32 a.cart.now a.waypoints.now a.stills.now a.lengths.now a.slop l.k a.outlines all leg past
+    let swept = swept-in-order binary32 a.lists.cart.now a.lists.waypoints.now a.lists.stills.now a.lists.lengths.now a.lists.slop l.k a.outlines all leg past
     c.sweep_at-answer.ensures in
-    let stopped = stopped-in-order binary32 a.cart.now a.waypoints.now a.stills.now a.lengths.now a.slop l.k
+    let stopped = stopped-in-order binary32 a.lists.cart.now a.lists.waypoints.now a.lists.stills.now a.lists.lengths.now a.lists.slop l.k
     a.outlines all leg past _ c.stop_at.ensures in
-    ends-here binary32 a.cart.now a.waypoints.now a.stills.now a.lengths.now a.slop a.sweeps l.k l.calls _ _
+    ends-here binary32 a.lists.cart.now a.lists.waypoints.now a.lists.stills.now a.lists.lengths.now a.lists.slop a.sweeps l.k l.calls _ _
     (omega arith) swept c.calls_of-calls.ensures _
     c.is_separated.ensures (ap not c.if-not-is_separated.true) _ stopped _ c.ended_by.ensures
     ∙ l.invariant.1
@@ -64,16 +64,16 @@ loop-k-preserved c = let l = c.loop-k in
     let a = c.args in
     let calls = c.calls_of-calls in
     let answer = c.sweep_at-answer.ensures in
-    let swept = swept-in-order binary32 a.cart.now a.waypoints.now a.stills.now a.lengths.now a.slop l.k a.outlines
+    let swept = swept-in-order binary32 a.lists.cart.now a.lists.waypoints.now a.lists.stills.now a.lists.lengths.now a.lists.slop l.k a.outlines
     c.requires.outlines_value.0
     c.leg_of-leg.ensures c.outline_of-outline.ensures answer in (
       omega (
         arith,
-        few-calls-of binary32 a.cart.now a.waypoints.now a.stills.now a.lengths.now a.slop _ _ calls.result _ answer
+        few-calls-of binary32 a.lists.cart.now a.lists.waypoints.now a.lists.stills.now a.lists.lengths.now a.lists.slop _ _ calls.result _ answer
             calls.ensures,
         l.invariant.0,
       ),
-      goes_on binary32 a.cart.now a.waypoints.now a.stills.now a.lengths.now a.slop a.sweeps l.k l.calls _ _
+      goes_on binary32 a.lists.cart.now a.lists.waypoints.now a.lists.stills.now a.lists.lengths.now a.lists.slop a.sweeps l.k l.calls _ _
           (omega arith) swept calls.ensures _ c.is_separated.ensures (ap not c.if-not-is_separated.false)
           ∙ l.invariant.1,
     )
@@ -81,5 +81,5 @@ loop-k-preserved c = let l = c.loop-k in
 pub returns : goal.returns
 returns c = let l = c.loop-k in
     let a = c.args in
-    all-passed binary32 a.cart.now a.waypoints.now a.stills.now a.lengths.now a.slop a.sweeps l.k l.calls (omega arith)
+    all-passed binary32 a.lists.cart.now a.lists.waypoints.now a.lists.stills.now a.lists.lengths.now a.lists.slop a.sweeps l.k l.calls (omega arith)
     ∙ l.invariant.1

@@ -8,4 +8,4 @@ use Rattle.route_legs.proofs.walk.Given as goal
 abbrev pub invariant-loop-k : goal.invariant-loop-k
 invariant-loop-k l =
     (l.calls ≤ 20 * l.k)
-    × (walk_from binary32 l.cart l.waypoints l.stills l.lengths l.slop (l.sweeps - l.k) l.k l.calls ≡ walk_from binary32 l.cart l.waypoints l.stills l.lengths l.slop l.sweeps 0 0)
+    × (walk_from binary32 l.lists.cart.now l.lists.waypoints.now l.lists.stills.now l.lists.lengths.now l.lists.slop (l.sweeps - l.k) l.k l.calls ≡ walk_from binary32 l.lists.cart.now l.lists.waypoints.now l.lists.stills.now l.lists.lengths.now l.lists.slop l.sweeps 0 0)

@@ -8,9 +8,6 @@ use Rattle.route_read.specs.Read.{run, run_over}
 use Rattle.route_read.proofs.Runs.{read-on, read_whole}
 use Rattle.route_read.proofs.read_part.Goals as goal
 
-pub loop-x-init : goal.loop-x-init
-loop-x-init c = (refl, refl, refl)
-
 pub loop-x-preserved : goal.loop-x-preserved
 loop-x-preserved c = let l = c.loop-x in
     let part = c.args.part.now in

@@ -10,5 +10,5 @@ returns-in_err-check_bar c =
 pub returns : goal.returns
 returns c =
     let first = check-passed _ _ (λ k. k) (λ j. refl) _ _ c.check_bar.ensures c.in_ok-check_bar.was in
-    let built = c.build_two.ensures in
+    let built = c.build.ensures in
     (built.0 ∙ first.0, built.1 ∙ first.1)

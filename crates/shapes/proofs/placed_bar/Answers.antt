@@ -20,5 +20,5 @@ pub returns : goal.returns
 returns c =
     let first = check-passed _ _ (λ k. or_else k (pose_refusal binary32 c.args.pose)) (λ j. refl) _ _ c.check_bar.ensures c.in_ok-check_bar.was in
     let (told, left, same) = pose-passed _ _ _ _ _ c.check_pose-posed.ensures _ c.in-Ok.is in
-    let built = rw (c.transform_point-q0.ensures, c.transform_point-q1.ensures, same) at c.build_two.ensures in
+    let built = rw (c.place.ensures, same) at c.build.ensures in
     (built.0 ∙ told ∙ first.0, built.1 ∙ left ∙ first.1)

@@ -20,5 +20,5 @@ pub returns : goal.returns
 returns c =
     let first = check-passed _ _ (λ k. or_else k (pose_refusal binary32 c.args.pose)) (λ j. refl) _ _ c.check_plate.ensures c.in_ok-check_plate.was in
     let (told, left, same) = pose-passed _ _ _ _ _ c.check_pose-posed.ensures _ c.in-Ok.is in
-    let built = rw (c.transform_point-q0.ensures, c.transform_point-q1.ensures, c.transform_point-q2.ensures, c.transform_point-q3.ensures, same) at c.build_four.ensures in
+    let built = rw (c.place.ensures, c.plate_corners-corners.ensures, same) at c.build.ensures in
     (built.0 ∙ told ∙ first.0, built.1 ∙ left ∙ first.1)

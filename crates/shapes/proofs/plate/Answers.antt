@@ -10,5 +10,5 @@ returns-in_err-check_plate c =
 pub returns : goal.returns
 returns c =
     let first = check-passed _ _ (λ k. k) (λ j. refl) _ _ c.check_plate.ensures c.in_ok-check_plate.was in
-    let built = c.build_four.ensures in
+    let built = rw c.plate_corners-corners.ensures at c.build.ensures in
     (built.0 ∙ first.0, built.1 ∙ first.1)
