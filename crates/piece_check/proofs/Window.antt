@@ -1,14 +1,13 @@
 -- From the five dot products of an arc to the length of the turn in 2^31-ths. Assumes nothing.
-use Prim.Native.Nat.{ℕ, ◌+◌, ◌*◌, ◌≤◌, ◌<◌}
+use Prim.Native.Nat.{ℕ, ◌≤◌, ◌<◌}
 use native.Mathlib.Omega.{arith}
-use Rattle.integers.specs.Signed.{Int, of_nat, ◌⊞◌, ◌⊟◌, ◌⊠◌, ◌≼◌, ◌≃◌}
+use Rattle.integers.specs.Signed.{of_nat, ◌⊞◌, ◌⊠◌, ◌≃◌}
 use Rattle.plane.specs.Plane.{Point, dot}
 use Rattle.whole_move.specs.Blend.{twice}
-use Rattle.whole_move.specs.Piece.{LongAtLeast, LongAtMost}
 use Rattle.board.specs.Pairs.{point_of}
 use Rattle.board.specs.declared.Arc.{Arc}
 use Rattle.standing.specs.Form.{doubled}
-use Rattle.standing.specs.Window.{Off, turn_of, Steady}
+use Rattle.standing.specs.Window.{Off, Steady}
 
 square : of_nat 2147483648 ⊠ of_nat 2147483648 ≃ of_nat 4611686018427387904
 unfolding ◌⊠◌

@@ -1,5 +1,4 @@
 -- `apart::form_apart` meets its contract. Assumes nothing.
-use borrow.Author.Rules.{rules}
 use Rattle.piece_check.proofs.Forms.{form-law}
 use Rattle.piece_check.proofs.apart.form_apart.Goals as goal
 
