@@ -95,7 +95,7 @@ fn from_cache(cache: SimplexCache, na: usize, nb: usize) -> bool
     some & cache_is_valid(cache, na, nb)
 }
 
-// What the rounds start with: three slots, and how many of them count.
+// What the rounds start with: three slots, and how many of them count. The memory is fixed, so a simplex is an array of three with its count beside it.
 #[derive(Clone, Copy)]
 struct Slots {
     simplex: [SimplexVertex; 3],

@@ -6,6 +6,7 @@ ghost use Rattle.job_text.specs.Job as Job;
 
 use crate::block_line::{check_plain, put_line};
 use crate::build::build_block;
+use text::Draft;
 
 // Whether a block's line is this one.
 fn prints_as(block: &[u8], line: &[u8]) -> bool
@@ -13,7 +14,12 @@ fn prints_as(block: &[u8], line: &[u8]) -> bool
     ensures { result ≡ Job.same (job_line block.now) line.now }
 {
     let mut text = [0u8; 855];
-    let end = put_line(&mut text, 0, block);
+    let mut draft = Draft {
+        bytes: &mut text,
+        at: 0,
+    };
+    put_line(&mut draft, block);
+    let end = draft.at;
     check::same(&text[..end], line)
 }
 

@@ -30,6 +30,7 @@ pub fn across(m: Vector, n: Vector, d0: Vector, d1: Vector) -> Pair
     )
 }
 
+// One form. Its vectors come one by one, as `Bounds` and `FormApart` name them: each form has all eight anew.
 pub fn form_apart(
     m: Vector,
     n: Vector,
@@ -52,6 +53,7 @@ pub fn form_apart(
 }
 
 // every corner of b beyond every corner of a, at every moment of the piece
+#[inline(always)]
 pub fn four_apart(
     n0: Vector,
     n1: Vector,

@@ -7,12 +7,19 @@ use crate::pairs::inner;
 use board::{Outline, Outlines, Pair, Vector};
 
 // whether the lists hold corners at all
+#[inline(always)]
 pub fn are_corners(outline: Outline<'_>) -> bool
     ensures { result ≡ true → Corners outline.entry.xs.now outline.entry.ys.now }
 {
-    outline.xs.len() == outline.ys.len()
-        && outline.xs.iter().all(|x| *x <= 1073741824)
-        && outline.ys.iter().all(|y| *y <= 1073741824)
+    if outline.xs.len() != outline.ys.len() {
+        return false;
+    }
+    for (i, x) in outline.xs.iter().enumerate() {
+        if *x > 1073741824 || outline.ys[i] > 1073741824 {
+            return false;
+        }
+    }
+    true
 }
 
 pub fn along(w: Vector, x: u64, y: u64) -> u64

@@ -54,6 +54,7 @@ fn reach(big: u64, y: u64) -> u64
 }
 
 // how far a turn that is not 0 anywhere may carry corners astray
+#[inline(always)]
 fn turning(a: Arc, l0: u64, l1: u64, big: u64) -> Option<u64>
     requires { ArcSmall a × (l0 ≤ 4294967296) × (l1 ≤ 4294967296) × (big ≤ 805306368) }
     ensures { IfSome result (λ e. Turning a l0 l1 big e) }

@@ -22,6 +22,7 @@ fn gap(c: Pair, mid: u64) -> Option<u64>
 }
 
 // of a control vector with itself
+#[inline(always)]
 fn off_end(p: Vector) -> Option<u64>
     requires { Sized 1207959552 p }
     ensures { IfSome result (λ y. Off 1152921504606846976 1073741824 (dot (point_of p) (point_of p)) y) }
@@ -30,6 +31,7 @@ fn off_end(p: Vector) -> Option<u64>
     Some(gap(d, 1152921504606846976)? / 1073741824 + 1)
 }
 
+#[inline(always)]
 fn off_side(p: Vector, t: Vector) -> Option<u64>
     requires { Sized 1207959552 p × Sized 2415919104 t }
     ensures { IfSome result (λ y. Off 2305843009213693952 2147483648 (dot (point_of p) (point_of t)) y) }
@@ -47,6 +49,7 @@ fn off_middle(a: Arc) -> Option<u64>
     Some(gap(add(d, add(e, e)), 6917529027641081856)? / 6442450944 + 1)
 }
 
+#[inline(always)]
 pub fn turn_gap(a: Arc) -> Option<u64>
     requires { ArcSmall a }
     ensures { IfSome result (λ y. y < 1073741824 → Steady a y) }

@@ -1,6 +1,6 @@
 // The pool that rows refer to by bytes. Its words after a part's first four: where each of 128 outlines starts and how many numbers it has, poses of
 // four, caches of eight, radii of two, moves of ten, fractions, slops, and then the outlines' numbers.
-ghost use Rattle.std.specs.Prelude.{◌≤◌, ◌<◌};
+ghost use Rattle.std.specs.Prelude.{◌+◌, ◌≤◌, ◌<◌};
 
 use model::{Pose, Rotation, SimplexCache, Vector};
 
@@ -122,23 +122,23 @@ impl Pool {
         }
     }
 
-    // Fills a list with the numbers from a place on.
-    fn copy(&self, from: usize, list: &mut [f32])
-        requires { from ≤ 4096 }
+    // Puts n numbers into a list.
+    fn copy(&self, from: usize, n: usize, list: &mut [f32; 24], to: usize)
+        requires { (from < 65536) × (to + n ≤ 24) }
     {
-        for (x, number) in list.iter_mut().zip(&self.numbers[from..]) {
-            *x = *number;
+        for i in 0..n {
+            list[to + i] = self.number(from + i);
         }
     }
 
     // The 24 numbers that ask for the sweep of a row, whose bytes 2 to 6 are move A, move B, radii, max fraction and slop.
     pub fn request(&self, row: &[u8]) -> [f32; 24] {
         let mut list = [0.0f32; 24];
-        self.copy(RADII + 2 * index(row, 4), &mut list[0..2]);
-        self.copy(FRACTIONS + index(row, 5), &mut list[2..3]);
-        self.copy(SLOPS + index(row, 6), &mut list[3..4]);
-        self.copy(MOVES + 10 * index(row, 2), &mut list[4..14]);
-        self.copy(MOVES + 10 * index(row, 3), &mut list[14..24]);
+        self.copy(RADII + 2 * index(row, 4), 2, &mut list, 0);
+        self.copy(FRACTIONS + index(row, 5), 1, &mut list, 2);
+        self.copy(SLOPS + index(row, 6), 1, &mut list, 3);
+        self.copy(MOVES + 10 * index(row, 2), 10, &mut list, 4);
+        self.copy(MOVES + 10 * index(row, 3), 10, &mut list, 14);
         list
     }
 }

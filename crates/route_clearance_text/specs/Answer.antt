@@ -1,6 +1,6 @@
 -- What is told of a text: a line of its route looked at as a whole, or 14 and the number of the first line that is none of a route. Cut into a route as
 -- `route` cuts it. Which of several answers comes is the search's, so what is said here is said of every line that may be written.
-use Rattle.std.specs.Prelude.{◌≡◌, ℕ, ◌≤◌, ◌<◌, Bool, true, false, List, [], ◌∷◌, ◌++◌, length, take, Float}
+use Rattle.std.specs.Prelude.{◌≡◌, ℕ, ◌≤◌, ◌<◌, true, false, List, [], ◌∷◌, ◌++◌, length, take, Float}
 use Rattle.model.specs.Support.{point}
 use Rattle.model.specs.Text.{decimal, hex_by, line}
 use Rattle.text.specs.Put.{Put, hex}

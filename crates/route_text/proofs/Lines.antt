@@ -26,7 +26,7 @@ use Rattle.route_read.specs.declared.Reader.{Reader}
 use Rattle.route_text.specs.declared.Cuts.{Cuts}
 use Rattle.route_line.specs.Line.{is_route}
 use Rattle.route_read.specs.Read.{next_line}
-use Rattle.route_text.specs.Answer.{cut, whole_end, cuts_of, route_of, two, clear_line, ended_line, refused_line, wrong_line, no_route_line, answer_line}
+use Rattle.route_text.specs.Answer.{cut, cuts_of, route_of, two, clear_line, ended_line, refused_line, wrong_line, no_route_line, answer_line}
 use Rattle.route_text.specs.Answer.{longest_line, text_for}
 
 pub two_is : (a b end : ℕ) → two a b end ≡ number a 32 ++ number b end

@@ -8,7 +8,7 @@ use borrow.Author.Tests.{le-ltb}
 use lib.Dec.{ltb}
 use lib.ListN.{length, length-append}
 use Rattle.text.specs.declared.draft.Draft.{Draft}
-use Rattle.text.specs.Put.{pasted, Put, where_room}
+use Rattle.text.specs.Put.{Put, where_room}
 use Rattle.text.specs.Written.{written, Room, Wrote}
 use Rattle.text.proofs.Pasted.{pasted-twice, put-nothing}
 

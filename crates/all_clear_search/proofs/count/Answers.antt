@@ -1,8 +1,7 @@
 -- `all_clear_search::count` meets its contract, by whether bytes are left over. Assumes nothing.
-use mathlib.Core.Path.{sym, ◌∙◌}
+use mathlib.Core.Path.{sym}
 use native.Mathlib.Omega.{arith}
 use Rattle.model.proofs.Blocks.{whole-counted, rest-counted}
-use borrow.Author.Rules.{rules}
 use Rattle.all_clear_search.proofs.count.Goals as goal
 
 pub returns-then-part-eq0 : goal.returns-then-part-eq0

@@ -1,5 +1,5 @@
 -- `all_clear_search::search_blocks` meets its contract: what is found among the blocks left is found among all. Assumes nothing.
-use Rattle.std.proofs.Common.{◌≡◌, sym, ◌∙◌, ◌+◌, ◌*◌, ◌/◌, ◌≤◌, ◌<◌, [], ◌∷◌, length, arith, rules}
+use Rattle.std.proofs.Common.{sym, ◌∙◌, ◌/◌, ◌<◌, [], ◌∷◌, length, arith, rules}
 use Rattle.std.proofs.Math.ListN.{length-append}
 use Rattle.runs.proofs.Walked.{walk_begins, block_here, block_inside, walk-on, all_walked}
 use Rattle.all_clear_search.proofs.First.{from_start, none_left, stopped, passed}

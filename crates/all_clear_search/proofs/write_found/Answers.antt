@@ -1,6 +1,5 @@
 -- `all_clear_search::write_found` meets its contract: nothing where there is no room, else the number, nothing or `none`. Assumes nothing.
 use Prim.Native.Nat.{◌≤◌}
-use borrow.Author.Rules.{rules}
 use borrow.Author.Tests.{lt-ltb, le-ltb, eq-eqb, ne_eqb}
 use native.Mathlib.Omega.{arith}
 use lib.ListN.{length}

@@ -1,7 +1,4 @@
 -- `route_clearance_text::route_of` meets its contract: its lists are cut in their order. Assumes nothing.
-use Rattle.std.proofs.Common.{sym, length, rules}
-use Rattle.std.proofs.Math.Seq.{length-take-le}
-use Rattle.route_text.proofs.Lines.{in-order}
 use Rattle.route_clearance_text.proofs.Lines.{route-kept}
 use Rattle.route_clearance_text.proofs.route_of.Goals as goal
 

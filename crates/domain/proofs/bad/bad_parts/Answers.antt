@@ -5,11 +5,8 @@ use mathlib.Core.Path.{sym, ap, ◌∙◌}
 use lib.Ieee.{nan, binary32}
 use lib.ListN.{get_or, drop}
 use Rattle.model.specs.Domain.{bad_part, bad_parts}
-use Rattle.domain.proofs.Laws.{parts-step, parts-stop, either_way, nothing_yet}
+use Rattle.domain.proofs.Laws.{parts-step, parts-stop, either_way}
 use Rattle.domain.proofs.bad.bad_parts.Goals as goal
-
-pub loop-x-init : goal.loop-x-init
-loop-x-init c = nothing_yet _
 
 pub loop-x-preserved : goal.loop-x-preserved
 loop-x-preserved c = let l = c.loop-x in

@@ -1,5 +1,4 @@
 -- `text::draft::Draft::put` meets its contract, which is that of `put_text` over the draft's bytes and place. Assumes nothing.
-use native.Mathlib.Omega.{arith}
 use native.Mathlib.Nat.{le_refl}
 use Rattle.text.specs.Written.{written}
 use Rattle.text.proofs.Written.{wrote, length-room}

@@ -1,5 +1,4 @@
 -- `text::draft::Draft::put_number` meets its contract, which is that of `put_number` over the draft's bytes and place. Assumes nothing.
-use native.Mathlib.Omega.{arith}
 use Rattle.text.proofs.Lengths.{length-number}
 use Rattle.text.specs.Written.{written}
 use Rattle.text.proofs.Written.{wrote, length-room}
