@@ -4,15 +4,15 @@
 ghost use Rattle.std.specs.Prelude.{◌≡◌, ◌≤◌, length, IsSome};
 ghost use Rattle.std.specs.Float.{binary32};
 ghost use Rattle.model.specs.Domain as Domain;
-ghost use Rattle.model.specs.Work as Work;
 ghost use Rattle.clearance_job.specs.Promise.{Given};
 ghost use Rattle.clearance_call.specs.Call.{from_refusal, refusal_by, refusal_of, cleared_by, Told};
 
 use clearance_job::settle_lists;
 use clearance_verdict::Answer;
 use domain::{check_fraction, check_pair, check_slop, check_sweeps, refusal};
-use model::{BAD_FRACTION, Refusal, Rotation, Sweep, Vector};
+use model::{BAD_FRACTION, Refusal, Sweep, Vector};
 use outline::point;
+use sweep_numbers::move_at;
 
 // Places are in 2^24-ths of the way. The three answers of a verdict stand beside the refusal, and not within one case, so that a caller takes all four apart
 // in one `match`.
@@ -41,31 +41,6 @@ fn check_from(from: f32, end: f32) -> Result<(), Refusal>
         Ok(())
     } else {
         Err(BAD_FRACTION)
-    }
-}
-
-fn turn(v: Vector) -> Rotation
-    ensures { result ≡ Work.turn v }
-{
-    Rotation { c: v.x, s: v.y }
-}
-
-// The move of the five pairs from pair i on.
-fn move_at(numbers: &[f32], i: u32) -> Sweep
-    requires { i ≤ 7 }
-    ensures { result ≡ Work.move_at numbers.now i }
-{
-    let local_center = point(numbers, i);
-    let c1 = point(numbers, i + 1);
-    let c2 = point(numbers, i + 2);
-    let q1 = turn(point(numbers, i + 3));
-    let q2 = turn(point(numbers, i + 4));
-    Sweep {
-        local_center,
-        c1,
-        c2,
-        q1,
-        q2,
     }
 }
 

@@ -719,6 +719,13 @@ module _ {M : Type 1} {𝓤 : Ura M} (𝓛 : Logic 𝓤) (mem : Memory → SProp
   }
 
   -- ---- sweep_numbers
+  pub sweep-numbers-move-at : OneResult 𝓛 sweep_numbers.move_at.ended (sweep_numbers.move_at.spec 𝓛 mem run)
+  sweep-numbers-move-at = record {
+    clauses = sweep_numbers.move_at.clauses 𝓛 mem run;
+    of-contract = refl;
+    once = λ κs a g r r' v v'. told 𝓤 (λ p q. (search same-value, refl));
+  }
+
   pub sweep-numbers-move-of : OneResult 𝓛 sweep_numbers.move_of.ended (sweep_numbers.move_of.spec 𝓛 mem run)
   sweep-numbers-move-of = record {
     clauses = sweep_numbers.move_of.clauses 𝓛 mem run;
@@ -1599,6 +1606,13 @@ module _ {M : Type 1} {𝓤 : Ura M} (𝓛 : Logic 𝓤) (mem : Memory → SProp
   }
 
   -- ---- sweep_numbers64
+  pub sweep-numbers64-move-at : OneResult 𝓛 sweep_numbers64.move_at.ended (sweep_numbers64.move_at.spec 𝓛 mem run)
+  sweep-numbers64-move-at = record {
+    clauses = sweep_numbers64.move_at.clauses 𝓛 mem run;
+    of-contract = refl;
+    once = λ κs a g r r' v v'. told 𝓤 (λ p q. (search same-value, refl));
+  }
+
   pub sweep-numbers64-move-of : OneResult 𝓛 sweep_numbers64.move_of.ended (sweep_numbers64.move_of.spec 𝓛 mem run)
   sweep-numbers64-move-of = record {
     clauses = sweep_numbers64.move_of.clauses 𝓛 mem run;

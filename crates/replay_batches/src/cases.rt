@@ -13,7 +13,7 @@ pub struct Case<'a> {
 }
 
 // The case of a row; none where the row is too short.
-pub fn case<'a>(row: &'a [u8]) -> Option<Case<'a>> {
+pub fn split<'a>(row: &'a [u8]) -> Option<Case<'a>> {
     let size = wire::word(row, 4) as usize;
     let (input, rest) = row.get(INPUT..)?.split_at_checked(size)?;
     Some(Case { input, rest })

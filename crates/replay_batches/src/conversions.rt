@@ -3,7 +3,7 @@ use crate::cases;
 use replay_rows::Words;
 
 pub fn answer(row: &[u8], words: &mut Words) {
-    if let Some(case) = cases::case(row) {
+    if let Some(case) = cases::split(row) {
         let mut file = io::large_buffer();
         let mut text = io::buffer();
         let converted = convert_forms::convert_part(case.input, 0, &mut file, &mut text);

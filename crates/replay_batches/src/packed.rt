@@ -41,7 +41,7 @@ fn pack_input(input: &[u8], out: &mut [u8], err: &mut [u8]) -> Texts {
 }
 
 pub fn answer(row: &[u8], words: &mut Words) {
-    if let Some(case) = cases::case(row) {
+    if let Some(case) = cases::split(row) {
         let mut out = io::large_buffer();
         let mut err = io::large_buffer();
         let texts = pack_input(case.input, &mut out, &mut err);

@@ -12,7 +12,7 @@ fn write_batches(batches: &[u8], sizes: &[u32], out: &mut [u8]) -> usize {
 }
 
 pub fn answer(row: &[u8], words: &mut Words) {
-    if let Some(case) = cases::case(row) {
+    if let Some(case) = cases::split(row) {
         let count = wire::word(case.input, 0) as usize;
         let mut sizes = [0u32; MOST];
         if count > MOST {

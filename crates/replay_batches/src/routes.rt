@@ -13,7 +13,7 @@ fn read_input(input: &[u8], floats: &mut [f32], lengths: &mut [u32]) -> Reader {
 }
 
 pub fn answer(row: &[u8], words: &mut Words) {
-    if let Some(case) = cases::case(row) {
+    if let Some(case) = cases::split(row) {
         let mut floats = [0.0f32; 4390];
         let mut lengths = [0u32; 33];
         let reader = read_input(case.input, &mut floats, &mut lengths);

@@ -65,7 +65,7 @@ fn tell_end(texts: Texts, out: &mut [u8]) -> usize {
 }
 
 pub fn answer(row: &[u8], words: &mut Words) {
-    if let Some(case) = cases::case(row) {
+    if let Some(case) = cases::split(row) {
         let mut out = io::large_buffer();
         let mut file = io::large_buffer();
         let texts = salvage_input(case.input, &mut out, &mut file);

@@ -3,7 +3,7 @@ use crate::cases;
 use replay_rows::Words;
 
 pub fn answer(row: &[u8], words: &mut Words) {
-    if let Some(case) = cases::case(row) {
+    if let Some(case) = cases::split(row) {
         let mut out = io::large_buffer();
         let mut err = io::large_buffer();
         let unpacked = unpack_blocks::unpack_part(case.input, 0, &mut out, &mut err);

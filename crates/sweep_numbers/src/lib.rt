@@ -1,7 +1,7 @@
 // A sweep by numbers: the moves and the sweep that they ask for, and what its answer comes to. For blocks, routes and lists from C alike.
 #![tactic(auto)]
 
-ghost use Rattle.std.specs.Prelude.{◌≡◌, ◌+◌, ◌≤◌, Ok};
+ghost use Rattle.std.specs.Prelude.{◌≡◌, Ok};
 ghost use Rattle.std.specs.Float.{binary32};
 ghost use Rattle.model.specs.Work as Work;
 
@@ -18,15 +18,15 @@ pub fn turn(v: Vector) -> Rotation
 }
 
 // The move of the five pairs from pair i on.
-fn move_at(numbers: &[f32], i: u32) -> Sweep
-    requires { i ≤ 7 }
+pub fn move_at(numbers: &[f32], i: u8) -> Sweep
     ensures { result ≡ Work.move_at numbers.now i }
 {
-    let local_center = point(numbers, i);
-    let c1 = point(numbers, i + 1);
-    let c2 = point(numbers, i + 2);
-    let q1 = turn(point(numbers, i + 3));
-    let q2 = turn(point(numbers, i + 4));
+    let first = i as u32;
+    let local_center = point(numbers, first);
+    let c1 = point(numbers, first + 1);
+    let c2 = point(numbers, first + 2);
+    let q1 = turn(point(numbers, first + 3));
+    let q2 = turn(point(numbers, first + 4));
     Sweep {
         local_center,
         c1,
