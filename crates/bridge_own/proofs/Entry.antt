@@ -6,7 +6,6 @@ use mathlib.Core.List.{List}
 use mathlib.Core.Path.{◌≡◌, refl, sym, ◌∙◌}
 use lib.Dec.{ltb}
 use lib.Ieee.{Float, Format}
-use Rattle.std.proofs.Common.{Result, Ok, Err}
 use Rattle.model.specs.declared.Contact.{Contact}
 use Rattle.model.specs.declared.SimplexCache.{SimplexCache}
 use Rattle.model.specs.declared.Distance.{Distance}

@@ -16,7 +16,6 @@ use Rattle.model.specs.declared.SimplexCache.{SimplexCache}
 use Rattle.model.specs.declared.Ending.{Ending}
 use Rattle.model.specs.declared.Ending.TheVariants.{Touching, Settled, RoundLimit}
 use Rattle.model.specs.declared.Distance.{Distance}
-use Rattle.model.specs.declared.Refusal.{Refusal}
 use Rattle.model.specs.declared.ProxyDistanceOutput.{ProxyDistanceOutput}
 use Rattle.model.proofs.DistanceCall.{both, rounds-at-most-20}
 use Rattle.list_calls.specs.Entry.{sweep_call, sweep_number, contact_after, counts_after, sweep_fits, SweepTold, ending_number, rounds_of, cache_of}
