@@ -11,7 +11,7 @@ ghost use Rattle.convert_forms.specs.Convert as Convert;
 
 use model::{COUNT_LIMIT, PART_SIZE};
 
-// How many bytes go to the file, how many are told; how many blocks came up to the part's end; whether the part was the last.
+// How many bytes go to the file, how many are told; how many blocks came up to the part's end; whether the part was the last. All of them hold either way.
 #[derive(Clone, Copy)]
 pub struct Converted {
     pub file: usize,

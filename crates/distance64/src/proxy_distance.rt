@@ -269,7 +269,7 @@ fn apart(
 }
 
 // The distance of any two lists at any pose, with nothing checked, and the cache as the call leaves it: Touching does not write it, and what is
-// written carries the pair's number.
+// written carries the pair's number. The parameters are the published call's own, in its order.
 pub fn measure(
     pos12: Pose,
     points_a: &[f64],

@@ -30,7 +30,7 @@ pub struct Tally {
     pub refused: u64,
 }
 
-// The place after what was written, the tally after it, and whether the part was the last.
+// The place after what was written, the tally after it, and whether the part was the last. Both hold either way, so it is no Option.
 #[derive(Clone, Copy)]
 pub struct Printed {
     pub at: usize,

@@ -114,6 +114,7 @@ fn put_cache(words: &mut [u32], cache: SimplexCache)
 {
     let index_a = cache.index_a;
     let index_b = cache.index_b;
+    // C's words, one by one in the header's order
     words[0] = cache.pair;
     words[1] = cache.count as u32;
     words[2] = index_a[0];

@@ -157,7 +157,7 @@ pub struct Contact {
     pub normal: Vector,
 }
 
-// How a sweep ends.
+// How a sweep ends. No Result: a sweep has four endings, each with its own floats, beside the number of a refusal.
 #[derive(Clone, Copy)]
 pub enum SweepAnswer {
     Overlapped(Counts),

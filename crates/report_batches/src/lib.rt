@@ -11,7 +11,7 @@ ghost use Rattle.report_batches.specs.Batches.{added, batches_in};
 use model::{BlockRefusal, PART_SIZE};
 use report_counts::Report;
 
-// A batch's report so far, and whether the part was its last.
+// A batch's report so far, and whether the part was its last: it holds either way.
 #[derive(Clone, Copy)]
 pub struct Added {
     pub report: Report,

@@ -24,7 +24,7 @@ pub struct Tally {
     pub refused: u64,
 }
 
-// The place after what was written, the totals after it, and whether the part was the last.
+// The place after what was written, the totals after it, and whether the part was the last. Both hold either way, so it is no Option.
 #[derive(Clone, Copy)]
 pub struct Written {
     pub at: usize,

@@ -29,6 +29,7 @@ pub struct End {
 }
 
 // Clear, with all pieces; ended by a pair that touches, that is not settled or that is refused; or no pair was looked at. Places are in 2^24-ths of the leg.
+// No Result, as the answer of a route by sweeps.
 #[derive(Clone, Copy)]
 pub enum RouteCleared {
     Clear {

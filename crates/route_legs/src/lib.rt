@@ -32,6 +32,7 @@ pub struct Stop {
 }
 
 // Clear, with all distance calls; ended by a sweep that is not separated, or by one that is refused; or no sweep was run.
+// No Result: that a route ended and that it could not be looked at are told apart in one `match`, and each has its own place or number.
 #[derive(Clone, Copy)]
 pub enum RouteAnswer {
     Clear(u32),

@@ -21,7 +21,8 @@ pub struct Walk {
     pub run: u64,
 }
 
-// How many bytes go to the file, how many are told, how many are handed on at the start of the buffer; the walk so far; whether there was room.
+// How many bytes go to the file, how many are told, how many are handed on at the start of the buffer; the walk so far; whether there was room. All
+// of them hold either way.
 #[derive(Clone, Copy)]
 pub struct Salvaged {
     pub file: usize,

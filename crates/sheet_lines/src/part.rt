@@ -18,7 +18,7 @@ use text::Draft;
 // No line is longer.
 const LONGEST_LINE: usize = 240;
 
-// The place after what was written, the totals after it, and whether the part was the last.
+// The place after what was written, the totals after it, and whether the part was the last. Both hold either way, so it is no Option.
 #[derive(Clone, Copy)]
 pub struct Written {
     pub at: usize,

@@ -29,6 +29,7 @@ pub fn fill<R: Read>(reader: &mut R, buf: &mut [u8]) -> Filled
     ensures end { IsNone result.failed → result.count < length buf.new → IsAtEnd (R.remaining reader.new) }
 {
     let mut count: usize = 0;
+    // a read says itself how far it came: nothing to iterate over
     while count < buf.len() {
         match reader.read(&mut buf[count..]) {
             Ok(0) => {

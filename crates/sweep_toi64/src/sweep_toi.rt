@@ -178,6 +178,7 @@ pub fn advance(task: SweepTask, points_a: &[f64], points_b: &[f64]) -> Swept
         },
         corners: no_search(),
     };
+    // the product's form of these loops: left by label, and the root search breaks with its value
     'advance: loop {
         let m1 = reached.m1;
         let closest = closest_at(task, points_a, points_b, m1, reached.cache);
@@ -317,7 +318,7 @@ fn sweep_task(
 }
 
 // When the outlines, each within its radius and on its way, come within the target distance, with the corners of the last search; or the number of
-// the first refusal.
+// the first refusal. The parameters are the published call's own, in its order.
 pub fn sweep_time_of_impact(
     points_a: &[f64],
     radius_a: f64,

@@ -9,7 +9,8 @@ use domain64::bad_vector;
 use model::{BAD_OUTLINE_A, BAD_PART, Refusal, SupportPair};
 use model64::Vector;
 
-// What is known of the points so far: the first one's parts, whether any has a bad part, and the best with its value, the first and the second.
+// What is known of the points so far: the first one's parts, whether any has a bad part, and the best with its value, the first and the second. The walk goes on
+// behind a bad part, so that several points are looked at as one: no Result.
 #[derive(Clone, Copy)]
 struct Farthest {
     x: f64,
