@@ -98,7 +98,11 @@ fn ended(line: Line) -> Kind
 fn cart_end(kind: Kind, used: usize, end: usize) -> usize
     ensures { result ≡ Read.cart_end kind used end }
 {
-    if matches!(kind, Kind::Cart) { used } else { end }
+    if matches!(kind, Kind::Cart) {
+        used
+    } else {
+        end
+    }
 }
 
 // The waypoints end with the last of their lines, and where there is none with the cart.
