@@ -39,7 +39,7 @@ fn answer(table: u32, row: &[u8], pool: &Pool, words: &mut Words) {
 // All whole rows of a part.
 pub fn replay(part: &[u8], pool: &Pool, counts: &mut Counts) {
     let table = wire::word(part, 0);
-    replay_rows::each_row(part, shape_of(table), counts, |_, row, words| {
+    replay_rows::each_row(part, table, shape_of(table), counts, |_, row, words| {
         answer(table, row, pool, words);
     });
 }

@@ -44,7 +44,7 @@ fn answer(table: u32, row: &[u8], n: u64, words: &mut Words) {
 // All whole rows of a part.
 pub fn replay(part: &[u8], counts: &mut Counts) {
     let table = wire::word(part, 0);
-    replay_rows::each_row(part, shape_of(table), counts, |before, row, words| {
+    replay_rows::each_row(part, table, shape_of(table), counts, |before, row, words| {
         answer(table, row, before.wrapping_add(1), words);
     });
 }

@@ -8,6 +8,9 @@ use replay_rows::{Counts, RowShape, Width, Words, put, put_text};
 use std::io::{Read, Result};
 use std::ops::ControlFlow;
 
+// The number of the table.
+const TABLE: u32 = 13;
+
 // What was counted before block n of a file, were all before it refused.
 fn before(n: u64) -> Totals {
     Totals {
@@ -38,7 +41,13 @@ fn replay(part: &[u8], counts: &mut Counts) {
         words: 40,
         width: Width::Word,
     };
-    replay_rows::each_row(part, shape, counts, |n, row, words| answer(row, n, words));
+    replay_rows::each_row(
+        part,
+        TABLE,
+        shape,
+        counts,
+        |n, row, words| answer(row, n, words),
+    );
 }
 
 fn run<R: Read>(input: &mut R) -> Result<Counts> {

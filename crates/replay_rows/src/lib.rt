@@ -14,19 +14,19 @@ fn compare(table: u32, shape: RowShape, kind: u32, row: &[u8], words: &Words, co
     tally::count(counts, table, kind, differs, noticed);
 }
 
-// Replays the whole rows of a part. It starts with four words: the number of the table, how many of its rows came before, and two of 0. A closure puts down
-// the answer's words to each row, with so many rows before it; one of kind 0 is padding, and has none.
+// Replays the whole rows of a part of that table. A part starts with four words: the number of the table, how many of its rows came before, and two of 0. A
+// closure puts down the answer's words to each row, with so many rows before it; one of kind 0 is padding, and has none.
 pub fn each_row<F: FnMut(u64, &[u8], &mut Words) + Drop>(
     part: &[u8],
+    table: u32,
     shape: RowShape,
     counts: &mut Counts,
     mut answer: F,
 )
     requires { F.IsAlwaysCallable answer }
 {
-    let table = wire::word(part, 0);
-    let mut before = wire::word(part, 4) as u64;
     let start = 4 * words::bytes(shape.width);
+    let mut before = wire::word(part, words::bytes(shape.width)) as u64;
     if part.len() < start {
         return;
     }
