@@ -12,7 +12,7 @@
 
 The commands of the pages are run by tests/programs/commands.py.
 
-docs/LANDINGS.md tells what was: of it only the links are looked at.
+docs/LANDINGS.md and docs/DESIGN-PASS.md tell what was: of them only the links are looked at.
 """
 import fnmatch
 import pathlib
@@ -23,7 +23,7 @@ import sys
 
 ROOT = pathlib.Path(__file__).resolve().parents[2]
 OWN = str(pathlib.Path(__file__).resolve().relative_to(ROOT))
-HISTORY = "docs/LANDINGS.md"
+HISTORY = ("docs/LANDINGS.md", "docs/DESIGN-PASS.md")
 FRONT = "README.md"
 FRONT_LINES = 130
 PROMISES = "docs/PROMISES.md"
@@ -268,7 +268,7 @@ def main():
         for m in re.finditer(r"\]\(([^)\s]+)\)", re.sub(r"`[^`]*`", lambda m: re.sub(r"[^\n]", " ", m.group(0)), text)):
             links += 1
             faults.append((page, text.count("\n", 0, m.start()) + 1, m.group(1), link_fault(page, m.group(1))))
-        if page == HISTORY:
+        if page in HISTORY:
             continue
         for line, span in spans(text):
             for word in (w.strip(",;:") for w in span.split()):

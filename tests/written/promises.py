@@ -90,6 +90,15 @@ def headers(text):
     return found
 
 
+def methods(text):
+    """Each `pub fn` of the structs' own `impl` blocks at a file's outer level: the way to it, with its text up to the body."""
+    found = {}
+    for block in re.finditer(r"^impl(?:<[^>]*>)? (\w+)(?:<[^>]*>)? \{\n(.*?)^\}", text, re.M | re.S):
+        for name, header in headers(re.sub(r"^ {4}", "", block.group(2), flags=re.M)).items():
+            found[(block.group(1), name)] = header
+    return found
+
+
 def ways(used):
     """The way to each name that a `pub use` brings."""
     stem, _, group = "".join(used.split()).partition("{")
@@ -97,11 +106,11 @@ def ways(used):
 
 
 def public(path):
-    """What the module in the file `path` lets others call: (the way to it, its header)."""
+    """What the module in the file `path` lets others call, functions and methods: (the way to it, its header)."""
     text = path.read_text()
-    if re.search(r"^[ \t]+pub (?:extern \"C\" )?fn ", text, re.M):
-        sys.exit(f"{path.relative_to(ROOT)}: a public function below the file's outer level is not handled")
-    found = [((name,), header) for name, header in headers(text).items()]
+    found = [((name,), header) for name, header in headers(text).items()] + list(methods(text).items())
+    if len(re.findall(r"^[ \t]*pub (?:extern \"C\" )?fn ", text, re.M)) != len(found):
+        sys.exit(f"{path.relative_to(ROOT)}: a public function below the file's outer level, and no method, is not handled")
     modules = {name: kind for kind, name in re.findall(r"^(pub )?mod (\w+);", text, re.M)}
     for name, kind in modules.items():
         if kind:
@@ -113,8 +122,7 @@ def public(path):
             sys.exit(f"{path.relative_to(ROOT)}: `pub use {used}` is not handled: write each name, as it is called there, in one group at most")
         for way in ways(used):
             inner = dict(public(module_file(path, way[0])))
-            if way[1:] in inner:
-                found.append(((way[-1],), inner[way[1:]]))
+            found += [(way[-1:] + deep[len(way) - 1 :], header) for deep, header in inner.items() if deep[: len(way) - 1] == way[1:]]
     return found
 
 

@@ -39,17 +39,15 @@ PATCHES = [
     ('sheet64/src/main.rt', 'b"sheet"', 'b"sheet64"'),
     ('sheet64/src/main.rt', 'Prints the sheet of the batch on standard input,', 'Prints the sheet, worked in f64, of the batch on standard input,'),
     # a block's numbers are taken over from f32
-    ('work64/src/lib.rt', 'floats[i] = ground64::from_bits(wire::word(bytes, from + 4 * i));',
-     'floats[i] = taken_over(wire::word(bytes, from + 4 * i));'),
+    ('work64/src/lib.rt', '*x = ground64::from_bits(wire::word(bytes, from + 4 * i));',
+     '*x = taken_over(wire::word(bytes, from + 4 * i));'),
     ('work64/src/lib.rt', 'ghost use Rattle.std.specs.Prelude', 'mod taken;\n\nghost use Rattle.std.specs.Prelude'),
-    ('work64/src/lib.rt', 'use model::{Block, CheckedBlock};', 'use model::{Block, CheckedBlock};\nuse taken::taken_over;'),
+    ('work64/src/lib.rt', 'use model::{Block, BlockRefusal, Refusal};', 'use model::{Block, BlockRefusal, Refusal};\nuse taken::taken_over;'),
     # stored words have eight bytes
     ('replay64/src/floats.rt', ' as u64', ''),
-    ('replay64/src/pool.rt', 'wire::word(pool, 16 + 4 * i)', 'wire::word(pool, 32 + 8 * i)'),
-    ('replay64/src/pool.rt', 'ground64::from_bits(word(pool, i))', 'ground64::from_bits(replay_rows::long(pool, 32 + 8 * i))'),
-    ('replay64/src/pool.rt', '[f64; 16380]', '[f64; 8188]'),
-    ('replay64/src/pool.rt', '[0.0f64; 16380]', '[0.0f64; 8188]'),
-    ('replay64/src/pool.rt', '0usize..16380usize', '0usize..8188usize'),
+    ('replay64/src/pool.rt', 'wire::word(&self.bytes, 16 + 4 * i)', 'wire::word(&self.bytes, 32 + 8 * i)'),
+    ('replay64/src/pool.rt', 'ground64::from_bits(self.word(i))', 'ground64::from_bits(replay_rows::long(&self.bytes, 32 + 8 * i))'),
+    ('replay64/src/pool.rt', 'NUMBERS: usize = 16380', 'NUMBERS: usize = 8188'),
     ('replay64/src/operations.rt', 'wire::word(row, 4 + 4 * i)', 'replay_rows::long(row, 8 + 8 * i)'),
     ('replay64/src/distances.rt', 'wire::word(row, 8)', 'wire::word(row, 16)'),
     ('replay64/src/distances.rt', 'index(row, 4)', 'index(row, 8)'),
@@ -63,8 +61,8 @@ PATCHES = [
     # the text and the totals of a part are model's
     ('sheet_lines64/proofs/Parts.antt', 'use Rattle.model64.proofs.DistanceCall.{both}',
      'use Rattle.model.specs.Sheet as Sheet\nuse Rattle.bridge.proofs.Sheet.{lines_same, totals-same}\nuse Rattle.model64.proofs.DistanceCall.{both}'),
-    ('sheet_lines64/proofs/Parts.antt', "→ Put d₀ 0 (lines_from binary64 t₀.blocks (answers binary64 b)) d' at'",
-     "→ Put d₀ 0 (Sheet.lines_from binary64 t₀.blocks (Sheet.answers binary64 b)) d' at'"),
+    ('sheet_lines64/proofs/Parts.antt', "→ Wrote (k + m) p₀ (lines_from binary64 t₀.blocks (answers binary64 b)) p'",
+     "→ Wrote (k + m) p₀ (Sheet.lines_from binary64 t₀.blocks (Sheet.answers binary64 b)) p'"),
     ('sheet_lines64/proofs/Parts.antt', '      rw (answers-cut binary64 b, lines-append',
      '      rw (← lines_same binary64 t₀.blocks b, answers-cut binary64 b, lines-append'),
     ('sheet_lines64/proofs/Parts.antt', "→ t' ≡ totals_from t₀ (answers binary64 b)", "→ t' ≡ Sheet.totals_from t₀ (Sheet.answers binary64 b)"),
@@ -88,9 +86,9 @@ WORD = r'[\w«»]+'
 
 
 def items(text):
-    """The structs and enums of a .rt file: name -> (whole text, its words)."""
+    """The structs, enums and aliases of a .rt file: name -> (whole text, its words)."""
     found = {}
-    for m in re.finditer(r'((?:(?://|#\[)[^\n]*\n)*)pub (?:struct|enum) (\w+) \{.*?\n\}\n', text, re.S):
+    for m in re.finditer(r'((?:(?://|#\[)[^\n]*\n)*)pub (?:struct|enum|type) (\w+) (?:\{.*?\n\}|= [^\n]*;)\n', text, re.S):
         found[m.group(2)] = (m.group(0), set(re.findall(r'\w+', re.sub(r'//[^\n]*|#\[[^\n]*', '', m.group(0)))))
     return found
 
@@ -234,7 +232,7 @@ class Gen:
 
     # ---- files
     def model(self):
-        src = ['// The records of model that hold floats, in f64. The others are model\'s.']
+        src = ['// The records of model that hold floats, in f64. The others are model\'s.', '#![tactic(auto)]', '']
         used = set()
         body = []
         for n, (text, ws) in self.decls.items():

@@ -2,88 +2,55 @@
 // none behind the one that decides. A read that fails is told on standard error, and then neither is printed; so is that no block came.
 #![tactic(auto)]
 
+use all_clear_search::Searched;
 use std::io::{Read, Write};
+use std::ops::ControlFlow;
 use std::process::ExitCode;
 use streams::Stopped;
-
-// Whether the search goes on, and how many blocks it has passed.
-#[derive(Clone, Copy)]
-struct Step {
-    more: bool,
-    blocks: u64,
-}
-
-fn tell<W: Write, E: Write>(
-    out: &mut W,
-    err: &mut E,
-    found: u64,
-    blocks: u64,
-) -> Result<(), Stopped> {
-    let mut text = [0u8; 21];
-    let n = all_clear_search::write_found(found, blocks, &mut text);
-    streams::write_to_output(out, err, &text, n)
-}
 
 // Tells the answer; where no block came there is none, and that is told instead.
 fn tell_answer<W: Write, E: Write>(
     out: &mut W,
     err: &mut E,
-    found: u64,
-    blocks: u64,
+    searched: Searched,
 ) -> Result<(), Stopped> {
-    tell(out, err, found, blocks)?;
-    if blocks == 0 {
-        streams::write_to_error(err, b"standard input: no block came\n", 30)?;
+    let mut text = [0u8; 21];
+    let n = all_clear_search::write_found(searched.found, searched.blocks, &mut text);
+    streams::write_to_output(out, err, &text[..n])?;
+    if searched.blocks == 0 {
+        streams::write_to_error(err, b"standard input: no block came\n")?;
     }
     Ok(())
 }
 
 // Searches what was read, and tells the answer once it is known.
+// The same as in `any_contact`, of another search: what both would share beyond `each_part` is shorter than a crate for it.
 fn search_part<W: Write, E: Write>(
     out: &mut W,
     err: &mut E,
     part: &[u8],
-    before: u64,
-) -> Result<Step, Stopped> {
-    let searched = all_clear_search::search_part(part, before);
-    if searched.over {
-        tell_answer(out, err, searched.found, searched.blocks)?;
+    blocks: &mut u64,
+) -> Result<ControlFlow<()>, Stopped> {
+    let searched = all_clear_search::search_part(part, *blocks);
+    *blocks = searched.blocks;
+    if !searched.over {
+        return Ok(ControlFlow::Continue(()));
     }
-    Ok(Step {
-        more: !searched.over,
-        blocks: searched.blocks,
-    })
+    tell_answer(out, err, searched)?;
+    Ok(ControlFlow::Break(()))
 }
 
-fn next_part<R: Read, W: Write, E: Write>(
-    input: &mut R,
-    out: &mut W,
-    err: &mut E,
-    before: u64,
-) -> Result<Step, Stopped> {
-    let mut buffer = io::large_buffer();
-    let filled = streams::fill_from_input(input, err, &mut buffer);
-    if filled.failed.is_some() {
-        return Err(Stopped::Told);
-    }
-    let n = filled.count;
-    search_part(out, err, &buffer[..n], before)
-}
-
-// A proved loop has to end, and nothing says that the input does: so the reads are counted, to a number that no run reaches.
 fn run<R: Read, W: Write, E: Write>(
     input: &mut R,
     out: &mut W,
     err: &mut E,
 ) -> Result<(), Stopped> {
-    let mut before = 0u64;
-    for reads in 0..u64::MAX {
-        let step = next_part(input, out, err, before)?;
-        before = step.blocks;
-        if !step.more {
-            return Ok(());
-        }
-    }
+    let mut blocks = 0u64;
+    let mut buffer = io::large_buffer();
+    streams::each_part(input, &mut buffer, |part| {
+        let part = streams::told(err, b"standard input", part)?;
+        search_part(out, err, part, &mut blocks)
+    })?;
     Ok(())
 }
 

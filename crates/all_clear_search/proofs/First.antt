@@ -1,4 +1,5 @@
 -- Blocks searched one after the other, and in two parts. Assumes nothing.
+use Rattle.std.proofs.Common.{Result, Ok, Err}
 use mathlib.Core.Path.{◌≡◌, refl, sym, ap, ◌∙◌}
 use mathlib.Core.Bool.{Bool, true, false, true≢false, ◌||◌}
 use mathlib.Core.List.{List, [], ◌∷◌, ◌++◌}
@@ -6,11 +7,11 @@ use Prim.Native.Nat.{ℕ, zero, suc, ◌+◌, ◌-◌, ◌*◌, ◌/◌, ◌%◌
 use native.Mathlib.Omega.{arith}
 use borrow.Author.Tests.{eqb-true, lt-ltb, le-ltb}
 use lib.Dec.{eqb, ltb}
-use lib.Ieee.{Float, binary32, of_bits}
+use lib.Ieee.{Float}
 use lib.ListN.{length, take, drop, get_or}
 use lib.Seq.{drop-drop}
-use Rattle.model.specs.declared.CheckedBlock.{CheckedBlock}
-use Rattle.model.specs.declared.CheckedBlock.TheVariants as checked
+use Rattle.model.specs.declared.Block.{Block}
+use Rattle.model.specs.declared.BlockRefusal.{BlockRefusal}
 use Rattle.model.specs.Block.{checked_block}
 use Rattle.model.specs.Blocks.{whole_blocks, blocks}
 use Rattle.model.proofs.Blocks.{blocks-counted, rest_of, rest-short, all_whole, rest-last}
@@ -36,9 +37,9 @@ not-refused : (job number : ℕ) (a : BlockCleared) → a ≡ refused_block job 
 not-refused job number a is e = true≢false (sym e ∙ ap (λ (x : BlockCleared). is_clear x.answer) is)
 
 module _ (b : List ℕ) (a : BlockCleared) (e : is_clear a.answer ≡ true) where
-  by-check : length b ≡ 512 → (x : CheckedBlock) → checked_block b ≡ x → AnswerBy b x a → ClearBlock b
-  by-check whole (checked.Good k) is h = record { whole = whole; block = k; good = is; clear = clear_told _ _ _ _ a.answer h.told e }
-  by-check whole (checked.Refused job number) is h = absurd (not-refused job number a h e)
+  by-check : length b ≡ 512 → (x : Result Block BlockRefusal) → checked_block b ≡ x → AnswerBy b x a → ClearBlock b
+  by-check whole (Ok k) is h = record { whole = whole; block = k; good = is; clear = clear_told _ _ _ _ a.answer h.told e }
+  by-check whole (Err r) is h = absurd (not-refused r.job r.number a h e)
 
   by_size : (c : Bool) → eqb (length b) 512 ≡ c → AnswerIf c b a → ClearBlock b
   by_size true is h = by-check (eqb-true (length b) 512 is) (checked_block b) refl h
@@ -97,9 +98,9 @@ pub none_left : (b : List ℕ) (k before n i : ℕ) → k < i + 1 → LeftFrom b
 unfolding whole_blocks
 none_left b k before n i done left = let e : k - i ≡ 0 = omega arith in left 0 (rw e (found_none n))
 
--- block i, of so many bytes, answered by a
-module _ (b : List ℕ) (k before n i size : ℕ) (more : i < k) (whole : size ≡ 512) (a : BlockCleared)
-    (answer : AnswerOf (take size (drop (512 * i) b)) a) (left : LeftFrom b k before n i) where
+-- block i, answered by a
+module _ (b : List ℕ) (k before n i : ℕ) (more : i < k) (a : BlockCleared) (answer : AnswerOf (take 512 (drop (512 * i) b)) a)
+    (left : LeftFrom b k before n i) where
   one_block : (found : ℕ) → Found n (take 512 (drop (512 * i) b) ∷ whole_blocks (k - (i + 1)) (drop (512 * (i + 1)) b)) found
       → Found before (whole_blocks k b) found
   unfolding whole_blocks
@@ -109,10 +110,10 @@ module _ (b : List ℕ) (k before n i size : ℕ) (more : i < k) (whole : size �
       left found (rw (count, drop-drop 512 (512 * i) b, place) h)
 
   pub stopped : is_clear a.answer ≡ false → Found before (whole_blocks k b) (n + 1)
-  stopped e = one_block (n + 1) (found_here n _ _ (record { came = a; sound = rw whole at answer; other = e }))
+  stopped e = one_block (n + 1) (found_here n _ _ (record { came = a; sound = answer; other = e }))
 
   pub passed : is_clear a.answer ≡ true → LeftFrom b k before (n + 1) (i + 1)
-  passed e found h = one_block found (found-behind n _ _ found (cleared _ a e (rw whole at answer)) h)
+  passed e found h = one_block found (found-behind n _ _ found (cleared _ a e answer) h)
 
 pub none_above : (found : ℕ) → found ≤ 0 → found ≡ 0
 none_above found h = omega (arith, h)

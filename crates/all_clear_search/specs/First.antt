@@ -1,10 +1,9 @@
 -- The first block of a batch that is not proved clear over its whole move. Which of two sound answers comes is the search's, so this is a promise: what a
 -- number, or that there is none, says of the blocks.
-use Rattle.std.specs.Prelude.{◌≡◌, ℕ, ◌+◌, ◌<◌, Bool, true, false, List, [], ◌∷◌, length, take, get_or}
+use Rattle.std.specs.Prelude.{◌≡◌, ℕ, ◌+◌, ◌<◌, Bool, true, false, List, [], ◌∷◌, length, take, get_or, Ok}
 use Rattle.std.specs.Float.{binary32}
 use Rattle.std.specs.Float.Ieee.{of_bits}
 use Rattle.model.specs.declared.Block.{Block}
-use Rattle.model.specs.declared.CheckedBlock.TheVariants.{Good}
 use Rattle.model.specs.Block.{block_size, checked_block}
 use Rattle.model.specs.Work.{points_a, points_b, numbers_of}
 use Rattle.planned.specs.Planned as planned
@@ -24,7 +23,7 @@ is_clear (Open u pieces) = false
 pub record ClearBlock (b : List ℕ) : Type 0 where
   pub whole : length b ≡ block_size
   pub block : Block
-  pub good : checked_block b ≡ Good block
+  pub good : checked_block b ≡ Ok block
   pub clear : planned.Clear (points_a b block) (points_b b block) (numbers_of b) (of_bits binary32 0)
 
 unfoldable pub AllClear : List (List ℕ) → Type 0

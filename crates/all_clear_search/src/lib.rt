@@ -19,6 +19,7 @@ const LONGEST_TEXT: usize = 21;
 // The number of the first block that is not clear, 0 where all are; how many blocks came up to the part's end; whether the search is over.
 #[derive(Clone, Copy)]
 pub struct Searched {
+    // A number, and no Option: `Found` says what 0 and every other number mean.
     pub found: u64,
     pub blocks: u64,
     pub over: bool,
@@ -28,19 +29,7 @@ pub struct Searched {
 fn is_clear(answer: Cleared) -> bool
     ensures { result ≡ is_clear answer }
 {
-    match answer {
-        Cleared::Refused(_) => false,
-        Cleared::Clear { pieces: _ } => true,
-        Cleared::Touch {
-            clear_up_to: _,
-            within_by: _,
-            pieces: _,
-        } => false,
-        Cleared::Open {
-            clear_up_to: _,
-            pieces: _,
-        } => false,
-    }
+    matches!(answer, Cleared::Clear { .. })
 }
 
 // Whether a block's answer clears its move.
@@ -51,23 +40,18 @@ fn clears(a: BlockCleared) -> bool
     is_clear(answer)
 }
 
-// The number of the first that is not clear among the whole blocks of a part, with so many blocks before it; none is looked at behind it.
+// The number of the first that is not clear among the whole blocks of a part, with so many blocks before it; none is looked at behind it. The search
+// for a contact finds by what each answer is, this one by what each may be: one search for both would say less of either.
 fn search_blocks(part: &[u8], before: u64) -> u64
     requires { before < count_limit }
     ensures { Found before (whole_blocks (length part.now / block_size) part.now) result }
 {
-    let k = part.len() / 512;
     let mut n = before;
-    let mut i: usize = 0;
-    while i < k {
-        let from = 512 * i;
-        let end = from + 512;
-        let answer = clear_block(&part[from..end]);
-        if !clears(answer) {
-            return n + 1;
-        }
+    for block in part.chunks_exact(512) {
         n += 1;
-        i += 1;
+        if !clears(clear_block(block)) {
+            return n;
+        }
     }
     0
 }

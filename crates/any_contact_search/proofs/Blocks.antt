@@ -8,8 +8,7 @@ use borrow.Author.Tests.{lt-ltb, ne_eqb}
 use lib.Ieee.{binary32}
 use lib.ListN.{length, take, drop}
 use lib.Seq.{drop-drop}
-use Rattle.model.specs.declared.BlockAnswer.{BlockAnswer}
-use Rattle.model.specs.Work.{block_answer}
+use Rattle.model.specs.Work.{block_answer, BlockAnswer}
 use Rattle.model.specs.Blocks.{whole_blocks}
 use Rattle.model.specs.Sheet.{whole_answers}
 use Rattle.model.specs.Block.{block_size}
@@ -29,15 +28,14 @@ pub none_left : (b : List ℕ) (k n i : ℕ) → k ≤ i → left_from b k n i �
 unfolding first_from whole_blocks
 none_left b k n i done = let e : k - i ≡ 0 = omega arith in rw e
 
--- block i, of so many bytes, answered by x
-module _ (b : List ℕ) (k n i size : ℕ) (more : i < k) (whole : size ≡ 512) (x : BlockAnswer)
-    (answer : x ≡ block_answer binary32 (take size (drop (512 * i) b))) where
+-- block i, answered by x
+module _ (b : List ℕ) (k n i : ℕ) (more : i < k) (x : BlockAnswer) (answer : x ≡ block_answer binary32 (take 512 (drop (512 * i) b))) where
   one_block : left_from b k n i ≡ cond (is_contact x) (n + 1) (left_from b k (n + 1) (i + 1))
   unfolding first_from whole_blocks
   one_block =
       let count : k - i ≡ suc (k - (i + 1)) = omega arith in
       let place : 512 * i + 512 ≡ 512 * (i + 1) = omega arith in
-      rw (count, answer, whole, drop-drop 512 (512 * i) b, place)
+      rw (count, answer, drop-drop 512 (512 * i) b, place)
 
   pub found_here : is_contact x ≡ true → left_from b k n i ≡ n + 1
   found_here e = one_block ∙ rw e

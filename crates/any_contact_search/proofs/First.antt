@@ -1,5 +1,6 @@
 -- What the first contact's number says of the sheet: it is above 0 if and only if contact in TOTAL is, its line prints H or O, and no line before
 -- it does. Assumes nothing.
+use Rattle.std.proofs.Common.{Ok, Err}
 use mathlib.Core.Path.{◌≡◌, refl, sym, ap, ◌∙◌}
 use mathlib.Core.Bool.{Bool, true, false, cond, ◌||◌}
 use mathlib.Core.List.{List, [], ◌∷◌, ◌++◌}
@@ -11,12 +12,11 @@ use lib.Ieee.{Format}
 use lib.ListN.{length, get_or}
 use Rattle.model.specs.declared.Status.{Status}
 use Rattle.model.specs.declared.Status.TheVariants.{Overlapped, Hit, Separated, Failed}
-use Rattle.model.specs.declared.BlockAnswer.{BlockAnswer}
-use Rattle.model.specs.declared.BlockAnswer.TheVariants.{Worked, Refused}
 use Rattle.model.specs.declared.Totals.{Totals}
-use Rattle.model.specs.Block.{block_size}
+use Rattle.model.specs.Block.{block_size, refused}
 use Rattle.model.specs.Sheet.{letter_of, answer_line, answers, whole_answers, rest_answer, none, one_worked, counted, totals_from}
 use Rattle.model.specs.Counted.{after_blanks, lines_one_by_one, sheet_lines}
+use Rattle.model.specs.Work.{BlockAnswer}
 use Rattle.model.proofs.Counted.{letter_told, letter-printed, counted-on}
 use Rattle.model.proofs.Sheet.{answers-cut}
 use Rattle.any_contact_search.specs.First.{touches, is_contact, first_from, first_contact, prints_contact, FirstContact}
@@ -24,8 +24,8 @@ use Rattle.any_contact_search.specs.First.{touches, is_contact, first_from, firs
 -- ---- one answer
 -- its line prints H or O just where it is a contact
 line-tells : (f : Format) (n : ℕ) (x : BlockAnswer) → prints_contact (answer_line f n x) ≡ is_contact x
-line-tells f n (Refused job number) = rw (letter-printed f n (Refused job number))
-line-tells f n (Worked job v) = rw (letter-printed f n (Worked job v)) (go v.status)
+line-tells f n (Err r) = rw (letter-printed f n (Err r))
+line-tells f n (Ok w) = rw (letter-printed f n (Ok w)) (go w.verdict.status)
   where
     go : (s : Status) → (eqb (letter_of s) 72 || eqb (letter_of s) 79) ≡ touches s
     go Overlapped = refl
@@ -35,8 +35,8 @@ line-tells f n (Worked job v) = rw (letter-printed f n (Worked job v)) (go v.sta
 
 -- the contacts counted after it
 one-counted : (t : Totals) (x : BlockAnswer) → (counted t x).contact ≡ t.contact + cond (is_contact x) 1 0
-one-counted t (Refused job number) = omega arith
-one-counted t (Worked job v) = go v.status
+one-counted t (Err r) = omega arith
+one-counted t (Ok w) = go w.verdict.status
   where
     go : (s : Status) → (one_worked t s).contact ≡ t.contact + cond (touches s) 1 0
     go Overlapped = omega arith
@@ -130,7 +130,7 @@ no-rest : (n rest : ℕ) → first_from n (rest_answer rest) ≡ 0
 unfolding first_from
 no-rest n rest = go (eqb rest 0)
   where
-    go : (c : Bool) → first_from n (cond c [] (Refused 0 9 ∷ [])) ≡ 0
+    go : (c : Bool) → first_from n (cond c [] (refused 0 9 ∷ [])) ≡ 0
     go true = refl
     go false = refl
 

@@ -1,13 +1,12 @@
 -- The first contact of a batch: its number, and the text that tells it.
-use Rattle.std.specs.Prelude.{◌≡◌, ℕ, ◌+◌, ◌≤◌, ◌<◌, Bool, true, false, cond, ◌||◌, List, [], ◌∷◌, ◌++◌, eqb, length, get_or}
+use Rattle.std.specs.Prelude.{◌≡◌, ℕ, ◌+◌, ◌≤◌, ◌<◌, Bool, true, false, cond, ◌||◌, List, [], ◌∷◌, ◌++◌, eqb, length, get_or, Ok, Err}
 use Rattle.std.specs.Float.{Format}
 use Rattle.model.specs.declared.Status.{Status}
 use Rattle.model.specs.declared.Status.TheVariants.{Overlapped, Hit, Separated, Failed}
-use Rattle.model.specs.declared.BlockAnswer.{BlockAnswer}
-use Rattle.model.specs.declared.BlockAnswer.TheVariants.{Worked, Refused}
 use Rattle.model.specs.Text.{decimal}
 use Rattle.model.specs.Sheet.{answers, none, totals_from}
 use Rattle.model.specs.Counted.{printed_letter, sheet_lines}
+use Rattle.model.specs.Work.{BlockAnswer}
 
 -- H and O are contact; S counts as clear, and F is no verdict
 abbrev pub touches : Status → Bool
@@ -18,8 +17,8 @@ touches Failed = false
 
 -- a refused block is passed over
 abbrev pub is_contact : BlockAnswer → Bool
-is_contact (Worked job v) = touches v.status
-is_contact (Refused job number) = false
+is_contact (Ok w) = touches w.verdict.status
+is_contact (Err r) = false
 
 -- the number of the first contact among answers that follow n others; 0 where there is none
 unfoldable pub first_from : ℕ → List BlockAnswer → ℕ

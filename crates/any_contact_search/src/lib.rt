@@ -18,6 +18,7 @@ const LONGEST_TEXT: usize = 21;
 // The number of the first contact, 0 where none was found; how many whole blocks came up to the part's end; whether the search is over.
 #[derive(Clone, Copy)]
 pub struct Searched {
+    // A number, and no Option: `FirstContact` says what 0 and every other number mean.
     pub found: u64,
     pub blocks: u64,
     pub over: bool,
@@ -27,12 +28,7 @@ pub struct Searched {
 fn touching(status: Status) -> bool
     ensures { result ≡ touches status }
 {
-    match status {
-        Status::Overlapped => true,
-        Status::Hit => true,
-        Status::Separated => false,
-        Status::Failed => false,
-    }
+    matches!(status, Status::Overlapped | Status::Hit)
 }
 
 // A refused block is passed over.
@@ -40,11 +36,8 @@ fn is_contact(answer: BlockAnswer) -> bool
     ensures { result ≡ is_contact answer }
 {
     match answer {
-        BlockAnswer::Worked(_, verdict) => {
-            let status = verdict.status;
-            touching(status)
-        }
-        BlockAnswer::Refused(_, _) => false,
+        Ok(worked) => touching(worked.verdict.status),
+        Err(_) => false,
     }
 }
 
@@ -53,18 +46,12 @@ fn search_blocks(part: &[u8], before: u64) -> u64
     requires { before < count_limit }
     ensures { result ≡ first_from before (whole_answers binary32 (length part.now / block_size) part.now) }
 {
-    let k = part.len() / 512;
     let mut n = before;
-    let mut i: usize = 0;
-    while i < k {
-        let from = 512 * i;
-        let end = from + 512;
-        let answer = work::answer_block(&part[from..end]);
-        if is_contact(answer) {
-            return n + 1;
-        }
+    for block in part.chunks_exact(512) {
         n += 1;
-        i += 1;
+        if is_contact(work::answer_block(block)) {
+            return n;
+        }
     }
     0
 }

@@ -1,16 +1,15 @@
 -- One moment of planned moves: the pose of a body there, and how far apart two outlines are.
-use Rattle.std.specs.Prelude.{ℕ, zero, suc, false, List, Float}
+use Rattle.std.specs.Prelude.{ℕ, zero, suc, false, List, Float, Result, Ok, Err}
 use Rattle.std.specs.Float.{Format}
 use Rattle.model.specs.declared.Sweep.{Sweep}
-use Rattle.model.specs.declared.CheckedPose.{CheckedPose}
+use Rattle.model.specs.declared.Refusal.{Refusal}
+use Rattle.model.specs.declared.Pose.{Pose}
 use Rattle.model.specs.Ground.{inverse_times}
 use Rattle.model.specs.Ground as Ground
-use Rattle.model.specs.Domain.{pair_refusal, sweeps_refusal, fraction_refusal, or_else}
+use Rattle.model.specs.Domain.{pair_refusal, sweeps_refusal, fraction_refusal, or_else, numbered}
 use Rattle.model.specs.Distance.{measure}
 use Rattle.model.specs.Sweep.{transform_at, shifted}
 use Rattle.model.specs.SweepToi.{sweep_pair, no_corners}
-use Rattle.at_fraction.specs.declared.GapAnswer.{GapAnswer}
-use Rattle.at_fraction.specs.declared.GapAnswer.TheVariants.{Apart, Refused}
 
 -- ---- the pose of one move at t
 module _ (f : Format) (planned : Sweep) (t : Float) where
@@ -18,11 +17,11 @@ module _ (f : Format) (planned : Sweep) (t : Float) where
   abbrev pub pose_refusal : ℕ
   pose_refusal = or_else (sweeps_refusal f planned planned) (fraction_refusal f t)
 
-  abbrev pub pose_by : ℕ → CheckedPose
-  pose_by zero = CheckedPose.Good (transform_at f planned t)
-  pose_by (suc n) = CheckedPose.Refused (suc n)
+  abbrev pub pose_by : ℕ → Result Pose Refusal
+  pose_by zero = Ok (transform_at f planned t)
+  pose_by (suc n) = Err (numbered (suc n))
 
-  unfoldable pub pose_at : CheckedPose
+  unfoldable pub pose_at : Result Pose Refusal
   pose_at = pose_by pose_refusal
 
 -- ---- the gap of two outlines at t
@@ -37,9 +36,9 @@ module _ (f : Format) (outline_a : List Float) (wa : Sweep) (outline_b : List Fl
   abbrev pub gap_refusal : ℕ
   gap_refusal = or_else (pair_refusal f outline_a outline_b (Ground.zero f) (Ground.zero f)) (or_else (sweeps_refusal f wa wb) (fraction_refusal f t))
 
-  abbrev pub gap_by : ℕ → GapAnswer
-  gap_by zero = Apart gap
-  gap_by (suc n) = Refused (suc n)
+  abbrev pub gap_by : ℕ → Result Float Refusal
+  gap_by zero = Ok gap
+  gap_by (suc n) = Err (numbered (suc n))
 
-  unfoldable pub gap_at : GapAnswer
+  unfoldable pub gap_at : Result Float Refusal
   gap_at = gap_by gap_refusal

@@ -8,32 +8,19 @@ ghost use Rattle.at_fraction.specs.Moment as Moment;
 use distance::proxy_distance::measure;
 use domain::{check_fraction, check_pair, check_sweeps, refusal};
 use ground::inv_mul;
-use model::{Checked, CheckedPose, SimplexCache, Sweep};
+use model::{Pose, Refusal, SimplexCache, Sweep};
 use separation::{shifted, transform_at};
 
 // The number that a sweep has for its pair.
 const SWEEP_PAIR: u32 = 0;
 
-// How far apart, without radii; or the number of the refusal.
-#[derive(Clone, Copy)]
-pub enum GapAnswer {
-    Apart(f32),
-    Refused(u32),
-}
-
 // The pose of a move at fraction t: 5 and 6 for the move, 7 for the fraction.
-pub fn pose_at(planned: Sweep, t: f32) -> CheckedPose
+pub fn pose_at(planned: Sweep, t: f32) -> Result<Pose, Refusal>
     ensures { result ≡ Moment.pose_at binary32 planned t }
 {
-    let moves = check_sweeps(planned, planned);
-    let Checked::Passed = moves else {
-        return CheckedPose::Refused(refusal(moves));
-    };
-    let fraction = check_fraction(t);
-    let Checked::Passed = fraction else {
-        return CheckedPose::Refused(refusal(fraction));
-    };
-    CheckedPose::Good(transform_at(planned, t))
+    check_sweeps(planned, planned)?;
+    check_fraction(t)?;
+    Ok(transform_at(planned, t))
 }
 
 // The distance at time t as a sweep works it: seen from the first centre of A, poses not checked again, no radii, and no corners known.
@@ -62,27 +49,22 @@ pub fn gap(points_a: &[f32], sweep_a: Sweep, points_b: &[f32], sweep_b: Sweep, t
     measured.output.distance
 }
 
-// The gap of two outlines at fraction t of their moves: 1 to 3 for the outlines, 5 and 6 for the moves, 7 for the fraction.
+// How far apart, without radii, two outlines are at fraction t of their moves: 1 to 3 for the outlines, 5 and 6 for the moves, 7 for the fraction.
 pub fn gap_at(
     points_a: &[f32],
     sweep_a: Sweep,
     points_b: &[f32],
     sweep_b: Sweep,
     t: f32,
-) -> GapAnswer
+) -> Result<f32, Refusal>
     ensures { result ≡ Moment.gap_at binary32 points_a.now sweep_a points_b.now sweep_b t }
 {
     let pair = check_pair(points_a, points_b, 0.0, 0.0);
-    let Checked::Passed = pair else {
-        return GapAnswer::Refused(refusal(pair));
+    let Ok(()) = pair else {
+        let number = refusal(pair);
+        return Err(Refusal { number });
     };
-    let moves = check_sweeps(sweep_a, sweep_b);
-    let Checked::Passed = moves else {
-        return GapAnswer::Refused(refusal(moves));
-    };
-    let fraction = check_fraction(t);
-    let Checked::Passed = fraction else {
-        return GapAnswer::Refused(refusal(fraction));
-    };
-    GapAnswer::Apart(gap(points_a, sweep_a, points_b, sweep_b, t))
+    check_sweeps(sweep_a, sweep_b)?;
+    check_fraction(t)?;
+    Ok(gap(points_a, sweep_a, points_b, sweep_b, t))
 }

@@ -1,8 +1,7 @@
 -- What a block that passes has in its places. Assumes nothing.
-use Rattle.std.proofs.Common.{◌≡◌, ℕ, zero, suc, ◌+◌, ◌-◌, ◌*◌, ◌<◌, ◌≤◌, Bool, true, false, cond, not, ◌&&◌, ◌||◌, eqb, ltb, List, sym, refl, ap, ◌∙◌, true≢false, arith, ltb-false, ltb-true, eqb-true}
-use Rattle.model.specs.declared.CheckedBlock.TheVariants.{Good, Refused}
+use Rattle.std.proofs.Common.{◌≡◌, ℕ, zero, suc, ◌+◌, ◌-◌, ◌*◌, ◌<◌, ◌≤◌, Bool, true, false, cond, not, ◌&&◌, ◌||◌, eqb, ltb, List, sym, refl, true≢false, arith, ltb-false, ltb-true, eqb-true, Ok}
 use Rattle.model.specs.Wire.{byte}
-use Rattle.model.specs.Block.{job_of, block_of, known_form, check_holds, all_zero, bad_count, zeros_hold, bad_fields, checked_block}
+use Rattle.model.specs.Block.{job_of, block_of, known_form, check_holds, all_zero, bad_count, zeros_hold, bad_fields, checked_block, refused}
 use Rattle.model.specs.Blocks.{is_good}
 use Rattle.block.proofs.Laws.{all_right, fair-count}
 
@@ -30,13 +29,13 @@ module _ (b : List ℕ) where
   is-passed e = go (known_form (byte b 6)) (check_holds b) (bad_fields b) refl refl refl e
     where
       go : (k h f : Bool) → known_form (byte b 6) ≡ k → check_holds b ≡ h → bad_fields b ≡ f
-          → is_good (cond k (cond h (cond f (Refused (job_of b) 11) (Good (block_of b))) (Refused 0 10)) (Refused 0 13)) ≡ true → Passed
+          → is_good (cond k (cond h (cond f (refused (job_of b) 11) (Ok (block_of b))) (refused 0 10)) (refused 0 13)) ≡ true → Passed
       go true true false k h f e = record { known = k; holds = h; fields = f }
       go true true true k h f e = absurd (true≢false (sym e))
       go true false fs k h f e = absurd (true≢false (sym e))
       go false hs fs k h f e = absurd (true≢false (sym e))
 
-  pub passed-good : Passed → checked_block b ≡ Good (block_of b)
+  pub passed-good : Passed → checked_block b ≡ Ok (block_of b)
   passed-good p = sym (all_right b p.known p.holds p.fields)
 
   -- single places of it

@@ -1,8 +1,7 @@
 -- Slips that look harmless, each with what the definition says where it would show, computed. Assumes nothing.
 use Rattle.std.proofs.Common.{◌≡◌, ℕ, true, false, List, [], ◌∷◌, ◌++◌, replicate, refl}
-use Rattle.model.specs.declared.CheckedBlock.TheVariants.{Refused}
 use Rattle.model.specs.Wire.{word}
-use Rattle.model.specs.Block.{sum_of_words, weighed_words, all_zero, bad_count, zeros_hold}
+use Rattle.model.specs.Block.{sum_of_words, weighed_words, all_zero, bad_count, zeros_hold, refused}
 use Rattle.model.specs.Blocks.{is_good}
 
 count-17-passes : (bad_count 16 ≡ false) × (bad_count 17 ≡ true)
@@ -25,5 +24,5 @@ unused-points-not-looked-at : zeros_hold ((1 ∷ 0 ∷ 0 ∷ 0 ∷ 1 ∷ 1 ∷ 0
 unfolding all_zero
 unused-points-not-looked-at = refl
 
-checked-by-10-alone : (is_good (Refused 0 13) ≡ false) × (is_good (Refused 7 11) ≡ false)
+checked-by-10-alone : (is_good (refused 0 13) ≡ false) × (is_good (refused 7 11) ≡ false)
 checked-by-10-alone = (refl, refl)

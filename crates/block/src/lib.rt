@@ -1,5 +1,5 @@
 // The batch block: 512 bytes with a check sum, in one of two forms. Its checks, in the order of their refusals, and what it says of its job beside
-// its numbers. A missing byte counts as 0, so every slice has an answer. Sums and zeros are taken word by word.
+// its numbers. A missing byte counts as 0, so every slice has an answer. Sums are taken word by word.
 #![tactic(auto)]
 
 ghost use Rattle.std.specs.Prelude.{◌≡◌, ◌+◌, ◌*◌, ◌%◌, ◌^◌, ◌≤◌, length};
@@ -7,17 +7,15 @@ ghost use Rattle.model.specs.Block.{block_of, known_form, sum_of_words, weighed_
 ghost use Rattle.model.specs.Blocks.{is_good};
 ghost use Rattle.model.specs.Wire.{byte, word};
 
-use model::{Block, CheckedBlock};
+use model::{Block, BlockRefusal};
 
 // The words before the check, added modulo 2^32.
 fn plain_sum(bytes: &[u8]) -> u32
     ensures { result ≡ sum_of_words bytes.now 127 % 2 ^ 32 }
 {
     let mut sum: u32 = 0;
-    let mut i: usize = 0;
-    while i < 127 {
-        sum = std::num::wrapping_add_u32(sum, wire::word(bytes, 4 * i));
-        i += 1;
+    for i in 0..127 {
+        sum = sum.wrapping_add(wire::word(bytes, 4 * i));
     }
     sum
 }
@@ -35,10 +33,8 @@ fn weighed_sum(bytes: &[u8]) -> u64
     ensures { result ≡ weighed_words bytes.now 127 }
 {
     let mut sum: u64 = 0;
-    let mut i: usize = 0;
-    while i < 127 {
+    for i in 0..127 {
         sum += weighed(wire::word(bytes, 4 * i), i + 1);
-        i += 1;
     }
     sum
 }
@@ -58,7 +54,7 @@ pub fn sum_of_words(bytes: &[u8]) -> u32
     ensures { result ≡ sum_of_words bytes.now 128 % 2 ^ 32 }
 {
     let sum = sum_before(bytes, 0);
-    std::num::wrapping_add_u32(sum, wire::word(bytes, 508))
+    sum.wrapping_add(wire::word(bytes, 508))
 }
 
 // Whether they and the check make FFFFFFFF, in the form that byte 6 says.
@@ -66,47 +62,23 @@ fn check_holds(bytes: &[u8]) -> bool
     ensures { result ≡ check_holds bytes.now }
 {
     let sum = sum_before(bytes, wire::byte(bytes, 6));
-    std::num::wrapping_add_u32(sum, wire::word(bytes, 508)) == 0xffff_ffff
+    sum.wrapping_add(wire::word(bytes, 508)) == 0xffff_ffff
 }
 
-// Whether n words from a place on are 0, and so all their bytes, where bytes may be missing.
-fn all_zero_short(bytes: &[u8], from: usize, n: usize) -> bool
-    requires { from + 4 * n ≤ 512 }
-    ensures { result ≡ all_zero bytes.now from (4 * n) }
-{
-    let mut zero = true;
-    let mut i: usize = 0;
-    while i < n {
-        zero = zero & (wire::word(bytes, from + 4 * i) == 0);
-        i += 1;
-    }
-    zero
-}
-
-// The word of four bytes that are there.
-fn word_in(bytes: &[u8], k: usize) -> u32
-    requires { k + 4 ≤ length bytes.now }
-    ensures { result ≡ word bytes.now k }
-{
-    let end = k + 4;
-    wire::word(&bytes[k..end], 0)
-}
-
-// The same of a block that is whole, with no test of each word's place, so that several words are looked at as one.
+// Whether n bytes from a place on are 0. All that are there are looked at, so that several are looked at as one.
 fn all_zero(bytes: &[u8], from: usize, n: usize) -> bool
-    requires { from + 4 * n ≤ 512 }
-    ensures { result ≡ all_zero bytes.now from (4 * n) }
+    requires { from + n ≤ 512 }
+    ensures { result ≡ all_zero bytes.now from n }
 {
-    if bytes.len() < 512 {
-        return all_zero_short(bytes, from, n);
+    let end = (from + n).min(bytes.len());
+    if end <= from {
+        return true;
     }
-    let mut zero = true;
-    let mut i: usize = 0;
-    while i < n {
-        zero = zero & (word_in(bytes, from + 4 * i) == 0);
-        i += 1;
+    let mut seen: u8 = 0;
+    for x in &bytes[from..end] {
+        seen |= *x;
     }
-    zero
+    seen == 0
 }
 
 // A count that no outline has.
@@ -124,8 +96,8 @@ fn zeros_hold(bytes: &[u8]) -> bool
     let count_a = wire::byte(bytes, 4) as usize;
     let count_b = wire::byte(bytes, 5) as usize;
     (wire::byte(bytes, 7) == 0)
-        & all_zero(bytes, 104 + 8 * count_a, 32 - 2 * count_a)
-        & all_zero(bytes, 232 + 8 * count_b, 69 - 2 * count_b)
+        & all_zero(bytes, 104 + 8 * count_a, 128 - 8 * count_a)
+        & all_zero(bytes, 232 + 8 * count_b, 276 - 8 * count_b)
 }
 
 // A job of 0, a count outside 1 to 16, or a byte that must be 0 and is not.
@@ -161,26 +133,24 @@ fn known_form(form: u8) -> bool
 }
 
 // The block that these bytes are, or the job and the number of its refusal: 13 for a form that is not known, 10 for a wrong check, then 11.
-pub fn check_block(bytes: &[u8]) -> CheckedBlock
+pub fn check_block(bytes: &[u8]) -> Result<Block, BlockRefusal>
     ensures { result ≡ checked_block bytes.now }
 {
     if !known_form(wire::byte(bytes, 6)) {
-        return CheckedBlock::Refused(0, 13);
+        return Err(BlockRefusal { job: 0, number: 13 });
     }
     if !check_holds(bytes) {
-        return CheckedBlock::Refused(0, 10);
+        return Err(BlockRefusal { job: 0, number: 10 });
     }
     if bad_fields(bytes) {
-        return CheckedBlock::Refused(wire::word(bytes, 0), 11);
+        let job = wire::word(bytes, 0);
+        return Err(BlockRefusal { job, number: 11 });
     }
-    CheckedBlock::Good(block_of(bytes))
+    Ok(block_of(bytes))
 }
 
-pub fn good(checked: CheckedBlock) -> bool
+pub fn good(checked: Result<Block, BlockRefusal>) -> bool
     ensures { result ≡ is_good checked }
 {
-    match checked {
-        CheckedBlock::Good(_) => true,
-        CheckedBlock::Refused(_, _) => false,
-    }
+    checked.is_ok()
 }

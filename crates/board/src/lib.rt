@@ -1,8 +1,9 @@
-// A job on the grid: what the check, the touch and the search are given, and what the check holds on its way. Records, and one operation on them. Corners are
-// lent beside them, as lists.
+// A job on the grid: what the check, the touch and the search are given, and what the check holds on its way. Records, and the first operations on them. Corners are
+// lent beside a job.
 #![tactic(auto)]
 
-ghost use Rattle.board.specs.Pairs.{int_of, size_of, Is};
+ghost use Rattle.std.specs.Prelude.{true, ◌≡◌, ◌≤◌};
+ghost use Rattle.board.specs.Pairs.{int_of, size_of, Sized, Is};
 
 // p less m
 #[derive(Clone, Copy)]
@@ -34,6 +35,20 @@ pub struct GridJob {
     pub d2: Vector,
     pub up: u64,
     pub down: u64,
+}
+
+// A body's corners, lent as two lists: both parts of each, 2^29 above what they stand for.
+#[derive(Clone, Copy)]
+pub struct Outline<'a> {
+    pub xs: &'a [u64],
+    pub ys: &'a [u64],
+}
+
+// The corners of both bodies of a job.
+#[derive(Clone, Copy)]
+pub struct Outlines<'a> {
+    pub a: Outline<'a>,
+    pub b: Outline<'a>,
 }
 
 // What a search proposes for a piece of the way: what the headings are lengthened by at its ends, in 2^26-ths, all 0 for a disc; the axis at its ends, at
@@ -72,7 +87,7 @@ pub struct Arc {
     pub p2: Vector,
 }
 
-// One body held: where its point is placed, how far the window moves that, and the blur of its turn. A margin of 2^32 is a refusal.
+// One body held: where its point is placed, how far the window moves that, and the blur of its turn.
 #[derive(Clone, Copy)]
 pub struct Hold {
     pub place: Vector,
@@ -89,4 +104,20 @@ pub fn norm(a: Pair) -> Pair
     } else {
         Pair { p: a.p - a.m, m: 0 }
     }
+}
+
+// Whether a pair is at most s in size.
+pub fn within(a: Pair, s: u64) -> bool
+    ensures small { result ≡ true → size_of a ≤ s }
+    ensures passed { size_of a ≤ s → result ≡ true }
+{
+    a.p <= s && a.m <= s - a.p
+}
+
+// Whether both parts of a vector are.
+pub fn both_within(a: Vector, s: u64) -> bool
+    ensures small { result ≡ true → Sized s a }
+    ensures passed { Sized s a → result ≡ true }
+{
+    within(a.x, s) && within(a.y, s)
 }

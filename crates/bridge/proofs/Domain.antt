@@ -5,13 +5,11 @@ use mathlib.Core.List.{List, [], ◌∷◌}
 use mathlib.Core.Path.{◌≡◌, refl, ap}
 use lib.Ieee.{Float, Format}
 use lib.ListN.{drop}
+use Rattle.std.proofs.Common.{Result, Ok, Err}
 use Rattle.model.specs.declared.Vector.{Vector}
 use Rattle.model.specs.declared.Pose.{Pose}
 use Rattle.model.specs.declared.Sweep.{Sweep}
-use Rattle.model.specs.declared.Checked.{Checked}
-use Rattle.model.specs.declared.Checked.TheVariants.{Passed, Refused}
-use Rattle.model.specs.declared.CheckedPose.{CheckedPose}
-use Rattle.model.specs.declared.CheckedPose.TheVariants as CheckedPose
+use Rattle.model.specs.declared.Refusal.{Refusal}
 use Rattle.model.specs.Ground as Ground
 use Rattle.model.specs.Domain as Domain
 use Rattle.model.specs.Domain.{bad_parts, outline_refusal, checked_pose}
@@ -29,14 +27,14 @@ pub point-same : (s : List Float) (i : ℕ) → point64 s i ≡ vector64 (point 
 point-same s i = refl
 
 -- ---- the domain
-pub checked-pose-same : (k : Checked) (p : Pose) → checked_pose_of64 k (pose64 p) ≡ checked_pose64 (checked_pose k p)
+pub checked-pose-same : (k : Result Unit Refusal) (p : Pose) → checked_pose_of64 k (pose64 p) ≡ checked_pose64 (checked_pose k p)
 unfolding checked_pose_of64 checked_pose
-checked-pose-same Passed p = refl
-checked-pose-same (Refused n) p = refl
+checked-pose-same (Ok tt) p = refl
+checked-pose-same (Err r) p = refl
 
-pub refusal-of-pose-same : (x : CheckedPose) → Domain64.refusal_of_pose (checked_pose64 x) ≡ Domain.refusal_of_pose x
-refusal-of-pose-same (CheckedPose.Good p) = refl
-refusal-of-pose-same (CheckedPose.Refused n) = refl
+pub refusal-of-pose-same : (x : Result Pose Refusal) → Domain64.refusal_of_pose (checked_pose64 x) ≡ Domain.refusal_of_pose x
+refusal-of-pose-same (Ok p) = refl
+refusal-of-pose-same (Err r) = refl
 
 module _ (f : Format) where
   pub bad-vector-same : (v : Vector) → Domain64.bad_vector f (vector64 v) ≡ Domain.bad_vector f v

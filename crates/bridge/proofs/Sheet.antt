@@ -1,4 +1,5 @@
 -- What a block of the f64 crates comes to, its line, the lines and the totals of a file are model's. Assumes nothing.
+use Rattle.std.proofs.Common.{Result, Ok, Err}
 use Prim.Native.Nat.{ℕ, zero, suc, ◌+◌, ◌/◌, ◌%◌}
 use mathlib.Core.Bool.{Bool, true, false, cond}
 use mathlib.Core.List.{List, [], ◌∷◌, ◌++◌, map}
@@ -12,18 +13,15 @@ use Rattle.model.specs.declared.Totals.{Totals}
 use Rattle.model.specs.declared.Vector.{Vector}
 use Rattle.model.specs.declared.Swept.{Swept}
 use Rattle.model.specs.declared.Corners.{Corners}
-use Rattle.model.specs.declared.CheckedBlock.{CheckedBlock}
-use Rattle.model.specs.declared.CheckedBlock.TheVariants as Checked
+use Rattle.model.specs.declared.Block.{Block}
+use Rattle.model.specs.declared.BlockRefusal.{BlockRefusal}
 use Rattle.model.specs.declared.SweepAnswer.{SweepAnswer}
 use Rattle.model.specs.declared.SweepAnswer.TheVariants.{Overlapped, Hit, Separated, Failed, Refused}
-use Rattle.model.specs.declared.Outcome.{Outcome}
-use Rattle.model.specs.declared.Outcome.TheVariants as Outcome
-use Rattle.model.specs.declared.BlockAnswer.{BlockAnswer}
-use Rattle.model.specs.declared.BlockAnswer.TheVariants as Block
 use Rattle.model.specs.declared.Verdict.{Verdict}
+use Rattle.model.specs.declared.Refusal.{Refusal}
 use Rattle.model.specs.Support.{point}
-use Rattle.model.specs.Block.{checked_block}
-use Rattle.model.specs.Work.{move_at, sweep_for, block_answer}
+use Rattle.model.specs.Block.{checked_block, refused}
+use Rattle.model.specs.Work.{move_at, sweep_for, BlockAnswer, block_answer}
 use Rattle.model.specs.Work as W
 use Rattle.model.specs.Blocks.{blocks}
 use Rattle.model.specs.Sheet.{answers, worked_line, lines_from, counted, totals_from, sheet}
@@ -32,7 +30,6 @@ use Rattle.model64.specs.Work.{move_at as move_at64, sweep_for as sweep_for64, b
 use Rattle.model64.specs.Work as W64
 use Rattle.model64.specs.Sheet.{answers as answers64, worked_line as worked_line64, lines_from as lines_from64, totals_from as totals_from64}
 use Rattle.model64.specs.Sheet as Sheet64
-use Rattle.model64.specs.declared.BlockAnswer.TheVariants as Block64
 use Rattle.bridge.specs.Wide.{vector64, rotation64, sweep64, swept64, sweep_answer64, verdict64, outcome64, block_answer64}
 use Rattle.bridge.proofs.Corners.{swept_same}
 
@@ -60,16 +57,16 @@ told_same f k (Refused number) = refl
 pub told-swept-same : (f : Format) (x : Swept) → W64.told f (swept64 x) ≡ outcome64 (W.told f x)
 told-swept-same f x = told_same f x.corners x.answer
 
-of-job-same : (job : ℕ) (x : Outcome) → W64.of_job job (outcome64 x) ≡ block_answer64 (W.of_job job x)
-of-job-same job (Outcome.Found v) = refl
-of-job-same job (Outcome.Refused number) = refl
+of-job-same : (job : ℕ) (x : Result Verdict Refusal) → W64.of_job job (outcome64 x) ≡ block_answer64 (W.of_job job x)
+of-job-same job (Ok v) = refl
+of-job-same job (Err r) = refl
 
-by-check : (f : Format) (b : List ℕ) (x : CheckedBlock) → W64.answer_by f b x ≡ block_answer64 (W.answer_by f b x)
-by-check f b (Checked.Good k) =
+by-check : (f : Format) (b : List ℕ) (x : Result Block BlockRefusal) → W64.answer_by f b x ≡ block_answer64 (W.answer_by f b x)
+by-check f b (Ok k) =
     let swept = W.sweep_of f b k in
     rw (sweep-for-same f (W.points_a b k) (W.points_b b k) (W.numbers_of b), told_same f swept.corners swept.answer)
     (of-job-same k.job (W.told f swept))
-by-check f b (Checked.Refused job number) = refl
+by-check f b (Err r) = refl
 
 pub block-answer-same : (f : Format) (b : List ℕ) → block_answer_of64 f b ≡ block_answer64 (block_answer f b)
 unfolding block_answer_of64 block_answer
@@ -77,7 +74,7 @@ block-answer-same f b = by-check f b (checked_block b)
 
 -- ---- a file
 by_size : (f : Format) (x : List ℕ) (whole : Bool) →
-    cond whole (block_answer_of64 f x) (Block64.Refused 0 9) ≡ block_answer64 (cond whole (block_answer f x) (Block.Refused 0 9))
+    cond whole (block_answer_of64 f x) (refused 0 9) ≡ block_answer64 (cond whole (block_answer f x) (refused 0 9))
 by_size f x true = block-answer-same f x
 by_size f x false = refl
 
@@ -92,8 +89,8 @@ answers-same f b = each_same f (blocks b)
 -- ---- its lines and totals
 pub line_same : (f : Format) (n : ℕ) (x : BlockAnswer) → Sheet64.answer_line f n (block_answer64 x) ≡ Sheet.answer_line f n x
 unfolding worked_line64 worked_line
-line_same f n (Block.Worked job v) = refl
-line_same f n (Block.Refused job number) = refl
+line_same f n (Ok w) = refl
+line_same f n (Err r) = refl
 
 lines-of-same : (f : Format) (n : ℕ) (xs : List BlockAnswer) → lines_from64 f n (map block_answer64 xs) ≡ lines_from f n xs
 unfolding lines_from64 lines_from
@@ -104,8 +101,8 @@ pub lines_same : (f : Format) (n : ℕ) (b : List ℕ) → lines_from64 f n (ans
 lines_same f n b = rw (answers-same f b) (lines-of-same f n (answers f b))
 
 counted_same : (t : Totals) (x : BlockAnswer) → Sheet64.counted t (block_answer64 x) ≡ counted t x
-counted_same t (Block.Worked job v) = refl
-counted_same t (Block.Refused job number) = refl
+counted_same t (Ok w) = refl
+counted_same t (Err r) = refl
 
 totals-of-same : (t : Totals) (xs : List BlockAnswer) → totals_from64 t (map block_answer64 xs) ≡ totals_from t xs
 unfolding totals_from64 totals_from

@@ -1,11 +1,9 @@
 -- A record of model as the record of the f64 crates with the same parts. A value of `lib.Ieee` belongs to no width, so no part changes.
-use Rattle.std.specs.Prelude.{List, map}
+use Rattle.std.specs.Prelude.{List, map, Result, Ok, Err}
 use Rattle.model.specs.declared.Vector.{Vector}
 use Rattle.model.specs.declared.Rotation.{Rotation}
 use Rattle.model.specs.declared.Pose.{Pose}
 use Rattle.model.specs.declared.Sweep.{Sweep}
-use Rattle.model.specs.declared.CheckedPose.{CheckedPose}
-use Rattle.model.specs.declared.CheckedPose.TheVariants as CheckedPose
 use Rattle.model.specs.declared.SimplexVertex.{SimplexVertex}
 use Rattle.model.specs.declared.Solved.{Solved}
 use Rattle.model.specs.declared.Rounds.{Rounds}
@@ -20,22 +18,17 @@ use Rattle.model.specs.declared.SweepTask.{SweepTask}
 use Rattle.model.specs.declared.Closest.{Closest}
 use Rattle.model.specs.declared.RootSearch.{RootSearch}
 use Rattle.model.specs.declared.Contact.{Contact}
-use Rattle.model.specs.declared.DistanceAnswer.{DistanceAnswer}
-use Rattle.model.specs.declared.DistanceAnswer.TheVariants as DistanceAnswer
 use Rattle.model.specs.declared.SweepAnswer.{SweepAnswer}
 use Rattle.model.specs.declared.SweepAnswer.TheVariants as SweepAnswer
 use Rattle.model.specs.declared.Swept.{Swept}
 use Rattle.model.specs.declared.Verdict.{Verdict}
-use Rattle.model.specs.declared.Outcome.{Outcome}
-use Rattle.model.specs.declared.Outcome.TheVariants as Outcome
-use Rattle.model.specs.declared.BlockAnswer.{BlockAnswer}
-use Rattle.model.specs.declared.BlockAnswer.TheVariants as BlockAnswer
+use Rattle.model.specs.declared.Refusal.{Refusal}
+use Rattle.model.specs.declared.Worked.{Worked}
+use Rattle.model.specs.Work.{BlockAnswer}
 use Rattle.model64.specs.declared.Vector.{Vector as Vector64}
 use Rattle.model64.specs.declared.Rotation.{Rotation as Rotation64}
 use Rattle.model64.specs.declared.Pose.{Pose as Pose64}
 use Rattle.model64.specs.declared.Sweep.{Sweep as Sweep64}
-use Rattle.model64.specs.declared.CheckedPose.{CheckedPose as CheckedPose64}
-use Rattle.model64.specs.declared.CheckedPose.TheVariants as CheckedPose64
 use Rattle.model64.specs.declared.SimplexVertex.{SimplexVertex as SimplexVertex64}
 use Rattle.model64.specs.declared.Solved.{Solved as Solved64}
 use Rattle.model64.specs.declared.Rounds.{Rounds as Rounds64}
@@ -50,16 +43,12 @@ use Rattle.model64.specs.declared.SweepTask.{SweepTask as SweepTask64}
 use Rattle.model64.specs.declared.Closest.{Closest as Closest64}
 use Rattle.model64.specs.declared.RootSearch.{RootSearch as RootSearch64}
 use Rattle.model64.specs.declared.Contact.{Contact as Contact64}
-use Rattle.model64.specs.declared.DistanceAnswer.{DistanceAnswer as DistanceAnswer64}
-use Rattle.model64.specs.declared.DistanceAnswer.TheVariants as DistanceAnswer64
 use Rattle.model64.specs.declared.SweepAnswer.{SweepAnswer as SweepAnswer64}
 use Rattle.model64.specs.declared.SweepAnswer.TheVariants as SweepAnswer64
 use Rattle.model64.specs.declared.Swept.{Swept as Swept64}
 use Rattle.model64.specs.declared.Verdict.{Verdict as Verdict64}
-use Rattle.model64.specs.declared.Outcome.{Outcome as Outcome64}
-use Rattle.model64.specs.declared.Outcome.TheVariants as Outcome64
-use Rattle.model64.specs.declared.BlockAnswer.{BlockAnswer as BlockAnswer64}
-use Rattle.model64.specs.declared.BlockAnswer.TheVariants as BlockAnswer64
+use Rattle.model64.specs.declared.Worked.{Worked as Worked64}
+use Rattle.model64.specs.Work.{BlockAnswer as BlockAnswer64}
 
 abbrev pub vector64 : Vector → Vector64
 vector64 v = record { x = v.x; y = v.y }
@@ -74,9 +63,9 @@ abbrev pub sweep64 : Sweep → Sweep64
 sweep64 w =
     record { local_center = vector64 w.local_center; c1 = vector64 w.c1; c2 = vector64 w.c2; q1 = rotation64 w.q1; q2 = rotation64 w.q2 }
 
-abbrev pub checked_pose64 : CheckedPose → CheckedPose64
-checked_pose64 (CheckedPose.Good p) = CheckedPose64.Good (pose64 p)
-checked_pose64 (CheckedPose.Refused n) = CheckedPose64.Refused n
+abbrev pub checked_pose64 : Result Pose Refusal → Result Pose64 Refusal
+checked_pose64 (Ok p) = Ok (pose64 p)
+checked_pose64 (Err r) = Err r
 
 abbrev pub vertex64 : SimplexVertex → SimplexVertex64
 vertex64 v =
@@ -108,9 +97,9 @@ output64 o = record {
 abbrev pub measurement64 : Measurement → Measurement64
 measurement64 m = record { output = output64 m.output; cache = m.cache }
 
-abbrev pub answer64 : DistanceAnswer → DistanceAnswer64
-answer64 (DistanceAnswer.Measured o) = DistanceAnswer64.Measured (output64 o)
-answer64 (DistanceAnswer.Refused n) = DistanceAnswer64.Refused n
+abbrev pub answer64 : Result ProxyDistanceOutput Refusal → Result ProxyDistanceOutput64 Refusal
+answer64 (Ok o) = Ok (output64 o)
+answer64 (Err r) = Err r
 
 abbrev pub distance64 : Distance → Distance64
 distance64 d = record { answer = answer64 d.answer; cache = d.cache }
@@ -164,10 +153,13 @@ swept64 x = record { answer = sweep_answer64 x.answer; corners = x.corners }
 abbrev pub verdict64 : Verdict → Verdict64
 verdict64 v = record { status = v.status; contact = contact64 v.contact; counts = v.counts; corners = v.corners }
 
-abbrev pub outcome64 : Outcome → Outcome64
-outcome64 (Outcome.Found v) = Outcome64.Found (verdict64 v)
-outcome64 (Outcome.Refused number) = Outcome64.Refused number
+abbrev pub outcome64 : Result Verdict Refusal → Result Verdict64 Refusal
+outcome64 (Ok v) = Ok (verdict64 v)
+outcome64 (Err r) = Err r
+
+abbrev pub worked64 : Worked → Worked64
+worked64 w = record { job = w.job; verdict = verdict64 w.verdict }
 
 abbrev pub block_answer64 : BlockAnswer → BlockAnswer64
-block_answer64 (BlockAnswer.Worked job v) = BlockAnswer64.Worked job (verdict64 v)
-block_answer64 (BlockAnswer.Refused job number) = BlockAnswer64.Refused job number
+block_answer64 (Ok w) = Ok (worked64 w)
+block_answer64 (Err r) = Err r

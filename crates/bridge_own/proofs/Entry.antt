@@ -1,4 +1,5 @@
 -- What the calls over lists of `list_calls64` answer and leave is what those of `list_calls` do, at every format. Assumes nothing.
+use Rattle.std.proofs.Common.{Result, Ok, Err}
 use Prim.Native.Nat.{ℕ}
 use mathlib.Core.Bool.{cond}
 use mathlib.Core.List.{List}
@@ -7,10 +8,10 @@ use lib.Dec.{ltb}
 use lib.Ieee.{Float, Format}
 use Rattle.model.specs.declared.Contact.{Contact}
 use Rattle.model.specs.declared.SimplexCache.{SimplexCache}
-use Rattle.model.specs.declared.DistanceAnswer.{DistanceAnswer}
-use Rattle.model.specs.declared.DistanceAnswer.TheVariants as Answer
 use Rattle.model.specs.declared.Distance.{Distance}
-use Rattle.model.specs.declared.Outcome.{Outcome}
+use Rattle.model.specs.declared.Refusal.{Refusal}
+use Rattle.model.specs.declared.ProxyDistanceOutput.{ProxyDistanceOutput}
+use Rattle.model.specs.declared.Verdict.{Verdict}
 use Rattle.model.specs.Support.{point}
 use Rattle.model.specs.Work.{sweep_for}
 use Rattle.list_calls.specs.Entry as E
@@ -26,23 +27,23 @@ pub contact-in-same : (c : Contact) (out : List Float) → E64.contact_in (conta
 contact-in-same c out = refl
 
 -- ---- the sweep
-number_same : (x : Outcome) → E64.sweep_number (outcome64 x) ≡ E.sweep_number x
-number_same (Outcome.Found v) = refl
-number_same (Outcome.Refused k) = refl
+number_same : (x : Result Verdict Refusal) → E64.sweep_number (outcome64 x) ≡ E.sweep_number x
+number_same (Ok v) = refl
+number_same (Err r) = refl
 
-contact-after-same : (x : Outcome) (out : List Float) → E64.contact_after (outcome64 x) out ≡ E.contact_after x out
-contact-after-same (Outcome.Found v) out = refl
-contact-after-same (Outcome.Refused k) out = refl
+contact-after-same : (x : Result Verdict Refusal) (out : List Float) → E64.contact_after (outcome64 x) out ≡ E.contact_after x out
+contact-after-same (Ok v) out = refl
+contact-after-same (Err r) out = refl
 
-counts-after-same : (x : Outcome) (counts : List ℕ) → E64.counts_after (outcome64 x) counts ≡ E.counts_after x counts
-counts-after-same (Outcome.Found v) counts = refl
-counts-after-same (Outcome.Refused k) counts = refl
+counts-after-same : (x : Result Verdict Refusal) (counts : List ℕ) → E64.counts_after (outcome64 x) counts ≡ E.counts_after x counts
+counts-after-same (Ok v) counts = refl
+counts-after-same (Err r) counts = refl
 
 module _ (f : Format) (a b ns out : List Float) (counts : List ℕ) where
   called_same : E64.sweep_call f a b ns ≡ outcome64 (E.sweep_call f a b ns)
   called_same = rw (sweep-for-same f a b ns) (told-swept-same f (sweep_for f a b ns))
 
-  abbrev x : Outcome
+  abbrev x : Result Verdict Refusal
   x = E.sweep_call f a b ns
 
   number-there : cond (E.sweep_fits ns out counts) (E64.sweep_number (E64.sweep_call f a b ns)) 255 ≡ cond (E.sweep_fits ns out counts) (E.sweep_number x) 255
@@ -65,17 +66,17 @@ module _ (f : Format) (a b ns out : List Float) (counts : List ℕ) where
   )
 
 -- ---- the distance
-distance-number-same : (x : DistanceAnswer) → E64.distance_number (answer64 x) ≡ E.distance_number x
-distance-number-same (Answer.Measured o) = refl
-distance-number-same (Answer.Refused k) = refl
+distance-number-same : (x : Result ProxyDistanceOutput Refusal) → E64.distance_number (answer64 x) ≡ E.distance_number x
+distance-number-same (Ok o) = refl
+distance-number-same (Err r) = refl
 
-cache-after-same : (x : DistanceAnswer) (c : SimplexCache) (words : List ℕ) → E64.cache_after (answer64 x) c words ≡ E.cache_after x c words
-cache-after-same (Answer.Measured o) c words = refl
-cache-after-same (Answer.Refused k) c words = refl
+cache-after-same : (x : Result ProxyDistanceOutput Refusal) (c : SimplexCache) (words : List ℕ) → E64.cache_after (answer64 x) c words ≡ E.cache_after x c words
+cache-after-same (Ok o) c words = refl
+cache-after-same (Err r) c words = refl
 
-output-after-same : (x : DistanceAnswer) (out : List Float) → E64.output_after (answer64 x) out ≡ E.output_after x out
-output-after-same (Answer.Measured o) out = refl
-output-after-same (Answer.Refused k) out = refl
+output-after-same : (x : Result ProxyDistanceOutput Refusal) (out : List Float) → E64.output_after (answer64 x) out ≡ E.output_after x out
+output-after-same (Ok o) out = refl
+output-after-same (Err r) out = refl
 
 module _ (f : Format) (a b ns : List Float) (radii pair : ℕ) (words : List ℕ) (out : List Float) where
   abbrev d : Distance

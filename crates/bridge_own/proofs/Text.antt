@@ -3,7 +3,7 @@ use Prim.Native.Nat.{ℕ}
 use mathlib.Core.Path.{◌≡◌, refl}
 use lib.Ieee.{binary32, binary64}
 use Rattle.model.specs.declared.Contact.{Contact}
-use Rattle.model.specs.declared.BlockAnswer.{BlockAnswer}
+use Rattle.model.specs.Work.{BlockAnswer}
 use Rattle.fields.specs.Floats.{floats}
 use Rattle.fields64.specs.Floats.{floats as floats64}
 use Rattle.sheet_lines.specs.Part.{longest_line, line_for}

@@ -2,9 +2,9 @@
 use Rattle.std.specs.Prelude.{ℕ, cond, List, [], ◌∷◌, ◌++◌, ltb, Float}
 use Rattle.std.specs.Float.{Format}
 use Rattle.model.specs.declared.Contact.{Contact}
-use Rattle.model.specs.declared.BlockAnswer.{BlockAnswer}
 use Rattle.model.specs.Text.{hex_float}
 use Rattle.model.specs.Sheet.{answer_line}
+use Rattle.model.specs.Work.{BlockAnswer}
 
 -- the five floats of a contact, a blank after each
 abbrev pub floats_at : Format → Contact → List ℕ

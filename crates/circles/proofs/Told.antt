@@ -5,6 +5,7 @@ use mathlib.Core.List.{List}
 use Prim.Native.Nat.{ℕ, zero, suc}
 use native.Mathlib.Omega.{arith}
 use lib.Ieee.{Float, Format}
+use Rattle.std.proofs.Common.{Ok, Err}
 use Rattle.model.specs.declared.Pose.{Pose}
 use Rattle.model.specs.declared.SimplexCache.{SimplexCache}
 use Rattle.model.specs.declared.Rounds.{Rounds}
@@ -12,7 +13,7 @@ use Rattle.model.specs.declared.WitnessPoints.{WitnessPoints}
 use Rattle.model.specs.declared.Ending.{Ending}
 use Rattle.model.specs.declared.Ending.TheVariants.{Touching, Settled, RoundLimit}
 use Rattle.model.specs.declared.ProxyDistanceOutput.{ProxyDistanceOutput}
-use Rattle.model.specs.declared.DistanceAnswer.TheVariants.{Measured, Refused}
+use Rattle.model.specs.Domain.{numbered}
 use Rattle.model.specs.Distance.{rounds, witness_points, measured_by, measure, distance_by, distance_refusal, proxy_distance}
 use Rattle.exact.proofs.Demand3.{ending-told}
 
@@ -31,11 +32,11 @@ module _ (f : Format) (p : Pose) (a : List Float) (ra : Float) (b : List Float) 
     pub ending : o.ending ≡ (rounds f a b p c).ending
     pub iterations : o.iterations ≡ (rounds f a b p c).iterations
 
-  pub told-by-rounds : (proxy_distance f p a ra b rb radii pair c).answer ≡ Measured o → ToldByRounds
+  pub told-by-rounds : (proxy_distance f p a ra b rb radii pair c).answer ≡ Ok o → ToldByRounds
   unfolding proxy_distance measure
   told-by-rounds answered = go (distance_refusal f p a ra b rb pair c) (λ h. h) answered
     where
-      go : (n : ℕ) → (n ≡ 0 → distance_refusal f p a ra b rb pair c ≡ 0) → (distance_by f p a ra b rb radii pair c n).answer ≡ Measured o → ToldByRounds
+      go : (n : ℕ) → (n ≡ 0 → distance_refusal f p a ra b rb pair c ≡ 0) → (distance_by f p a ra b rb radii pair c n).answer ≡ Ok o → ToldByRounds
       go zero none is =
           let r = rounds f a b p c in
           let w = witness_points f r.simplex r.count in
@@ -47,5 +48,5 @@ module _ (f : Format) (p : Pose) (a : List Float) (ra : Float) (b : List Float) 
           }
       go (suc n) none is = absurd (refused is)
         where
-          refused : Refused (suc n) ≡ Measured o → ⊥
+          refused : Err (numbered (suc n)) ≡ Ok o → ⊥
           refused e = let z : ◌≡◌ {A = ℕ} 0 1 = cc in omega arith

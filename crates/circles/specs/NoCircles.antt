@@ -1,7 +1,7 @@
 -- No going round in circles. On squared paper, where a round of the distance call goes on and another follows, what the next solve keeps comes nearer
 -- to the origin, or it comes as near and that next round ends the call as settled. The lengths are exact: those of the nearest places of the kept
 -- vertices, by weights.
-use Rattle.std.specs.Prelude.{◌≡◌, ◌⊎◌, Bool, false, List, ℕ, suc, ◌+◌, ◌/◌, ◌<◌, length, Float}
+use Rattle.std.specs.Prelude.{◌≡◌, ◌⊎◌, Bool, false, List, ℕ, suc, ◌+◌, ◌/◌, ◌<◌, length, Float, Ok}
 use Rattle.std.specs.Float.{Format}
 use Rattle.integers.specs.Signed.{of_nat}
 use Rattle.model.specs.declared.Vector.{Vector}
@@ -13,7 +13,6 @@ use Rattle.model.specs.declared.Rounds.{Rounds}
 use Rattle.model.specs.declared.Ending.{Ending}
 use Rattle.model.specs.declared.Ending.TheVariants.{Settled}
 use Rattle.model.specs.declared.ProxyDistanceOutput.{ProxyDistanceOutput}
-use Rattle.model.specs.declared.DistanceAnswer.TheVariants.{Measured}
 use Rattle.model.specs.Ground.{origin}
 use Rattle.model.specs.Simplex.{slot, solve}
 use Rattle.model.specs.Distance.{held, touches, start_simplex, start_count, support_a, support_b, extended, max_iterations, rounds_from, proxy_distance}
@@ -90,7 +89,7 @@ abbrev pub NoCircles : Format → ℕ → Type 0
 NoCircles f bound =
     (p : Pose) (a : List Float) (ra : Float) (b : List Float) (rb : Float) (radii : Bool) (pair : ℕ) (c : SimplexCache)
     (paper : SquaredPaper bound p a b) (o : ProxyDistanceOutput)
-    → (proxy_distance f p a ra b rb radii pair c).answer ≡ Measured o
+    → (proxy_distance f p a ra b rb radii pair c).answer ≡ Ok o
     → (k : ℕ) (x : State) → Reaches f a b p c max_iterations (suc (suc k)) x → GoesOn f a b p x
     → Nearer f paper o.ending o.iterations x
 
@@ -99,7 +98,7 @@ abbrev pub NoCirclesWithin : Format → ℕ → Type 0
 NoCirclesWithin f bound =
     (p : Pose) (a : List Float) (ra : Float) (b : List Float) (rb : Float) (radii : Bool) (pair : ℕ) (c : SimplexCache)
     (paper : SquaredPaper bound p a b) (o : ProxyDistanceOutput)
-    → (proxy_distance f p a ra b rb radii pair c).answer ≡ Measured o
+    → (proxy_distance f p a ra b rb radii pair c).answer ≡ Ok o
     → (limit k : ℕ) (x : State) → Reaches f a b p c limit (suc (suc k)) x → GoesOn f a b p x
     → let whole = rounds_of f a b p limit (start f a b p c) in Nearer f paper whole.ending whole.iterations x
 

@@ -3,10 +3,24 @@
 //        .1                 a corner:   1 alone
 //       /  \                a side:     0 and 1, their weights by where the foot of the perpendicular lies
 //      0----2   + origin    a triangle: all three, where it holds the origin; else the side or the corner with the newest one that faces it
-use crate::vectors::{Place, difference, dot, perp, scaled, size, sum, turned, turned_back};
+use crate::vectors::{Place, difference, dot, perp, scaled, sum, turned, turned_back};
 
 // No search goes on for longer.
 const MOST_ROUNDS: u64 = 40;
+
+// A body's corners as floats, lent as two lists.
+#[derive(Clone, Copy)]
+pub struct Shape<'a> {
+    pub xs: &'a [f64],
+    pub ys: &'a [f64],
+}
+
+// The corners of both bodies.
+#[derive(Clone, Copy)]
+pub struct Shapes<'a> {
+    pub a: Shape<'a>,
+    pub b: Shape<'a>,
+}
 
 // How A and B are turned, and the centre of B seen from that of A.
 #[derive(Clone, Copy)]
@@ -24,7 +38,8 @@ pub struct Vertex {
     pub at: Place,
 }
 
-// The corners held, how many of them, and their weights; the way from the nearest place of A to that of B; whether there is none.
+// The corners held, how many of them, and their weights; the way from the nearest place of A to that of B; whether there is none. A corner that is not held
+// repeats the first with weight 0, so that whoever reads a grip off this need not ask how many there are: an enum of three cases would be no plainer.
 #[derive(Clone, Copy)]
 pub struct Near {
     pub count: u64,
@@ -38,28 +53,16 @@ pub struct Near {
     pub overlap: bool,
 }
 
-fn part(list: &[f64], i: usize) -> f64 {
-    if i < list.len() { list[i] } else { 0.0 }
-}
-
-fn corner(xs: &[f64], ys: &[f64], i: usize) -> Place {
+fn corner(shape: Shape<'_>, i: usize) -> Place {
     Place {
-        x: part(xs, i),
-        y: part(ys, i),
+        x: shape.xs.get(i).copied().unwrap_or(0.0),
+        y: shape.ys.get(i).copied().unwrap_or(0.0),
     }
 }
 
-fn vertex_of(
-    axs: &[f64],
-    ays: &[f64],
-    bxs: &[f64],
-    bys: &[f64],
-    pose: Pose,
-    i: usize,
-    j: usize,
-) -> Vertex {
-    let a = turned(pose.a, corner(axs, ays, i));
-    let b = turned(pose.b, corner(bxs, bys, j));
+fn vertex_of(shapes: Shapes<'_>, pose: Pose, i: usize, j: usize) -> Vertex {
+    let a = turned(pose.a, corner(shapes.a, i));
+    let b = turned(pose.b, corner(shapes.b, j));
     Vertex {
         i,
         j,
@@ -68,17 +71,15 @@ fn vertex_of(
 }
 
 // The corner that lies furthest along n, n being seen from the body.
-fn farthest(xs: &[f64], ys: &[f64], n: Place) -> usize {
+fn farthest(shape: Shape<'_>, n: Place) -> usize {
     let mut best: usize = 0;
-    let mut most = dot(n, corner(xs, ys, 0));
-    let mut i: usize = 1;
-    while i < xs.len() {
-        let along = dot(n, corner(xs, ys, i));
+    let mut most = dot(n, corner(shape, 0));
+    for i in 1..shape.xs.len() {
+        let along = dot(n, corner(shape, i));
         if along > most {
             most = along;
             best = i;
         }
-        i += 1;
     }
     best
 }
@@ -94,7 +95,7 @@ fn one(v: Vertex) -> Near {
         w1: 0.0,
         w2: 0.0,
         way,
-        overlap: (way.x == 0.0) & (way.y == 0.0),
+        overlap: way.x == 0.0 && way.y == 0.0,
     }
 }
 
@@ -128,46 +129,44 @@ fn three(u: Vertex, v: Vertex, w: Vertex) -> Near {
     let a = perp(v.at, w.at);
     let b = perp(w.at, u.at);
     let c = perp(u.at, v.at);
-    let left = (a >= 0.0) & (b >= 0.0) & (c >= 0.0);
-    let right = (a <= 0.0) & (b <= 0.0) & (c <= 0.0);
-    let some = (a != 0.0) | (b != 0.0) | (c != 0.0);
-    if (left | right) & some {
+    let left = a >= 0.0 && b >= 0.0 && c >= 0.0;
+    let right = a <= 0.0 && b <= 0.0 && c <= 0.0;
+    let some = a != 0.0 || b != 0.0 || c != 0.0;
+    if (left || right) && some {
         let way = Place { x: 0.0, y: 0.0 };
         return Near {
             count: 3,
             first: u,
             second: v,
             third: w,
-            w0: size(a),
-            w1: size(b),
-            w2: size(c),
+            w0: a.abs(),
+            w1: b.abs(),
+            w2: c.abs(),
             way,
             overlap: true,
         };
     }
     let from_u = dot(w.at, difference(w.at, u.at));
     let from_v = dot(w.at, difference(w.at, v.at));
-    if (from_u <= 0.0) & (from_v <= 0.0) {
+    if from_u <= 0.0 && from_v <= 0.0 {
         return one(w);
     }
     let faces = if a + b + c > 0.0 { b < 0.0 } else { b > 0.0 };
-    if (from_u > 0.0) & ((from_v <= 0.0) | faces) {
+    if from_u > 0.0 && (from_v <= 0.0 || faces) {
         return two(u, w);
     }
     two(w, v)
 }
 
 fn grown(s: Near, v: Vertex) -> Near {
-    let first = s.first;
-    let second = s.second;
     if s.count == 1 {
-        return two(first, v);
+        return two(s.first, v);
     }
-    three(first, second, v)
+    three(s.first, s.second, v)
 }
 
 fn holds(v: Vertex, i: usize, j: usize) -> bool {
-    (v.i == i) & (v.j == j)
+    v.i == i && v.j == j
 }
 
 // A start for a search that knows nothing.
@@ -180,56 +179,38 @@ pub fn nowhere() -> Near {
 }
 
 // The corners that another search ended with, where they stand now.
-fn started(axs: &[f64], ays: &[f64], bxs: &[f64], bys: &[f64], pose: Pose, from: Near) -> Near {
-    let f = from.first;
-    let v = vertex_of(axs, ays, bxs, bys, pose, f.i, f.j);
+fn started(shapes: Shapes<'_>, pose: Pose, from: Near) -> Near {
+    let v = vertex_of(shapes, pose, from.first.i, from.first.j);
     if from.count == 2 {
-        let g = from.second;
-        return two(v, vertex_of(axs, ays, bxs, bys, pose, g.i, g.j));
+        let w = vertex_of(shapes, pose, from.second.i, from.second.j);
+        return two(v, w);
     }
     one(v)
 }
 
-// What a round leaves, and whether there is nothing more to gain.
-#[derive(Clone, Copy)]
-struct Round {
-    near: Near,
-    done: bool,
-}
-
-fn next_round(axs: &[f64], ays: &[f64], bxs: &[f64], bys: &[f64], pose: Pose, near: Near) -> Round {
-    let way = near.way;
-    let first = near.first;
-    let second = near.second;
-    let i = farthest(axs, ays, turned_back(pose.a, way));
-    let j = farthest(bxs, bys, turned_back(pose.b, scaled(-1.0, way)));
-    let v = vertex_of(axs, ays, bxs, bys, pose, i, j);
+// What a round leaves, unless there is nothing more to gain.
+fn next_round(shapes: Shapes<'_>, pose: Pose, near: Near) -> Option<Near> {
+    let i = farthest(shapes.a, turned_back(pose.a, near.way));
+    let j = farthest(shapes.b, turned_back(pose.b, scaled(-1.0, near.way)));
+    let v = vertex_of(shapes, pose, i, j);
     if near.overlap
-        | holds(first, i, j)
-        | holds(second, i, j)
-        | (dot(way, v.at) >= dot(way, first.at))
+        || holds(near.first, i, j)
+        || holds(near.second, i, j)
+        || dot(near.way, v.at) >= dot(near.way, near.first.at)
     {
-        return Round { near, done: true };
+        return None;
     }
-    let next = grown(near, v);
-    Round {
-        near: next,
-        done: false,
-    }
+    Some(grown(near, v))
 }
 
 // The nearest places of two outlines, from the corners of another search on.
-pub fn nearest(axs: &[f64], ays: &[f64], bxs: &[f64], bys: &[f64], pose: Pose, from: Near) -> Near {
-    let mut near = started(axs, ays, bxs, bys, pose, from);
-    let mut round: u64 = 0;
-    while round < MOST_ROUNDS {
-        let next = next_round(axs, ays, bxs, bys, pose, near);
-        let better = next.near;
-        if next.done {
-            return better;
-        }
-        near = better;
-        round += 1;
+pub fn nearest(shapes: Shapes<'_>, pose: Pose, from: Near) -> Near {
+    let mut near = started(shapes, pose, from);
+    for _ in 0..MOST_ROUNDS {
+        let Some(next) = next_round(shapes, pose, near) else {
+            return near;
+        };
+        near = next;
     }
     near
 }

@@ -6,6 +6,6 @@ mod gjk;
 mod proposal;
 mod vectors;
 
-pub use gjk::{Near, Pose, Vertex, nearest, nowhere};
+pub use gjk::{Near, Pose, Shape, Shapes, Vertex, nearest, nowhere};
 pub use proposal::{Course, Stand, course_of, grip_of, propose, stand_at};
 pub use vectors::{Place, floats};

@@ -1,9 +1,9 @@
 // What the check is shown: at a moment weights on corners, over a piece an axis at each end and what lengthens each heading.
 ghost use Rattle.std.specs.Prelude.{◌≤◌};
 
-use crate::gjk::{Near, Pose, nearest};
+use crate::gjk::{Near, Pose, Shapes, nearest};
 use crate::vectors::{
-    Place, difference, dot, inverse_root, place_of, scaled, size, sum, whole, whole_vector,
+    Place, difference, dot, inverse_root, place_of, scaled, sum, whole, whole_vector,
 };
 use board::{GridJob, Grip, Proposal, Vector};
 
@@ -42,13 +42,11 @@ struct Lengths {
 
 // What the search reads of a job.
 pub fn course_of(job: GridJob) -> Course {
-    let a = job.a;
-    let b = job.b;
     Course {
-        first_a: place_of(a.q1),
-        last_a: place_of(a.q2),
-        first_b: place_of(b.q1),
-        last_b: place_of(b.q2),
+        first_a: place_of(job.a.q1),
+        last_a: place_of(job.a.q2),
+        first_b: place_of(job.b.q1),
+        last_b: place_of(job.b.q2),
         first: place_of(job.d1),
         last: place_of(job.d2),
     }
@@ -69,15 +67,7 @@ fn unit(h: Place, l: f64) -> Place {
     scaled(l / 1073741824.0, h)
 }
 
-pub fn stand_at(
-    axs: &[f64],
-    ays: &[f64],
-    bxs: &[f64],
-    bys: &[f64],
-    c: Course,
-    k: u64,
-    from: Near,
-) -> Stand {
+pub fn stand_at(shapes: Shapes<'_>, c: Course, k: u64, from: Near) -> Stand {
     let t = std::num::nearest_u64_to_f64(k) / 16777216.0;
     let heading_a = along(c.first_a, c.last_a, t);
     let heading_b = along(c.first_b, c.last_b, t);
@@ -89,7 +79,7 @@ pub fn stand_at(
         b: unit(heading_b, length_b),
         d: centre,
     };
-    let near = nearest(axs, ays, bxs, bys, pose, from);
+    let near = nearest(shapes, pose, from);
     Stand {
         k,
         heading_a,
@@ -105,6 +95,7 @@ fn disc() -> Lengths {
     Lengths { l0: 0, l1: 0 }
 }
 
+// Not std's `min` and `max`, which choose otherwise where one of the two is no number.
 fn lower(a: f64, b: f64) -> f64 {
     if a < b { a } else { b }
 }
@@ -116,13 +107,13 @@ fn upper(a: f64, b: f64) -> f64 {
 // Lengtheners of both ends, times one factor that puts the five coefficients of the squared length as far above 1 as below it; a disc where the
 // check would refuse them.
 fn lengths_of(h0: Place, h1: Place, r0: f64, r1: f64) -> Lengths {
-    if (r0 == 0.0) | (r1 == 0.0) {
+    if r0 == 0.0 || r1 == 0.0 {
         return disc();
     }
     let p = unit(h0, r0);
     let q = unit(h1, r1);
     let t = scaled(0.5, sum(unit(h1, r0), unit(h0, r1)));
-    if (size(t.x) > 1.125) | (size(t.y) > 1.125) {
+    if t.x.abs() > 1.125 || t.y.abs() > 1.125 {
         return disc();
     }
     let c0 = dot(p, p);
@@ -146,7 +137,7 @@ fn lengths_of(h0: Place, h1: Place, r0: f64, r1: f64) -> Lengths {
 // An axis along the way between two nearest places, just below 2^28 long.
 fn axis(n: Near) -> Vector {
     let way = n.way;
-    let top = upper(size(way.x), size(way.y));
+    let top = upper(way.x.abs(), way.y.abs());
     if top == 0.0 {
         return whole_vector(way);
     }
@@ -158,38 +149,29 @@ fn axis(n: Near) -> Vector {
 }
 
 // The axis of an end of a piece, over which a body without a lengthener counts as a disc.
-fn axis_at(
-    axs: &[f64],
-    ays: &[f64],
-    bxs: &[f64],
-    bys: &[f64],
-    s: Stand,
-    disc_a: bool,
-    disc_b: bool,
-) -> Vector {
+fn axis_at(shapes: Shapes<'_>, s: Stand, disc_a: bool, disc_b: bool) -> Vector {
     let near = s.near;
-    if !(disc_a | disc_b) {
+    if !(disc_a || disc_b) {
         return axis(near);
     }
     let la = if disc_a { 0.0 } else { s.length_a };
     let lb = if disc_b { 0.0 } else { s.length_b };
-    let d = s.centre;
     let pose = Pose {
         a: unit(s.heading_a, la),
         b: unit(s.heading_b, lb),
-        d,
+        d: s.centre,
     };
-    axis(nearest(axs, ays, bxs, bys, pose, near))
+    axis(nearest(shapes, pose, near))
 }
 
 // For the piece between two moments.
-pub fn propose(axs: &[f64], ays: &[f64], bxs: &[f64], bys: &[f64], s: Stand, t: Stand) -> Proposal {
+pub fn propose(shapes: Shapes<'_>, s: Stand, t: Stand) -> Proposal {
     let a = lengths_of(s.heading_a, t.heading_a, s.length_a, t.length_a);
     let b = lengths_of(s.heading_b, t.heading_b, s.length_b, t.length_b);
     let disc_a = a.l0 == 0;
     let disc_b = b.l0 == 0;
-    let n0 = axis_at(axs, ays, bxs, bys, s, disc_a, disc_b);
-    let n1 = axis_at(axs, ays, bxs, bys, t, disc_a, disc_b);
+    let n0 = axis_at(shapes, s, disc_a, disc_b);
+    let n1 = axis_at(shapes, t, disc_a, disc_b);
     Proposal {
         a0: a.l0,
         a1: a.l1,
@@ -204,26 +186,22 @@ pub fn propose(axs: &[f64], ays: &[f64], bxs: &[f64], bys: &[f64], s: Stand, t: 
 fn weight(w: f64, all: f64, left: u64) -> u64
     ensures { result ≤ left }
 {
-    let share = whole(w / all * 268435456.0);
-    if share > left { left } else { share }
+    whole(w / all * 268435456.0).min(left)
 }
 
 // For the moment itself.
 pub fn grip_of(s: Stand) -> Grip {
     let near = s.near;
-    let u = near.first;
-    let v = near.second;
-    let w = near.third;
     let all = near.w0 + near.w1 + near.w2;
     let w1 = weight(near.w1, all, 268435456);
     let w2 = weight(near.w2, all, 268435456 - w1);
     Grip {
-        i0: u.i,
-        i1: v.i,
-        i2: w.i,
-        j0: u.j,
-        j1: v.j,
-        j2: w.j,
+        i0: near.first.i,
+        i1: near.second.i,
+        i2: near.third.i,
+        j0: near.first.j,
+        j1: near.second.j,
+        j2: near.third.j,
         w0: 268435456 - w1 - w2,
         w1,
         w2,

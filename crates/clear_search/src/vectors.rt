@@ -55,18 +55,13 @@ pub fn turned_back(q: Place, n: Place) -> Place {
     }
 }
 
-pub fn size(x: f64) -> f64 {
-    if x < 0.0 { -x } else { x }
-}
-
 // The whole part; 0 for what is not above -1 or has no place in 64 bits.
 pub fn whole(x: f64) -> u64 {
-    if -1.0 < x {
-        if x < 18446744073709551616.0 {
-            return std::num::truncating_f64_to_u64(x);
-        }
+    if -1.0 < x && x < 18446744073709551616.0 {
+        std::num::truncating_f64_to_u64(x)
+    } else {
+        0
     }
-    0
 }
 
 fn number(a: Pair) -> f64 {
@@ -111,24 +106,13 @@ fn corrected(x: f64, y: f64) -> f64 {
     y * (1.5 - 0.5 * x * y * y)
 }
 
-// A part of a corner, which stands in its list 2^29 above itself; 0 where there is none.
-fn part(list: &[u64], i: usize) -> f64 {
-    if i < list.len() {
-        std::num::nearest_u64_to_f64(list[i]) - 536870912.0
-    } else {
-        0.0
-    }
-}
-
-// The parts of up to 64 corners.
+// The parts of up to 64 corners, each of which stands in its list 2^29 above itself; 0 where there is none.
 pub fn floats(list: &[u64]) -> [f64; 64]
     ensures { length result ≡ 64 }
 {
     let mut out = [0.0f64; 64];
-    let mut i: usize = 0;
-    while i < 64 {
-        out[i] = part(list, i);
-        i += 1;
+    for (part, raised) in out.iter_mut().zip(list) {
+        *part = std::num::nearest_u64_to_f64(*raised) - 536870912.0;
     }
     out
 }

@@ -1,10 +1,9 @@
 -- What is said of a block's whole move. Which of two sound answers comes is the search's, so this is a promise: an answer that came is one of those allowed.
-use Rattle.std.specs.Prelude.{◌≡◌, ℕ, Bool, true, false, List, [], ◌∷◌, eqb, length}
+use Rattle.std.specs.Prelude.{◌≡◌, ℕ, Bool, true, false, List, [], ◌∷◌, eqb, length, Result, Ok, Err}
 use Rattle.std.specs.Float.{binary32}
 use Rattle.std.specs.Float.Ieee.{of_bits}
 use Rattle.model.specs.declared.Block.{Block}
-use Rattle.model.specs.declared.CheckedBlock.{CheckedBlock}
-use Rattle.model.specs.declared.CheckedBlock.TheVariants.{Good, Refused}
+use Rattle.model.specs.declared.BlockRefusal.{BlockRefusal}
 use Rattle.model.specs.Block.{block_size, checked_block}
 use Rattle.model.specs.Work.{points_a, points_b, numbers_of}
 use Rattle.clearance_call.specs.declared.Cleared.TheVariants as cleared
@@ -20,9 +19,9 @@ pub record Looked (b : List ℕ) (k : Block) (a : BlockCleared) : Type 0 where
   pub told : Told (points_a b k) (points_b b k) (numbers_of b) (of_bits binary32 0) a.answer
 
 -- a block that did not pass is refused as on the sheet
-abbrev pub AnswerBy : List ℕ → CheckedBlock → BlockCleared → Type 0
-AnswerBy b (Good k) a = Looked b k a
-AnswerBy b (Refused job number) a = a ≡ refused_block job number
+abbrev pub AnswerBy : List ℕ → Result Block BlockRefusal → BlockCleared → Type 0
+AnswerBy b (Ok k) a = Looked b k a
+AnswerBy b (Err r) a = a ≡ refused_block r.job r.number
 
 -- by whether it has all its bytes
 abbrev pub AnswerIf : Bool → List ℕ → BlockCleared → Type 0

@@ -7,7 +7,7 @@ ghost use Rattle.clearance_block.specs.Answer.{refused_block, Looked, AnswerBy, 
 
 use block_floats::floats_at;
 use clearance_call::{Cleared, clearance};
-use model::{Block, CheckedBlock};
+use model::Block;
 
 // What a block comes to: its job, 0 where none can be told, and the answer.
 #[derive(Clone, Copy)]
@@ -42,8 +42,8 @@ fn look_checked(part: &[u8]) -> BlockCleared
 {
     let checked = block::check_block(part);
     match checked {
-        CheckedBlock::Good(k) => look_along(part, k),
-        CheckedBlock::Refused(job, number) => refused(job, number),
+        Ok(k) => look_along(part, k),
+        Err(refusal) => refused(refusal.job, refusal.number),
     }
 }
 

@@ -21,8 +21,8 @@ use Rattle.whole_way.specs.Mover.{share}
 use Rattle.planned.specs.Planned.{worth_of, fraction_of, end, Open}
 use Rattle.clearance_verdict.specs.declared.Answer.{Answer}
 use Rattle.clearance_verdict.specs.declared.Answer.TheVariants as answer
-use Rattle.clearance_job.specs.declared.Verdict.{Verdict}
-use Rattle.clearance_job.specs.Promise.{Promised, Counted, Given}
+use Rattle.clearance_job.specs.Promise.{Promised, Counted}
+use Rattle.clearance_call.specs.declared.Cleared.TheVariants as cleared
 use Rattle.clearance_call.specs.Call.{from_refusal, refusal_of, cleared_by, Answered, Told}
 use Rattle.clearance_call.proofs.Order.{Some, both, le-worth, some-between}
 
@@ -93,18 +93,14 @@ module _ (points_a points_b numbers : List Float) (from : Float) (passed : refus
     answered (answer.Touch u t n) h k = record { passed = passed; holds = h; whole = k.0; few = k.1 }
     answered (answer.Open u n) h k = record { passed = passed; holds = record { says = h; tried = λ e. k.1 }; whole = k.0; few = k.2 }
 
-    pub told : (v : Verdict) → Given points_a points_b numbers from v → (length numbers ≡ 24 → v.settled ≡ true)
-        → Told points_a points_b numbers from (cleared_by v.answer)
-    told v h sure = go v.settled h.says h.silent sure
-      where
-        go : (s : Bool) → (s ≡ true → Promised points_a points_b numbers from v.answer × Counted v.answer) → (s ≡ false → v.answer ≡ answer.Open 0 0)
-            → (length numbers ≡ 24 → s ≡ true) → Told points_a points_b numbers from (cleared_by v.answer)
-        go true says silent sure = answered v.answer (says refl).0 (says refl).1
-        go false says silent sure =
-            subst (λ (a : Answer). Told points_a points_b numbers from (cleared_by a)) (sym (silent refl))
-            (record {
-              passed = passed;
-              holds = record { says = nothing_said; tried = λ e. absurd (false≢true (sure e)) };
-              whole = omega arith;
-              few = omega arith;
-            })
+    pub told : (a : Answer) → Promised points_a points_b numbers from a × Counted a → Told points_a points_b numbers from (cleared_by a)
+    told a h = answered a h.0 h.1
+
+    -- where there is no verdict
+    pub untold : (length numbers ≡ 24 → ⊥) → Told points_a points_b numbers from (cleared.Open 0 0)
+    untold short = record {
+      passed = passed;
+      holds = record { says = nothing_said; tried = λ e. absurd (short e) };
+      whole = omega arith;
+      few = omega arith;
+    }

@@ -1,20 +1,21 @@
 // A look at a planned move that a caller hands in as lists of numbers: what is out of the domain is refused as the sweep refuses it, all else gets its verdict.
 #![tactic(auto)]
 
-ghost use Rattle.std.specs.Prelude.{true, false, ◌≡◌, ◌+◌, ◌≤◌, length};
+ghost use Rattle.std.specs.Prelude.{◌≡◌, ◌≤◌, length, IsSome};
 ghost use Rattle.std.specs.Float.{binary32};
 ghost use Rattle.model.specs.Domain as Domain;
-ghost use Rattle.model.specs.Work as Work;
 ghost use Rattle.clearance_job.specs.Promise.{Given};
 ghost use Rattle.clearance_call.specs.Call.{from_refusal, refusal_by, refusal_of, cleared_by, Told};
 
-use clearance_job::{Verdict, settle_lists};
+use clearance_job::settle_lists;
 use clearance_verdict::Answer;
 use domain::{check_fraction, check_pair, check_slop, check_sweeps, refusal};
-use model::{Checked, Rotation, Sweep, Vector};
+use model::{BAD_FRACTION, Refusal, Sweep, Vector};
 use outline::point;
+use sweep_numbers::move_at;
 
-// Places are in 2^24-ths of the way.
+// Places are in 2^24-ths of the way. The three answers of a verdict stand beside the refusal, and not within one case, so that a caller takes all four apart
+// in one `match`.
 #[derive(Clone, Copy)]
 pub enum Cleared {
     Refused(u32),
@@ -33,38 +34,13 @@ pub enum Cleared {
 }
 
 // A start from 0 to the max fraction: 7.
-fn check_from(from: f32, end: f32) -> Checked
+fn check_from(from: f32, end: f32) -> Result<(), Refusal>
     ensures { result ≡ Domain.checked (from_refusal from end) }
 {
     if (from >= 0.0) & (from <= end) {
-        Checked::Passed
+        Ok(())
     } else {
-        Checked::Refused(7)
-    }
-}
-
-fn turn(v: Vector) -> Rotation
-    ensures { result ≡ Work.turn v }
-{
-    Rotation { c: v.x, s: v.y }
-}
-
-// The move of the five pairs from pair i on.
-fn move_at(numbers: &[f32], i: u32) -> Sweep
-    requires { i ≤ 7 }
-    ensures { result ≡ Work.move_at numbers.now i }
-{
-    let local_center = point(numbers, i);
-    let c1 = point(numbers, i + 1);
-    let c2 = point(numbers, i + 2);
-    let q1 = turn(point(numbers, i + 3));
-    let q2 = turn(point(numbers, i + 4));
-    Sweep {
-        local_center,
-        c1,
-        c2,
-        q1,
-        q2,
+        Err(BAD_FRACTION)
     }
 }
 
@@ -81,19 +57,19 @@ fn refusal_by(
     ensures { result ≡ refusal_by points_a.now points_b.now radii limits move_a move_b from }
 {
     let pair = check_pair(points_a, points_b, radii.x, radii.y);
-    let Checked::Passed = pair else {
+    let Ok(()) = pair else {
         return refusal(pair);
     };
     let sweeps = check_sweeps(move_a, move_b);
-    let Checked::Passed = sweeps else {
+    let Ok(()) = sweeps else {
         return refusal(sweeps);
     };
     let fraction = check_fraction(limits.x);
-    let Checked::Passed = fraction else {
+    let Ok(()) = fraction else {
         return refusal(fraction);
     };
     let start = check_from(from, limits.x);
-    let Checked::Passed = start else {
+    let Ok(()) = start else {
         return refusal(start);
     };
     refusal(check_slop(limits.y))
@@ -110,20 +86,14 @@ pub fn refusal_of(points_a: &[f32], points_b: &[f32], numbers: &[f32], from: f32
     refusal_by(points_a, points_b, radii, limits, move_a, move_b, from)
 }
 
-fn at_most_64(n: usize) -> usize
-    ensures { (result ≤ 64) × (n ≤ 64 → result ≡ n) }
-{
-    if n < 64 { n } else { 64 }
-}
-
 // The verdict, in room of its own.
-fn look(points_a: &[f32], points_b: &[f32], numbers: &[f32], from: f32) -> Verdict
+fn look(points_a: &[f32], points_b: &[f32], numbers: &[f32], from: f32) -> Option<Answer>
     ensures { Given points_a.now points_b.now numbers.now from result
         × (refusal_of points_a.now points_b.now numbers.now from ≡ 0
-        → length numbers.now ≡ 24 → result.settled ≡ true) }
+        → length numbers.now ≡ 24 → IsSome result) }
 {
-    let na = at_most_64(points_a.len() / 2);
-    let nb = at_most_64(points_b.len() / 2);
+    let na = (points_a.len() / 2).min(64);
+    let nb = (points_b.len() / 2).min(64);
     let mut axs = [0u64; 64];
     let mut ays = [0u64; 64];
     let mut bxs = [0u64; 64];
@@ -172,7 +142,11 @@ pub fn clearance(points_a: &[f32], points_b: &[f32], numbers: &[f32], from: f32)
     if number > 0 {
         return Cleared::Refused(number);
     }
-    let verdict = look(points_a, points_b, numbers, from);
-    let answer = verdict.answer;
-    handed_on(answer)
+    match look(points_a, points_b, numbers, from) {
+        Some(answer) => handed_on(answer),
+        None => Cleared::Open {
+            clear_up_to: 0,
+            pieces: 0,
+        },
+    }
 }

@@ -1,9 +1,9 @@
 -- From the grid's numbers to the job's own. Assumes nothing.
 use mathlib.Core.Path.{◌≡◌, refl, sym, ap, ◌∙◌, subst}
-use mathlib.Core.Bool.{Bool, true, false, not, true≢false}
+use mathlib.Core.Bool.{Bool, true, false, not}
 use mathlib.Core.Logic.{◌⊎◌, inl, inr}
 use mathlib.Core.List.{List}
-use Prim.Native.Nat.{ℕ, ◌+◌, ◌*◌, ◌%◌, ◌^◌, ◌≤◌, ◌<◌}
+use Prim.Native.Nat.{ℕ, max, ◌+◌, ◌*◌, ◌%◌, ◌^◌, ◌≤◌, ◌<◌}
 use native.Mathlib.Nat.{lt_of_mul-lt-mul_right, add-mul}
 use native.Mathlib.Omega.{arith}
 use borrow.Author.Tests.{lt-leb}
@@ -25,11 +25,10 @@ use Rattle.planned.proofs.Laws.{clear-between, away-up-to}
 use Rattle.grid_job.specs.Placing.{OnBoard, FractionUp, FractionDown}
 use Rattle.grid_job.proofs.Laws.{size-most}
 use Rattle.clearance_verdict.specs.Verdict.{Span, ClearUpTo, Settled}
+use Rattle.clearance_verdict.specs.declared.Stretch.{Stretch}
 use Rattle.clearance_verdict.specs.declared.Answer.{Answer}
 use Rattle.clearance_verdict.specs.declared.Answer.TheVariants as answer
-use Rattle.clearance_job.specs.declared.Part.{Part}
-use Rattle.clearance_job.specs.declared.Verdict.{Verdict}
-use Rattle.clearance_job.specs.Promise.{Ended, Ranged, Started, Asked, Promised, Counted, Heard}
+use Rattle.clearance_job.specs.Promise.{Ended, Ranged, Started, Asked, Promised, Counted}
 use Rattle.clearance_job.proofs.Patterns.{fraction-worth}
 
 -- a zero with a sign is worth as much as one without
@@ -38,7 +37,7 @@ unfolding of_bits to_bits size
 plain-zero x e = (ap value (sym e), refl)
 
 -- the same of a move that is told by numbers of the same worth
-pub asked_by : (x y from end : Float) (part : Part) → worth_of x ≡ worth_of from → worth_of y ≡ worth_of end → Asked x y part → Asked from end part
+pub asked_by : (x y from end : Float) (part : Stretch) → worth_of x ≡ worth_of from → worth_of y ≡ worth_of end → Asked x y part → Asked from end part
 asked_by x y from end part e f h = record {
   span = h.span;
   starts = rw e at h.starts;
@@ -93,11 +92,18 @@ in_order : (y z : Int) → y ≼ z → y ⊠ of_nat 16777216 ≼ z ⊠ of_nat 16
 unfolding ◌⊠◌
 in_order y z h = omega arith
 
-pub ended_by : (first up : ℕ) (end : Float) → first < up → FractionUp end up → Ended first end up
+ended_by : (first up : ℕ) (end : Float) → first < up → FractionUp end up → Ended first end up
 ended_by first up end l h = record { ends = up_by end up h; after = l; near = λ m. inl (h.near m) }
 
-pub ended-past : (first up : ℕ) (end : Float) → up ≤ first → FractionUp end up → Ended first end (first + 1)
+ended-past : (first up : ℕ) (end : Float) → up ≤ first → FractionUp end up → Ended first end (first + 1)
 ended-past first up end l h = record { ends = past_by end up (first + 1) h (omega arith); after = omega arith; near = λ m. inr (omega arith) }
+
+pub ended_at : (first up r : ℕ) (end : Float) → FractionUp end up → r ≡ max up (first + 1) → Ended first end r
+ended_at first up r end h e = go (le-or-lt up first)
+  where
+    go : (up ≤ first) ⊎ (first < up) → Ended first end r
+    go (inl l) = subst (λ (n : ℕ). Ended first end n) (omega (arith, e)) (ended-past first up end l h)
+    go (inr l) = subst (λ (n : ℕ). Ended first end n) (omega (arith, e)) (ended_by first up end l h)
 
 module _ (from end : Float) (down first low high : ℕ) (h : Started from end) (d : FractionDown from down) (f : first ≤ down) (g : first < 16777216)
     (l : FractionDown end low) (e : Ended first end high) where
@@ -140,7 +146,7 @@ module _ (from end : Float) (down first low high : ℕ) (h : Started from end) (
       go (inr m) = omega (arith, first-low)
 
 -- ---- the promise
-module _ (points_a points_b numbers : List Float) (from : Float) (job : GridJob) (axs ays bxs bys : List ℕ) (part : Part)
+module _ (points_a points_b numbers : List Float) (from : Float) (job : GridJob) (axs ays bxs bys : List ℕ) (part : Stretch)
     (on : OnBoard points_a points_b numbers job axs ays bxs bys) (asked : Asked from (point numbers 1).x part) where
   ends : end points_a points_b numbers ≤ᶠ share 16777216 part.high
   ends = omega (arith, asked.ends, ⊠-comm (worth_of (point numbers 1).x) (of_nat 16777216), ⊠-comm (of_nat part.high) (of_nat unit))
@@ -201,7 +207,3 @@ started numbers from v p q e hp hq h =
       ends = hq.1 (omega (arith, r.least, r.order)) r.most;
       order = rw (hp.0, hq.0) r.order;
     }
-
--- ---- of a job that could not be settled
-pub unheard : (Said : Answer → Type 0) (v : Verdict) → (v.settled ≡ false) × (v.answer ≡ answer.Open 0 0) → Heard Said v
-unheard Said v h = record { says = λ e. absurd (true≢false (sym e ∙ h.0)); silent = λ e. h.1 }

@@ -1,5 +1,5 @@
 -- What the verdict on a job says, over the job's own numbers.
-use Rattle.std.specs.Prelude.{◌≡◌, true, false, List, ℕ, ◌+◌, ◌≤◌, ◌<◌, Float, ◌⊎◌}
+use Rattle.std.specs.Prelude.{List, Option, ℕ, ◌+◌, ◌≤◌, ◌<◌, Float, ◌⊎◌, IfSome}
 use Rattle.std.specs.Float.{binary32}
 use Rattle.std.specs.Float.Ieee.{to_bits}
 use Rattle.integers.specs.Signed.{0Int, of_nat, ◌⊞◌, ◌⊠◌, ◌≼◌, ◌≺◌}
@@ -8,10 +8,9 @@ use Rattle.planned.specs.Planned.{worth_of, Clear, Touch, Open}
 use Rattle.model.specs.Support.{point}
 use Rattle.board.specs.declared.GridJob.{GridJob}
 use Rattle.clearance_verdict.specs.Verdict.{Span, Settled}
+use Rattle.clearance_verdict.specs.declared.Stretch.{Stretch}
 use Rattle.clearance_verdict.specs.declared.Answer.{Answer}
 use Rattle.clearance_verdict.specs.declared.Answer.TheVariants as answer
-use Rattle.clearance_job.specs.declared.Part.{Part}
-use Rattle.clearance_job.specs.declared.Verdict.{Verdict}
 
 -- r 2^24-ths are not less than a fraction up to 1
 abbrev pub NotBefore : Float → ℕ → Type 0
@@ -35,7 +34,7 @@ pub record Started (from end : Float) : Type 0 where
   pub ends : to_bits binary32 end ≤ 1065353216
   pub order : worth_of from ≼ worth_of end
 
-pub record Asked (from end : Float) (r : Part) : Type 0 where
+pub record Asked (from end : Float) (r : Stretch) : Type 0 where
   pub span : Span r.from r.low r.high
   pub starts : of_nat r.from ⊠ of_nat unit ≼ worth_of from ⊠ of_nat 16777216
   pub within : of_nat r.low ⊠ of_nat unit ≼ worth_of end ⊠ of_nat 16777216
@@ -43,7 +42,7 @@ pub record Asked (from end : Float) (r : Part) : Type 0 where
 
 -- what the loop says of the job on the board, over the part that was asked for
 pub record Spoken (numbers : List Float) (from : Float) (job : GridJob) (axs ays bxs bys : List ℕ) (a : Answer) : Type 0 where
-  pub part : Part
+  pub part : Stretch
   pub asked : Asked from (point numbers 1).x part
   pub settled : Settled job part.from part.low part.high axs ays bxs bys a
 
@@ -58,10 +57,9 @@ Counted (answer.Clear n) = n ≤ 4096
 Counted (answer.Touch u t n) = (t ≤ 16777216) × (n ≤ 4096)
 Counted (answer.Open u n) = (u ≤ 16777216) × (0 < n) × (n ≤ 4096)
 
--- an answer of which something is said, or none: then it is OPEN at 0, and no piece was tried
-pub record Heard (Said : Answer → Type 0) (v : Verdict) : Type 0 where
-  pub says : v.settled ≡ true → Said v.answer
-  pub silent : v.settled ≡ false → v.answer ≡ answer.Open 0 0
+-- an answer of which something is said, or none
+abbrev pub Heard : (Said : Answer → Type 0) → Option Answer → Type 0
+Heard Said v = IfSome v Said
 
-abbrev pub Given : (points_a points_b numbers : List Float) (from : Float) → Verdict → Type 0
+abbrev pub Given : (points_a points_b numbers : List Float) (from : Float) → Option Answer → Type 0
 Given points_a points_b numbers from = Heard (λ a. Promised points_a points_b numbers from a × Counted a)

@@ -2,23 +2,23 @@
 -- open those with O, refused those without a fourth field, a short rest's among them. Assumes nothing.
 use mathlib.Core.Path.{◌≡◌, refl, ap, ◌∙◌}
 use mathlib.Core.List.{List, [], ◌∷◌, ◌++◌}
-use Prim.Native.Nat.{ℕ, suc, ◌+◌, ◌≤◌}
+use Prim.Native.Nat.{ℕ, suc, ◌+◌}
 use native.Mathlib.Omega.{arith}
 use borrow.Author.Tests.{ne_eqb}
 use lib.Ieee.{binary32}
 use lib.ListN.{length}
-use Rattle.model.specs.declared.BlockAnswer.TheVariants as sheet
 use Rattle.model.specs.declared.Totals.{Totals}
 use Rattle.model.specs.Text.{decimal, line}
 use Rattle.model.specs.Parts.{together}
-use Rattle.model.specs.Sheet.{refused_line, none, total_line}
+use Rattle.model.specs.Sheet.{refused_line, none}
 use Rattle.model.specs.Counted.{after_blanks, printed_letter, how_many}
+use Rattle.model.specs.Block.{refused}
 use Rattle.model.proofs.Counted.{letter-printed}
 use Rattle.text.proofs.ReadBack.{Digits, decimal-digits}
 use Rattle.clearance_call.specs.declared.Cleared.{Cleared}
 use Rattle.clearance_call.specs.declared.Cleared.TheVariants.{Refused, Clear, Touch, Open}
 use Rattle.clearance_block.specs.declared.BlockCleared.{BlockCleared}
-use Rattle.clearance_lines.specs.Lines.{fields_of, line_of, lines_from, counted, totals_from, text_of}
+use Rattle.clearance_lines.specs.Lines.{fields_of, line_of, lines_from, counted, totals_from}
 use Rattle.clearance_lines.specs.Counted.{letter_told, lines_one_by_one, CountedOn, TextCounted}
 
 -- ---- the letter of a line
@@ -34,7 +34,7 @@ behind-three n job r = past-field 2 (decimal n) _ (decimal-digits 20 n) ∙ past
 
 told-letter : (n job : ℕ) (x : Cleared) → printed_letter (line (decimal n ∷ decimal job ∷ fields_of x)) ≡ letter_told x
 unfolding line refused_line
-told-letter n job (Refused number) = letter-printed binary32 n (sheet.Refused job number)
+told-letter n job (Refused number) = letter-printed binary32 n (refused job number)
 told-letter n job (Clear pieces) = rw (behind-three n job _)
 told-letter n job (Touch u t pieces) = rw (behind-three n job _)
 told-letter n job (Open u pieces) = rw (behind-three n job _)

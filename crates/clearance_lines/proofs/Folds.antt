@@ -1,7 +1,7 @@
 -- Answers in two parts: their lines, their totals, and what they answer. Every block is clear, touching, open or refused. Assumes nothing.
-use mathlib.Core.Path.{◌≡◌, refl, sym, ap, ◌∙◌}
+use mathlib.Core.Path.{◌≡◌, refl, sym, ap}
 use mathlib.Core.List.{List, [], ◌∷◌, ◌++◌, append_assoc}
-use Prim.Native.Nat.{ℕ, suc, ◌+◌, ◌≤◌}
+use Prim.Native.Nat.{ℕ, suc, ◌+◌}
 use native.Mathlib.Omega.{arith}
 use lib.ListN.{length}
 use Rattle.model.specs.declared.Totals.{Totals}
@@ -9,7 +9,7 @@ use Rattle.model.proofs.Sheet.{Sums}
 use Rattle.clearance_call.specs.declared.Cleared.{Cleared}
 use Rattle.clearance_call.specs.declared.Cleared.TheVariants.{Refused, Clear, Touch, Open}
 use Rattle.clearance_block.specs.declared.BlockCleared.{BlockCleared}
-use Rattle.clearance_block.specs.Answer.{AnswerOf, AnswersOf}
+use Rattle.clearance_block.specs.Answer.{AnswersOf}
 use Rattle.clearance_lines.specs.Lines.{line_of, lines_from, counted, totals_from}
 
 pub lines-append : (n : ℕ) (xs ys : List BlockCleared) → lines_from n (xs ++ ys) ≡ lines_from n xs ++ lines_from (n + length xs) ys

@@ -1,8 +1,8 @@
 -- Blocks worked one after the other, what there is room for, and that no count overflows. Assumes nothing.
-use mathlib.Core.Path.{◌≡◌, refl, sym, ap, ◌∙◌}
-use mathlib.Core.Bool.{Bool, true, false, ◌&&◌, cond, true≢false}
+use mathlib.Core.Path.{◌≡◌, refl, sym, ◌∙◌}
+use mathlib.Core.Bool.{true, false, ◌&&◌, true≢false}
 use mathlib.Core.List.{List, [], ◌∷◌, ◌++◌, append-nil}
-use Prim.Native.Nat.{ℕ, suc, ◌+◌, ◌-◌, ◌*◌, ◌/◌, ◌%◌, ◌≤◌, ◌<◌}
+use Prim.Native.Nat.{ℕ, ◌+◌, ◌-◌, ◌*◌, ◌/◌, ◌%◌, ◌≤◌, ◌<◌}
 use native.Mathlib.Omega.{arith}
 use native.Mathlib.Numerals.{add-one}
 use borrow.Author.Tests.{ltb-true, leb-true, lt-ltb, le-ltb, eq-eqb, ne_eqb}
@@ -15,8 +15,10 @@ use Rattle.model.specs.Parts.{count_limit, part_size}
 use Rattle.model.specs.Sheet.{total_line}
 use Rattle.model.proofs.Blocks.{blocks_more}
 use Rattle.model.proofs.DistanceCall.{both}
-use Rattle.text.specs.Put.{Put}
-use Rattle.text.proofs.Pasted.{put-nothing, put_then}
+use Rattle.text.specs.declared.draft.Draft.{Draft}
+use Rattle.text.specs.Written.{Wrote}
+use Rattle.text.proofs.Pasted.{put-nothing}
+use Rattle.text.proofs.Written.{wrote-nothing, wrote-then, wrote-most, left}
 use Rattle.clearance_call.specs.declared.Cleared.{Cleared}
 use Rattle.clearance_call.specs.declared.Cleared.TheVariants.{Refused, Clear, Touch, Open}
 use Rattle.clearance_block.specs.declared.BlockCleared.{BlockCleared}
@@ -91,76 +93,81 @@ fits-room size room t e =
     record { lines = omega (arith, leb-true (size / 512 + 2) (room / longest_line) h.0); small = countable-below t h.1 }
 
 -- ---- blocks worked: none, one, and some after others
-pub none-worked : (t : Totals) (d : List ℕ) (k : ℕ) → Worked t [] d k d k t
+pub none-worked : (n : ℕ) (t : Totals) (p : Draft) → Worked n t [] p p t
 unfolding lines_from totals_from AnswersOf
-none-worked t d k = record { came = []; sound = tt; lines = put-nothing d k; totals = refl }
+none-worked n t p = record { came = []; sound = tt; lines = wrote-nothing n p; totals = refl }
 
-pub one-worked : {t t' : Totals} {b d d' : List ℕ} {k e : ℕ} (a : BlockCleared) → AnswerOf b a → Put d k (line_of (t.blocks + 1) a) d' e
-    → t' ≡ counted t a.answer → Worked t (b ∷ []) d k d' e t'
+pub one-worked : {n : ℕ} {t t' : Totals} {b : List ℕ} {p p' : Draft} (a : BlockCleared) → AnswerOf b a → Wrote n p (line_of (t.blocks + 1) a) p'
+    → t' ≡ counted t a.answer → Worked n t (b ∷ []) p p' t'
 unfolding lines_from totals_from AnswersOf
-one-worked {t} a h p q = record { came = a ∷ []; sound = (h, tt); lines = rw (append-nil (line_of (t.blocks + 1) a)) p; totals = q }
+one-worked {t = t} a h w q = record { came = a ∷ []; sound = (h, tt); lines = rw (append-nil (line_of (t.blocks + 1) a)) w; totals = q }
 
-pub worked_then : {t t₁ t₂ : Totals} {bs cs : List (List ℕ)} {d d₁ d₂ : List ℕ} {k e e₂ : ℕ} → k ≤ length d → Worked t bs d k d₁ e t₁
-    → Worked t₁ cs d₁ e d₂ e₂ t₂ → Worked t (bs ++ cs) d k d₂ e₂ t₂
-worked_then {t} {t₁} {bs = bs} {cs = cs} inside w v =
+pub worked_then : {m n : ℕ} {t t₁ t₂ : Totals} {bs cs : List (List ℕ)} {p p₁ p₂ : Draft} → p.at ≤ length p.bytes.now → Worked m t bs p p₁ t₁
+    → Worked n t₁ cs p₁ p₂ t₂ → Worked (m + n) t (bs ++ cs) p p₂ t₂
+worked_then {t = t} {t₁ = t₁} {bs = bs} {cs = cs} inside w v =
     let xs = w.came in
     let ys = v.came in
     let number : t₁.blocks ≡ t.blocks + length xs = rw w.totals (blocks-counted t xs) in
     record {
       came = xs ++ ys;
       sound = answers-append bs cs xs ys w.sound v.sound;
-      lines = rw (lines-append t.blocks xs ys, ← number) (put_then inside w.lines v.lines);
+      lines = rw (lines-append t.blocks xs ys, ← number) (wrote-then inside w.lines v.lines);
       totals = rw (totals-append t xs ys, ← w.totals) v.totals;
     }
 
--- n bytes from the block's start are its 512
-pub block-worked : {t₀ t t' : Totals} {d₀ d d' : List ℕ} {at at' : ℕ} (part : List ℕ) (i n : ℕ) (a : BlockCleared) → n ≡ 512
-    → Worked t₀ (whole_blocks i part) d₀ 0 d at t → AnswerOf (take n (drop (512 * i) part)) a → Put d at (line_of (t.blocks + 1) a) d' at'
-    → t' ≡ counted t a.answer → Worked t₀ (whole_blocks (i + 1) part) d₀ 0 d' at' t'
-block-worked part i n a whole w h p q =
-    rw (add-one i, blocks_more i part) (worked_then (omega arith) w (one-worked a (rw whole at h) p q))
+pub worked-most : {m n : ℕ} {t t' : Totals} {bs : List (List ℕ)} {p p' : Draft} → m ≤ n → Worked m t bs p p' t' → Worked n t bs p p' t'
+worked-most le w = record { came = w.came; sound = w.sound; lines = wrote-most le w.lines; totals = w.totals }
+
+-- block i of a part
+pub block-worked : {k m : ℕ} {t₀ t t' : Totals} {p₀ p p' : Draft} (part : List ℕ) (i : ℕ) (a : BlockCleared) → p₀.at ≤ length p₀.bytes.now
+    → Worked k t₀ (whole_blocks i part) p₀ p t → AnswerOf (take 512 (drop (512 * i) part)) a → Wrote m p (line_of (t.blocks + 1) a) p'
+    → t' ≡ counted t a.answer → Worked (k + m) t₀ (whole_blocks (i + 1) part) p₀ p' t'
+block-worked part i a inside w h v q = rw (add-one i, blocks_more i part) (worked_then inside w (one-worked a h v q))
 
 -- the rest of a part, by whether there is one: all the bytes behind the whole blocks
 abbrev from : List ℕ → ℕ
 from part = 512 * (length part / 512)
 
-pub rest-worked : {t t' : Totals} {d d' : List ℕ} {k e : ℕ} (part : List ℕ) (a : BlockCleared) → (length part % 512 ≡ 0 → ⊥)
-    → AnswerOf (take (length part - from part) (drop (from part) part)) a → Put d k (line_of (t.blocks + 1) a) d' e → t' ≡ counted t a.answer
-    → Worked t (short_rest part) d k d' e t'
-rest-worked part a some h p q =
+pub rest-worked : {n : ℕ} {t t' : Totals} {p p' : Draft} (part : List ℕ) (a : BlockCleared) → (length part % 512 ≡ 0 → ⊥)
+    → AnswerOf (take (length part - from part) (drop (from part) part)) a → Wrote n p (line_of (t.blocks + 1) a) p' → t' ≡ counted t a.answer
+    → Worked n t (short_rest part) p p' t'
+rest-worked part a some h w q =
     let short : length (drop (from part) part) ≤ length part - from part = omega (arith, length-drop (from part) part) in
-    rw (ne_eqb (length part % 512) 0 some) (one-worked a (rw (take_all (length part - from part) (drop (from part) part) short) at h) p q)
+    rw (ne_eqb (length part % 512) 0 some) (one-worked a (rw (take_all (length part - from part) (drop (from part) part) short) at h) w q)
 
-pub no-rest : (t : Totals) (d : List ℕ) (k : ℕ) (part : List ℕ) → length part % 512 ≡ 0 → Worked t (short_rest part) d k d k t
-no-rest t d k part none = rw (eq-eqb (length part % 512) 0 none) (none-worked t d k)
+pub no-rest : (n : ℕ) (t : Totals) (p : Draft) (part : List ℕ) → length part % 512 ≡ 0 → Worked n t (short_rest part) p p t
+no-rest n t p part none = rw (eq-eqb (length part % 512) 0 none) (none-worked n t p)
 
 -- whole blocks first, then a rest
-pub all-worked : {t t₁ t₂ : Totals} {d d₁ d₂ : List ℕ} {e e₂ : ℕ} (part : List ℕ) → Worked t (whole_blocks (length part / 512) part) d 0 d₁ e t₁
-    → Worked t₁ (short_rest part) d₁ e d₂ e₂ t₂ → Worked t (blocks part) d 0 d₂ e₂ t₂
+pub all-worked : {m n : ℕ} {t t₁ t₂ : Totals} {p p₁ p₂ : Draft} (part : List ℕ) → p.at ≤ length p.bytes.now
+    → Worked m t (whole_blocks (length part / 512) part) p p₁ t₁ → Worked n t₁ (short_rest part) p₁ p₂ t₂ → Worked (m + n) t (blocks part) p p₂ t₂
 unfolding blocks
-all-worked part w v = worked_then (omega arith) w v
+all-worked part inside w v = worked_then inside w v
 
 -- ---- a part: no room for it, the last, and one with more to come
 module _ (t : Totals) (part d : List ℕ) where
   pub no_room : fits (length part) (length d) t ≡ false → PartWorked t part d d (record { at = 0; totals = t; last = true })
   no_room e = record { came = []; sound = λ h. absurd (true≢false (sym h ∙ e)); text = rw e (put-nothing d 0); totals = rw e; last = rw e }
 
-  pub last-part : {t₁ : Totals} {d₁ d' : List ℕ} {e e' : ℕ} → fits (length part) (length d) t ≡ true → length part < part_size
-      → Worked t (blocks part) d 0 d₁ e t₁ → Put d₁ e (total_line t₁) d' e' → PartWorked t part d d' (record { at = e'; totals = t₁; last = true })
-  last-part room short w p = record {
-    came = w.came;
-    sound = λ h. w.sound;
-    text = rw (room, lt-ltb (length part) part_size short) (put_then (omega arith) w.lines (rw w.totals at p));
-    totals = rw room w.totals;
-    last = rw (room, lt-ltb (length part) part_size short);
-  }
+module _ (t : Totals) (part d' : List ℕ) {n : ℕ} {t₁ : Totals} {p p₁ : Draft} (start : p.at ≡ 0) (w : Worked n t (blocks part) p p₁ t₁) where
+  pub last-part : {m : ℕ} {p₂ : Draft} → fits (length part) (length p.bytes.now) t ≡ true → length part < part_size
+      → Wrote m p₁ (total_line t₁) p₂ → d' ≡ p₂.bytes.now → PartWorked t part p.bytes.now d' (record { at = p₂.at; totals = t₁; last = true })
+  last-part room short v e =
+      let inside : p.at ≤ length p.bytes.now = omega arith in
+      record {
+        came = w.came;
+        sound = λ h. w.sound;
+        text = rw (room, lt-ltb (length part) part_size short) (rw start at (left (wrote-then inside w.lines (rw w.totals at v)) e));
+        totals = rw room w.totals;
+        last = rw (room, lt-ltb (length part) part_size short);
+      }
 
-  pub part-with-more : {t₁ : Totals} {d' : List ℕ} {e : ℕ} → fits (length part) (length d) t ≡ true → part_size ≤ length part
-      → Worked t (blocks part) d 0 d' e t₁ → PartWorked t part d d' (record { at = e; totals = t₁; last = false })
-  part-with-more room full w = record {
+  pub part-with-more : fits (length part) (length p.bytes.now) t ≡ true → part_size ≤ length part
+      → d' ≡ p₁.bytes.now → PartWorked t part p.bytes.now d' (record { at = p₁.at; totals = t₁; last = false })
+  part-with-more room full e = record {
     came = w.came;
     sound = λ h. w.sound;
-    text = rw (room, le-ltb (length part) part_size full, append-nil (lines_from t.blocks w.came)) w.lines;
+    text = rw (room, le-ltb (length part) part_size full, append-nil (lines_from t.blocks w.came)) (rw start at (left w.lines e));
     totals = rw room w.totals;
     last = rw (room, le-ltb (length part) part_size full);
   }

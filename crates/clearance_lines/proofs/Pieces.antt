@@ -1,30 +1,20 @@
--- The pieces of a line: how long they get, and how a line is made of them. Assumes nothing.
+-- How a line is made of its pieces. Assumes nothing.
 use mathlib.Core.Path.{◌≡◌, refl}
-use mathlib.Core.List.{List, [], ◌∷◌, ◌++◌, append_assoc}
-use Prim.Native.Nat.{ℕ, ◌+◌, ◌≤◌}
-use native.Mathlib.Omega.{arith}
-use lib.ListN.{length, length-append}
+use mathlib.Core.List.{[], ◌∷◌, ◌++◌, append_assoc}
+use Prim.Native.Nat.{ℕ}
 use Rattle.model.specs.declared.Totals.{Totals}
 use Rattle.model.specs.Sheet.{total_line}
-use Rattle.model.specs.Text.{decimal, hex_by, line}
+use Rattle.model.specs.Text.{decimal, line}
 use Rattle.text.specs.Put.{number}
-use Rattle.text.proofs.Lengths.{length-number, length-hex}
-use Rattle.places.specs.Place.{place_bits}
 use Rattle.clearance_call.specs.declared.Cleared.{Cleared}
 use Rattle.clearance_call.specs.declared.Cleared.TheVariants.{Refused, Clear, Touch, Open}
 use Rattle.clearance_block.specs.declared.BlockCleared.{BlockCleared}
-use Rattle.clearance_lines.specs.Lines.{longest_line, fields_of, line_of}
-use Rattle.clearance_lines.specs.Pieces.{answer_room, two, place, clear_text, touch_text, open_text, answer_text}
+use Rattle.clearance_lines.specs.Lines.{fields_of, line_of}
+use Rattle.clearance_lines.specs.Pieces.{two, place, clear_text, touch_text, open_text, answer_text}
 
 pub two_is : (a b : ℕ) → two a b ≡ number a 32 ++ number b 32
 unfolding two
 two_is a b = refl
-
-pub length_two : (a b : ℕ) → length (two a b) ≤ 42
-length_two a b = rw (two_is a b, length-append (number a 32) (number b 32)) (omega (arith, length-number a 32, length-number b 32))
-
-pub length-place : (k : ℕ) → length (place k) ≤ 9
-length-place k = omega (arith, length-hex (place_bits k) 32)
 
 -- ---- what stands behind the job
 pub clear-is : (pieces : ℕ) → clear_text pieces ≡ (48 ∷ 32 ∷ 67 ∷ 76 ∷ 69 ∷ 65 ∷ 82 ∷ 32 ∷ []) ++ number pieces 10
@@ -39,23 +29,6 @@ pub open_is : (u pieces : ℕ) → open_text u pieces ≡ (48 ∷ 32 ∷ 79 ∷ 
 unfolding open_text
 open_is u pieces = refl
 
-length-answer : (x : Cleared) → length (answer_text x) ≤ answer_room
-length-answer (Refused k) = omega (arith, length-number k 10)
-length-answer (Clear pieces) = rw (clear-is pieces, length-append) (omega (arith, length-number pieces 10))
-length-answer (Touch u t pieces) =
-    let word : List ℕ = 48 ∷ 32 ∷ 84 ∷ 79 ∷ 85 ∷ 67 ∷ 72 ∷ 32 ∷ [] in
-    rw (
-      touch_is u t pieces,
-      length-append (word ++ place u ++ place t) (number pieces 10),
-      length-append (word ++ place u) (place t),
-      length-append word (place u),
-    )
-    (omega (arith, length-place u, length-place t, length-number pieces 10))
-length-answer (Open u pieces) =
-    let word : List ℕ = 48 ∷ 32 ∷ 79 ∷ 80 ∷ 69 ∷ 78 ∷ 32 ∷ [] in
-    rw (open_is u pieces, length-append (word ++ place u) (number pieces 10), length-append word (place u))
-    (omega (arith, length-place u, length-number pieces 10))
-
 -- ---- the lines
 by_answer : (n job : ℕ) (x : Cleared) → line (decimal n ∷ decimal job ∷ fields_of x) ≡ two n job ++ answer_text x
 unfolding line two clear_text touch_text open_text
@@ -67,10 +40,6 @@ by_answer n job (Open u pieces) = simp append_assoc
 pub line-is : (n : ℕ) (a : BlockCleared) → line_of n a ≡ two n a.job ++ answer_text a.answer
 unfolding line_of
 line-is n a = by_answer n a.job a.answer
-
-pub length-line : (n : ℕ) (a : BlockCleared) → length (line_of n a) ≤ longest_line
-length-line n a =
-    rw (line-is n a, length-append (two n a.job) (answer_text a.answer)) (omega (arith, length_two n a.job, length-answer a.answer))
 
 pub total-is : (t : Totals) → total_line t
     ≡ (84 ∷ 79 ∷ 84 ∷ 65 ∷ 76 ∷ 32 ∷ []) ++ two t.blocks t.clear ++ two t.contact t.undecided ++ number t.refused 10

@@ -1,9 +1,9 @@
 -- Whatever a run by the contract of `write_part` prints of a file are the lines and the totals of one list of answers, one for each block of the file and
 -- each true of it. Assumes nothing.
-use mathlib.Core.Path.{◌≡◌, refl, sym, ap, ◌∙◌}
-use mathlib.Core.Bool.{Bool, true, false, true≢false}
+use mathlib.Core.Path.{◌≡◌, refl, sym, ◌∙◌}
+use mathlib.Core.Bool.{true, false, true≢false}
 use mathlib.Core.List.{List, [], ◌∷◌, ◌++◌, append-nil, append_assoc}
-use Prim.Native.Nat.{ℕ, ◌+◌, ◌/◌, ◌%◌, ◌≤◌, ◌<◌}
+use Prim.Native.Nat.{ℕ, ◌+◌, ◌%◌, ◌≤◌, ◌<◌}
 use native.Mathlib.Omega.{arith}
 use borrow.Author.Tests.{lt-ltb, le-ltb}
 use lib.ListN.{length, take, drop, length-append}
@@ -17,8 +17,8 @@ use Rattle.text.specs.Put.{Put, pasted}
 use Rattle.runs.specs.Run.{Cut}
 use Rattle.clearance_block.specs.declared.BlockCleared.{BlockCleared}
 use Rattle.clearance_block.specs.Answer.{AnswersOf}
-use Rattle.clearance_lines.specs.Lines.{lines_from, totals_from, text_of}
-use Rattle.clearance_lines.specs.Part.{fits, text_for, totals_for, last_for, PartWorked, Printed}
+use Rattle.clearance_lines.specs.Lines.{lines_from, totals_from}
+use Rattle.clearance_lines.specs.Part.{fits, Printed}
 use Rattle.clearance_lines.specs.Program.{Step, bytes_of, Ran, ends, goes_on}
 use Rattle.clearance_lines.proofs.Folds.{lines-append, totals-append, answers-append, as_many, blocks-counted, totals-add-up}
 use Rattle.clearance_lines.proofs.Run.{Counting, fitting}

@@ -5,7 +5,9 @@ use Rattle.model.specs.Block.{block_size}
 use Rattle.model.specs.Blocks.{blocks}
 use Rattle.model.specs.Parts.{count_limit, is_last}
 use Rattle.model.specs.Sheet.{total_line}
+use Rattle.text.specs.declared.draft.Draft.{Draft}
 use Rattle.text.specs.Put.{Put}
+use Rattle.text.specs.Written.{Wrote}
 use Rattle.runs.specs.Run.{text_run}
 use Rattle.clearance_block.specs.declared.BlockCleared.{BlockCleared}
 use Rattle.clearance_block.specs.Answer.{AnswersOf}
@@ -30,11 +32,11 @@ countable t =
 abbrev pub fits : ℕ → ℕ → Totals → Bool
 fits size room t = leb (size / block_size + 2) (room / longest_line) && countable t
 
--- ---- blocks worked, from those totals on: an answer of each, whose lines stand in d' from place k to e, and whose totals are t'
-pub record Worked (t : Totals) (bs : List (List ℕ)) (d : List ℕ) (k : ℕ) (d' : List ℕ) (e : ℕ) (t' : Totals) : Type 0 where
+-- ---- blocks worked, from those totals on: an answer of each, whose lines p' has behind p, in at most n bytes, and whose totals are t'
+pub record Worked (n : ℕ) (t : Totals) (bs : List (List ℕ)) (p p' : Draft) (t' : Totals) : Type 0 where
   pub came : List BlockCleared
   pub sound : AnswersOf bs came
-  pub lines : Put d k (lines_from t.blocks came) d' e
+  pub lines : Wrote n p (lines_from t.blocks came) p'
   pub totals : t' ≡ totals_from t came
 
 -- ---- a part: its lines, and after the last part the totals. Where there is no room nothing is written or counted, and the run is over.

@@ -23,41 +23,26 @@ pub fn counted(t: Totals, answer: Cleared) -> Totals
     requires { Below 0xffff_ffff_ffff_ffff t }
     ensures { result ≡ Printed.counted t answer }
 {
+    let more = Totals {
+        blocks: t.blocks + 1,
+        ..t
+    };
     match answer {
         Cleared::Refused(_) => Totals {
-            blocks: t.blocks + 1,
-            clear: t.clear,
-            contact: t.contact,
-            undecided: t.undecided,
             refused: t.refused + 1,
+            ..more
         },
-        Cleared::Clear { pieces: _ } => Totals {
-            blocks: t.blocks + 1,
+        Cleared::Clear { .. } => Totals {
             clear: t.clear + 1,
-            contact: t.contact,
-            undecided: t.undecided,
-            refused: t.refused,
+            ..more
         },
-        Cleared::Touch {
-            clear_up_to: _,
-            within_by: _,
-            pieces: _,
-        } => Totals {
-            blocks: t.blocks + 1,
-            clear: t.clear,
+        Cleared::Touch { .. } => Totals {
             contact: t.contact + 1,
-            undecided: t.undecided,
-            refused: t.refused,
+            ..more
         },
-        Cleared::Open {
-            clear_up_to: _,
-            pieces: _,
-        } => Totals {
-            blocks: t.blocks + 1,
-            clear: t.clear,
-            contact: t.contact,
+        Cleared::Open { .. } => Totals {
             undecided: t.undecided + 1,
-            refused: t.refused,
+            ..more
         },
     }
 }

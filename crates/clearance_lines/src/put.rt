@@ -1,39 +1,23 @@
-// Pieces of a line, each written from a place on; the answer is the place after it.
-ghost use Rattle.std.specs.Prelude.{◌+◌, ◌≤◌, length};
-ghost use Rattle.text.specs.Put.{Put, number};
+// Pieces of a line.
+ghost use Rattle.text.specs.Written.{Room, Wrote};
 ghost use Rattle.clearance_lines.specs.Pieces.{two, place};
 
 use places::place_bits;
-
-// A text as it stands.
-pub fn put(out: &mut [u8], at: usize, text: &[u8]) -> usize
-    requires { at + length text.now ≤ length out.old }
-    ensures { Put out.old at text.now out.new result }
-{
-    text::put_text(out, at, text)
-}
-
-// A number in decimal digits, and a byte after it.
-pub fn put_number(out: &mut [u8], at: usize, n: u64, end: u8) -> usize
-    requires { at + 21 ≤ length out.old }
-    ensures { Put out.old at (number n end) out.new result }
-{
-    text::put_number(out, at, n, end)
-}
+use text::Draft;
 
 // Two numbers, and a blank after each.
-pub fn put_two(out: &mut [u8], at: usize, a: u64, b: u64) -> usize
-    requires { at + 42 ≤ length out.old }
-    ensures { Put out.old at (two a b) out.new result }
+pub fn put_two(draft: &mut Draft<'_>, a: u64, b: u64)
+    requires { Room 42 draft.old }
+    ensures { Wrote 42 draft.old (two a b) draft.new }
 {
-    let e1 = put_number(out, at, a, b' ');
-    put_number(out, e1, b, b' ')
+    draft.put_number(a, b' ');
+    draft.put_number(b, b' ');
 }
 
 // A place on the way as an f32, and a blank.
-pub fn put_place(out: &mut [u8], at: usize, k: u64) -> usize
-    requires { at + 9 ≤ length out.old }
-    ensures { Put out.old at (place k) out.new result }
+pub fn put_place(draft: &mut Draft<'_>, k: u64)
+    requires { Room 9 draft.old }
+    ensures { Wrote 9 draft.old (place k) draft.new }
 {
-    text::put_hex(out, at, place_bits(k), b' ')
+    draft.put_hex(place_bits(k), b' ');
 }

@@ -1,5 +1,6 @@
 -- A block is refused over its whole move just where the sheet refuses it: the call's refusals from 0 are the sweep's, and a sweep that no check refuses is
 -- not refused. So both print the same refused lines, and count as many blocks and refusals. Assumes nothing.
+use Rattle.std.proofs.Common.{Result, Ok, Err}
 use mathlib.Core.Path.{◌≡◌, refl, sym, ap, ◌∙◌}
 use mathlib.Core.Bool.{Bool, true, false, cond}
 use mathlib.Core.List.{List, [], ◌∷◌, ◌++◌, map}
@@ -10,22 +11,19 @@ use lib.Ieee.{Float, binary32, of_bits}
 use lib.ListN.{length}
 use Rattle.model.specs.declared.Block.{Block}
 use Rattle.model.specs.declared.Corners.{Corners}
-use Rattle.model.specs.declared.CheckedBlock.{CheckedBlock}
-use Rattle.model.specs.declared.CheckedBlock.TheVariants as Checked
+use Rattle.model.specs.declared.BlockRefusal.{BlockRefusal}
 use Rattle.model.specs.declared.SweepAnswer.{SweepAnswer}
 use Rattle.model.specs.declared.SweepAnswer.TheVariants as swept
 use Rattle.model.specs.declared.Status.{Status}
 use Rattle.model.specs.declared.Status.TheVariants.{Overlapped, Hit, Separated, Failed}
-use Rattle.model.specs.declared.BlockAnswer.{BlockAnswer}
-use Rattle.model.specs.declared.BlockAnswer.TheVariants as sheet
 use Rattle.model.specs.declared.Totals.{Totals}
 use Rattle.model.specs.Ground as Ground
 use Rattle.model.specs.Support.{point}
-use Rattle.model.specs.Block.{checked_block}
+use Rattle.model.specs.Block.{checked_block, refused}
 use Rattle.model.specs.Blocks.{blocks}
 use Rattle.model.specs.SweepToi.{max_distance_iterations, no_corners, no_counts, sweep_task, sweep_refusal, sweep_by, sweep_time_of_impact}
 use Rattle.model.specs.Corners.{sweep}
-use Rattle.model.specs.Work.{move_at, sweep_for, numbers_of, points_a, points_b, told_by, told, of_job, answer_by, block_answer}
+use Rattle.model.specs.Work.{move_at, sweep_for, numbers_of, points_a, points_b, told_by, told, of_job, answer_by, block_answer, BlockAnswer}
 use Rattle.model.specs.Sheet.{answer_of, answers, answer_line, refused_line, none, one_worked}
 use Rattle.model.specs.Sheet as Sheet
 use Rattle.route_legs.proofs.Answers.{Answered, advance-answers}
@@ -76,18 +74,18 @@ module _ (a : BlockCleared) (job : ℕ) (same : a.job ≡ job) where
     by_number (Open u p) e t zero z = worked a job k (answer_by' 0) same (rw e tt) begun
     by_number (Open u p) e t (suc n) z = absurd (omega (arith, t.passed, z))
 
-passed : (b : List ℕ) (k : Block) (a : BlockCleared) → Looked b k a → Alike a (answer_by binary32 b (Checked.Good k))
+passed : (b : List ℕ) (k : Block) (a : BlockCleared) → Looked b k a → Alike a (answer_by binary32 b (Ok k))
 unfolding sweep_for sweep sweep_time_of_impact
 passed b k a h =
     by_number a k.job h.job (points_a b k) (points_b b k) (numbers_of b) _ a.answer refl h.told _
     (as-the-sweep (points_a b k) (points_b b k) (numbers_of b))
 
 -- ---- any block
-by-check : (b : List ℕ) (a : BlockCleared) (x : CheckedBlock) → AnswerBy b x a → Alike a (answer_by binary32 b x)
-by-check b a (Checked.Good k) h = passed b k a h
-by-check b a (Checked.Refused job number) h = h
+by-check : (b : List ℕ) (a : BlockCleared) (x : Result Block BlockRefusal) → AnswerBy b x a → Alike a (answer_by binary32 b x)
+by-check b a (Ok k) h = passed b k a h
+by-check b a (Err r) h = h
 
-by_size : (b : List ℕ) (a : BlockCleared) (whole : Bool) → AnswerIf whole b a → Alike a (cond whole (block_answer binary32 b) (sheet.Refused 0 9))
+by_size : (b : List ℕ) (a : BlockCleared) (whole : Bool) → AnswerIf whole b a → Alike a (cond whole (block_answer binary32 b) (refused 0 9))
 unfolding block_answer
 by_size b a true h = by-check b a (checked_block b) h
 by_size b a false h = h
@@ -109,8 +107,8 @@ unfolding answers
 file-alike file came h = all_alike (blocks file) came h
 
 -- ---- a refused line is the sheet's own
-pub same_line : (n : ℕ) (a : BlockCleared) (job number : ℕ) → Alike a (sheet.Refused job number)
-    → line_of n a ≡ answer_line binary32 n (sheet.Refused job number)
+pub same_line : (n : ℕ) (a : BlockCleared) (job number : ℕ) → Alike a (refused job number)
+    → line_of n a ≡ answer_line binary32 n (refused job number)
 unfolding line_of refused_line
 same_line n a job number e = ap (line_of n) e
 
@@ -128,12 +126,12 @@ worked-line s Separated = (refl, refl)
 worked-line s Failed = (refl, refl)
 
 one_alike : (t s : Totals) (a : BlockCleared) (x : BlockAnswer) → SameCounts t s → Alike a x → SameCounts (counted t a.answer) (Sheet.counted s x)
-one_alike t s a (sheet.Refused job number) c e =
-    let told : a.answer ≡ Refused number = ap (λ (y : BlockCleared). y.answer) e in
+one_alike t s a (Err r) c e =
+    let told : a.answer ≡ Refused r.number = ap (λ (y : BlockCleared). y.answer) e in
     rw told (record { blocks = omega (arith, c.blocks); refused = omega (arith, c.refused) })
-one_alike t s a (sheet.Worked job v) c e =
+one_alike t s a (Ok w) c e =
     let p = not-refused t a.answer e.1 in
-    let q = worked-line s v.status in
+    let q = worked-line s w.verdict.status in
     record { blocks = omega (arith, c.blocks, p.0, q.0); refused = omega (arith, c.refused, p.1, q.1) }
 
 same-counts : (t s : Totals) (came : List BlockCleared) (xs : List BlockAnswer) → SameCounts t s → AllAlike came xs

@@ -1,8 +1,7 @@
 -- Two answers to one block, that over its whole move and that of the sheet: refused both, by the same job and number, or neither.
-use Rattle.std.specs.Prelude.{◌≡◌, List, [], ◌∷◌}
-use Rattle.model.specs.declared.BlockAnswer.{BlockAnswer}
-use Rattle.model.specs.declared.BlockAnswer.TheVariants as sheet
+use Rattle.std.specs.Prelude.{◌≡◌, List, [], ◌∷◌, Ok, Err}
 use Rattle.model.specs.declared.Totals.{Totals}
+use Rattle.model.specs.Work.{BlockAnswer}
 use Rattle.clearance_call.specs.declared.Cleared.{Cleared}
 use Rattle.clearance_call.specs.declared.Cleared.TheVariants.{Refused, Clear, Touch, Open}
 use Rattle.clearance_block.specs.declared.BlockCleared.{BlockCleared}
@@ -15,8 +14,8 @@ NotRefused (Touch u t pieces) = Unit {0}
 NotRefused (Open u pieces) = Unit {0}
 
 abbrev pub Alike : BlockCleared → BlockAnswer → Type 0
-Alike a (sheet.Refused job number) = a ≡ refused_block job number
-Alike a (sheet.Worked job v) = (a.job ≡ job) × NotRefused a.answer
+Alike a (Err r) = a ≡ refused_block r.job r.number
+Alike a (Ok w) = (a.job ≡ w.job) × NotRefused a.answer
 
 -- of all blocks of a file, in order
 unfoldable pub AllAlike : List BlockCleared → List BlockAnswer → Type 0

@@ -7,8 +7,7 @@ use Rattle.whole_way.proofs.Join.{one_more}
 use Rattle.board.specs.declared.GridJob.{GridJob}
 use Rattle.board.specs.Board.{ClearBetween}
 use Rattle.holding.specs.Grip.{TouchesAt}
-use Rattle.clearance_verdict.specs.declared.Look.{Look}
-use Rattle.clearance_verdict.specs.declared.Look.TheVariants.{At, Nowhere}
+use Rattle.std.proofs.Common.{Option, Some, None}
 use Rattle.clearance_verdict.specs.Verdict.{Span, ClearUpTo, Found, told_by, Settled}
 
 module _ (job : GridJob) (axs ays bxs bys : List ℕ) where
@@ -37,8 +36,8 @@ module _ (job : GridJob) (axs ays bxs bys : List ℕ) where
   }
 
   -- where nothing more is tried
-  pub told-settled : (from low high u n : ℕ) (look : Look) → from ≤ u → u ≤ low → 0 < n → n ≤ 4096 → ClearUpTo job axs ays bxs bys from u
+  pub told-settled : (from low high u n : ℕ) (look : Option ℕ) → from ≤ u → u ≤ low → 0 < n → n ≤ 4096 → ClearUpTo job axs ays bxs bys from u
       → Found job u low axs ays
       bxs bys look → Settled job from low high axs ays bxs bys (told_by look u n)
-  told-settled from low high u n (At t) after before some few clear found = record { after = after; clear = clear; touch = found; few = few }
-  told-settled from low high u n Nowhere after before some few clear found = record { after = after; before = before; clear = clear; some = some; few = few }
+  told-settled from low high u n (Some t) after before some few clear found = record { after = after; clear = clear; touch = found; few = few }
+  told-settled from low high u n None after before some few clear found = record { after = after; before = before; clear = clear; some = some; few = few }

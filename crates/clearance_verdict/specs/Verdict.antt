@@ -1,17 +1,10 @@
 -- What the verdict on a job on the grid says. Fractions are in 2^24-ths.
-use Rattle.std.specs.Prelude.{List, ℕ, ◌+◌, ◌≤◌, ◌<◌}
+use Rattle.std.specs.Prelude.{List, Option, Some, None, ℕ, ◌+◌, ◌≤◌, ◌<◌}
 use Rattle.board.specs.declared.GridJob.{GridJob}
 use Rattle.board.specs.Board.{ClearBetween}
 use Rattle.holding.specs.Grip.{TouchesAt}
 use Rattle.clearance_verdict.specs.declared.Answer.{Answer}
 use Rattle.clearance_verdict.specs.declared.Answer.TheVariants.{Clear, Touch, Open}
-use Rattle.clearance_verdict.specs.declared.Look.{Look}
-use Rattle.clearance_verdict.specs.declared.Look.TheVariants.{At, Nowhere}
-
-pub record Least (a b r : ℕ) : Type 0 where
-  pub left : r ≤ a
-  pub right : r ≤ b
-  pub some : 0 < a → 0 < b → 0 < r
 
 -- the look ends at `high`, the max fraction rounded up; a touch is told up to `low`, where it is rounded down
 pub record Span (from low high : ℕ) : Type 0 where
@@ -30,17 +23,17 @@ module _ (job : GridJob) (axs ays bxs bys : List ℕ) where
     pub before : t ≤ low
     pub touching : TouchesAt job t axs ays bxs bys
 
-abbrev pub Found : (job : GridJob) (u low : ℕ) (axs ays bxs bys : List ℕ) → Look → Type 0
-Found job u low axs ays bxs bys (At t) = TouchFrom job axs ays bxs bys u low t
-Found job u low axs ays bxs bys Nowhere = 0 ≤ 0
+abbrev pub Found : (job : GridJob) (u low : ℕ) (axs ays bxs bys : List ℕ) → Option ℕ → Type 0
+Found job u low axs ays bxs bys (Some t) = TouchFrom job axs ays bxs bys u low t
+Found job u low axs ays bxs bys None = 0 ≤ 0
 
 pub record ShortTouch (job : GridJob) (k low : ℕ) (axs ays bxs bys : List ℕ) : Type 0 where
   pub before : k ≤ low
   pub touching : TouchesAt job k axs ays bxs bys
 
-abbrev pub told_by : Look → (u n : ℕ) → Answer
-told_by (At t) u n = Touch u t n
-told_by Nowhere u n = Open u n
+abbrev pub told_by : Option ℕ → (u n : ℕ) → Answer
+told_by (Some t) u n = Touch u t n
+told_by None u n = Open u n
 
 -- ---- the promise
 pub record SettledTouch (job : GridJob) (from low : ℕ) (axs ays bxs bys : List ℕ) (u t n : ℕ) : Type 0 where

@@ -2,13 +2,15 @@
 // pieces get short. What a piece or a touch says is proved where it is checked; here the pieces are joined.
 #![tactic(auto)]
 
-ghost use Rattle.std.specs.Prelude.{true, ◌≡◌, ◌+◌, ◌≤◌, ◌<◌, length};
+ghost use Rattle.std.specs.Prelude.{true, ◌≡◌, ◌+◌, ◌≤◌, ◌<◌};
 ghost use Rattle.board.specs.Board.{ClearBetween};
 ghost use Rattle.holding.specs.Grip.{TouchesAt};
-ghost use Rattle.clearance_verdict.specs.Verdict.{Least, Found, ShortTouch, told_by, Span, Settled};
+ghost use Rattle.clearance_verdict.specs.Verdict.{Found, ShortTouch, told_by, Span, Settled};
 
-use board::GridJob;
-use clear_search::{Course, Near, Stand, course_of, floats, grip_of, nowhere, propose, stand_at};
+use board::{GridJob, Outlines};
+use clear_search::{
+    Course, Near, Shape, Shapes, Stand, course_of, floats, grip_of, nowhere, propose, stand_at,
+};
 use piece_check::{clear_piece, touches};
 
 // No more pieces are tried.
@@ -37,90 +39,52 @@ pub enum Answer {
     },
 }
 
-// Where a touch was found.
+// The part of the move to look at, in 2^24-ths: from `from` to `high`, its end rounded up; a touch is told up to `low`, the end rounded down.
 #[derive(Clone, Copy)]
-pub enum Look {
-    At(u64),
-    Nowhere,
+pub struct Stretch {
+    pub from: u64,
+    pub low: u64,
+    pub high: u64,
 }
 
-fn least(a: u64, b: u64) -> u64
-    ensures { Least a b result }
-{
-    if a < b { a } else { b }
-}
-
-fn touch_at(
+// All that a look at the job reads: for the checks the job and its corners, for the search what it reads of the job and the corners as floats.
+#[derive(Clone, Copy)]
+struct Case<'a> {
     job: GridJob,
-    k: u64,
-    s: Stand,
-    axs: &[u64],
-    ays: &[u64],
-    bxs: &[u64],
-    bys: &[u64],
-) -> bool
-    ensures { result ≡ true → TouchesAt job k axs.now ays.now bxs.now bys.now }
-{
-    touches(job, k, grip_of(s), axs, ays, bxs, bys)
-}
-
-fn look_at(
-    job: GridJob,
+    on: Outlines<'a>,
     course: Course,
-    k: u64,
-    near: Near,
-    axs: &[u64],
-    ays: &[u64],
-    bxs: &[u64],
-    bys: &[u64],
-    fax: &[f64],
-    fay: &[f64],
-    fbx: &[f64],
-    fby: &[f64],
-) -> bool
-    ensures { result ≡ true → TouchesAt job k axs.now ays.now bxs.now bys.now }
+    shapes: Shapes<'a>,
+}
+
+fn touch_at(case: &Case<'_>, k: u64, s: Stand) -> bool
+    ensures { result ≡ true → TouchesAt case.now.job k case.now.on.a.xs.now case.now.on.a.ys.now case.now.on.b.xs.now case.now.on.b.ys.now }
 {
-    let s = stand_at(fax, fay, fbx, fby, course, k, near);
-    touch_at(job, k, s, axs, ays, bxs, bys)
+    touches(case.job, k, grip_of(s), case.on)
+}
+
+fn look_at(case: &Case<'_>, k: u64, near: Near) -> bool
+    ensures { result ≡ true → TouchesAt case.now.job k case.now.on.a.xs.now case.now.on.a.ys.now case.now.on.b.xs.now case.now.on.b.ys.now }
+{
+    touch_at(case, k, stand_at(case.shapes, case.course, k, near))
 }
 
 // At places ever further from u: a 2^24-th on, twice as far, and so on.
-fn look_near(
-    job: GridJob,
-    course: Course,
-    u: u64,
-    low: u64,
-    near: Near,
-    axs: &[u64],
-    ays: &[u64],
-    bxs: &[u64],
-    bys: &[u64],
-    fax: &[f64],
-    fay: &[f64],
-    fbx: &[f64],
-    fby: &[f64],
-) -> Look
+fn look_near(case: &Case<'_>, u: u64, low: u64, near: Near) -> Option<u64>
     requires { low ≤ 16777216 }
-    ensures { Found job u low axs.now ays.now bxs.now bys.now result }
+    ensures { Found case.now.job u low case.now.on.a.xs.now case.now.on.a.ys.now case.now.on.b.xs.now case.now.on.b.ys.now result }
 {
     let mut d: u64 = 1;
-    let mut i: u64 = 0;
-    while i < 25 {
-        if low < d {
-            return Look::Nowhere;
-        }
-        if low - d < u {
-            return Look::Nowhere;
+    for _doubling in 0..25 {
+        if low < d || low - d < u {
+            return None;
         }
         let k = u + d;
-        let found = look_at(job, course, k, near, axs, ays, bxs, bys, fax, fay, fbx, fby);
-        if found {
-            return Look::At(k);
+        if look_at(case, k, near) {
+            return Some(k);
         }
         d = 2 * d;
-        i += 1;
     }
-    Look::Nowhere
+    None
 }
 
 // The i-th of 64 places.
@@ -128,83 +92,44 @@ fn place_of(i: u64, low: u64) -> u64
     requires { (i ≤ 64) × (low ≤ 16777216) }
     ensures { result ≤ low }
 {
-    let k = i * low / 64;
-    if k > low { low } else { k }
+    (i * low / LAST_PLACES).min(low)
 }
 
 // At places spread evenly over the move, as far as they lie after u.
-fn look_far(
-    job: GridJob,
-    course: Course,
-    u: u64,
-    low: u64,
-    near: Near,
-    axs: &[u64],
-    ays: &[u64],
-    bxs: &[u64],
-    bys: &[u64],
-    fax: &[f64],
-    fay: &[f64],
-    fbx: &[f64],
-    fby: &[f64],
-) -> Look
+fn look_far(case: &Case<'_>, u: u64, low: u64, near: Near) -> Option<u64>
     requires { low ≤ 16777216 }
-    ensures { Found job u low axs.now ays.now bxs.now bys.now result }
+    ensures { Found case.now.job u low case.now.on.a.xs.now case.now.on.a.ys.now case.now.on.b.xs.now case.now.on.b.ys.now result }
 {
-    let mut i: u64 = 1;
-    while i <= LAST_PLACES {
+    for i in 1..=LAST_PLACES {
         let k = place_of(i, low);
-        if u < k {
-            let found = look_at(job, course, k, near, axs, ays, bxs, bys, fax, fay, fbx, fby);
-            if found {
-                return Look::At(k);
-            }
+        if u < k && look_at(case, k, near) {
+            return Some(k);
         }
-        i += 1;
     }
-    Look::Nowhere
+    None
 }
 
 // The answer where no piece is short enough to be clear: a touch after u if one is found, else nothing more.
-fn last_look(
-    job: GridJob,
-    course: Course,
-    u: u64,
-    low: u64,
-    near: Near,
-    axs: &[u64],
-    ays: &[u64],
-    bxs: &[u64],
-    bys: &[u64],
-    fax: &[f64],
-    fay: &[f64],
-    fbx: &[f64],
-    fby: &[f64],
-) -> Look
+fn last_look(case: &Case<'_>, u: u64, low: u64, near: Near) -> Option<u64>
     requires { low ≤ 16777216 }
-    ensures { Found job u low axs.now ays.now bxs.now bys.now result }
+    ensures { Found case.now.job u low case.now.on.a.xs.now case.now.on.a.ys.now case.now.on.b.xs.now case.now.on.b.ys.now result }
 {
-    let first = look_near(
-        job, course, u, low, near, axs, ays, bxs, bys, fax, fay, fbx, fby,
-    );
-    match first {
-        Look::At(_) => first,
-        Look::Nowhere => look_far(
-            job, course, u, low, near, axs, ays, bxs, bys, fax, fay, fbx, fby,
-        ),
+    match look_near(case, u, low, near) {
+        Some(k) => Some(k),
+        None => look_far(case, u, low, near),
     }
 }
 
-fn told(look: Look, u: u64, pieces: u64) -> Answer
+fn told(look: Option<u64>, u: u64, pieces: u64) -> Answer
     ensures { result ≡ told_by look u pieces }
 {
     match look {
-        Look::At(t) => Answer::Touch {
+        Some(t) => Answer::Touch {
             clear_up_to: u,
             within_by: t,
             pieces,
         },
-        Look::Nowhere => Answer::Open {
+        None => Answer::Open {
             clear_up_to: u,
             pieces,
         },
@@ -212,72 +137,27 @@ fn told(look: Look, u: u64, pieces: u64) -> Answer
 }
 
 // Whether the piece between two moments passes, by what the search proposes for it.
-fn try_piece(
-    job: GridJob,
-    k0: u64,
-    k1: u64,
-    s: Stand,
-    t: Stand,
-    axs: &[u64],
-    ays: &[u64],
-    bxs: &[u64],
-    bys: &[u64],
-    fax: &[f64],
-    fay: &[f64],
-    fbx: &[f64],
-    fby: &[f64],
-) -> bool
-    ensures { result ≡ true → ClearBetween job k0 k1 axs.now ays.now bxs.now bys.now }
+fn try_piece(case: &Case<'_>, k0: u64, k1: u64, s: Stand, t: Stand) -> bool
+    ensures { result ≡ true → ClearBetween case.now.job k0 k1 case.now.on.a.xs.now case.now.on.a.ys.now case.now.on.b.xs.now case.now.on.b.ys.now }
 {
-    let p = propose(fax, fay, fbx, fby, s, t);
-    clear_piece(job, k0, k1, p, axs, ays, bxs, bys)
+    clear_piece(case.job, k0, k1, propose(case.shapes, s, t), case.on)
 }
 
 // Whether the end of a short piece that did not pass is a touch.
-fn short_touch(
-    job: GridJob,
-    k: u64,
-    step: u64,
-    low: u64,
-    t: Stand,
-    axs: &[u64],
-    ays: &[u64],
-    bxs: &[u64],
-    bys: &[u64],
-) -> bool
-    ensures { result ≡ true → ShortTouch job k low axs.now ays.now bxs.now bys.now }
+fn short_touch(case: &Case<'_>, k: u64, step: u64, low: u64, t: Stand) -> bool
+    ensures { result ≡ true → ShortTouch case.now.job k low case.now.on.a.xs.now case.now.on.a.ys.now case.now.on.b.xs.now case.now.on.b.ys.now }
 {
-    if step > SHORT {
-        return false;
-    }
-    if k > low {
-        return false;
-    }
-    touch_at(job, k, t, axs, ays, bxs, bys)
+    step <= SHORT && k <= low && touch_at(case, k, t)
 }
 
-// From `from` to `high`, in 2^24-ths. A piece that passes is followed by one twice as long, one that does not is halved.
-fn settle(
-    job: GridJob,
-    course: Course,
-    from: u64,
-    low: u64,
-    high: u64,
-    axs: &[u64],
-    ays: &[u64],
-    bxs: &[u64],
-    bys: &[u64],
-    fax: &[f64],
-    fay: &[f64],
-    fbx: &[f64],
-    fby: &[f64],
-) -> Answer
-    requires { Span from low high }
-    ensures { Settled job from low high axs.now ays.now bxs.now bys.now result }
+// A piece that passes is followed by one twice as long, one that does not is halved.
+fn settle(case: &Case<'_>, stretch: Stretch) -> Answer
+    requires { Span stretch.from stretch.low stretch.high }
+    ensures { Settled case.now.job stretch.from stretch.low stretch.high case.now.on.a.xs.now case.now.on.a.ys.now case.now.on.b.xs.now case.now.on.b.ys.now result }
 {
-    let mut s = stand_at(fax, fay, fbx, fby, course, from, nowhere());
-    let at_once = touch_at(job, from, s, axs, ays, bxs, bys);
-    if at_once {
+    let Stretch { from, low, high } = stretch;
+    let mut s = stand_at(case.shapes, case.course, from, nowhere());
+    if touch_at(case, from, s) {
         return Answer::Touch {
             clear_up_to: from,
             within_by: from,
@@ -286,107 +166,80 @@ fn settle(
     }
     let mut u = from;
     let mut h = high - from;
-    let mut tries: u64 = 0;
-    while tries < MOST_PIECES {
-        let step = least(h, high - u);
+    for tried in 0..MOST_PIECES {
+        let pieces = tried + 1;
+        let step = h.min(high - u);
         let to = u + step;
-        let t = stand_at(fax, fay, fbx, fby, course, to, s.near);
-        tries += 1;
-        let clear = try_piece(job, u, to, s, t, axs, ays, bxs, bys, fax, fay, fbx, fby);
-        if clear {
+        let t = stand_at(case.shapes, case.course, to, s.near);
+        if try_piece(case, u, to, s, t) {
             if to >= high {
-                return Answer::Clear { pieces: tries };
+                return Answer::Clear { pieces };
             }
             u = to;
             s = t;
             h = 2 * step;
             continue;
         }
-        let found = short_touch(job, to, step, low, t, axs, ays, bxs, bys);
-        if found {
+        if short_touch(case, to, step, low, t) {
             return Answer::Touch {
                 clear_up_to: u,
                 within_by: to,
-                pieces: tries,
+                pieces,
             };
         }
         if step <= 1 {
-            let look = last_look(
-                job, course, u, low, s.near, axs, ays, bxs, bys, fax, fay, fbx, fby,
-            );
-            return told(look, u, tries);
+            let look = last_look(case, u, low, s.near);
+            return told(look, u, pieces);
         }
         h = step - step / 2;
     }
     Answer::Open {
         clear_up_to: u,
-        pieces: tries,
+        pieces: MOST_PIECES,
     }
 }
 
-fn at_most_64(n: usize) -> usize
-    ensures { result ≤ 64 }
+fn in_span(stretch: Stretch) -> bool
+    ensures { (result ≡ true → Span stretch.from stretch.low stretch.high) × (Span stretch.from stretch.low stretch.high → result ≡ true) }
 {
-    if n < 64 { n } else { 64 }
+    stretch.from < stretch.high
+        && stretch.high <= 16777216
+        && stretch.low <= stretch.high
+        && stretch.high <= stretch.low + 1
 }
 
-fn in_span(from: u64, low: u64, high: u64) -> bool
-    ensures { (result ≡ true → Span from low high) × (Span from low high → result ≡ true) }
+// The verdict on a stretch of the move. What is no span of it is left open.
+pub fn settle_job(job: GridJob, stretch: Stretch, on: Outlines<'_>) -> Answer
+    ensures { Span stretch.from stretch.low stretch.high → Settled job stretch.from stretch.low stretch.high
+        on.entry.a.xs.now on.entry.a.ys.now on.entry.b.xs.now on.entry.b.ys.now result }
 {
-    if from >= high {
-        return false;
-    }
-    if high > 16777216 {
-        return false;
-    }
-    if low > high {
-        return false;
-    }
-    if high > low + 1 {
-        return false;
-    }
-    true
-}
-
-// The verdict: from `from` to `high`, in 2^24-ths; a touch is told up to `low`. What is no span of the move is left open.
-pub fn settle_job(
-    job: GridJob,
-    from: u64,
-    low: u64,
-    high: u64,
-    axs: &[u64],
-    ays: &[u64],
-    bxs: &[u64],
-    bys: &[u64],
-) -> Answer
-    ensures { Span from low high → Settled job from low high axs.now ays.now bxs.now bys.now result }
-{
-    let some = in_span(from, low, high);
-    if !some {
+    if !in_span(stretch) {
         return Answer::Open {
-            clear_up_to: from,
+            clear_up_to: stretch.from,
             pieces: 0,
         };
     }
-    let na = at_most_64(axs.len());
-    let nb = at_most_64(bxs.len());
-    let fax = floats(axs);
-    let fay = floats(ays);
-    let fbx = floats(bxs);
-    let fby = floats(bys);
-    settle(
+    let na = on.a.xs.len().min(64);
+    let nb = on.b.xs.len().min(64);
+    let axs = floats(on.a.xs);
+    let ays = floats(on.a.ys);
+    let bxs = floats(on.b.xs);
+    let bys = floats(on.b.ys);
+    let shapes = Shapes {
+        a: Shape {
+            xs: &axs[..na],
+            ys: &ays[..na],
+        },
+        b: Shape {
+            xs: &bxs[..nb],
+            ys: &bys[..nb],
+        },
+    };
+    let case = Case {
         job,
-        course_of(job),
-        from,
-        low,
-        high,
-        axs,
-        ays,
-        bxs,
-        bys,
-        &fax[..na],
-        &fay[..na],
-        &fbx[..nb],
-        &fby[..nb],
-    )
+        on,
+        course: course_of(job),
+        shapes,
+    };
+    settle(&case, stretch)
 }

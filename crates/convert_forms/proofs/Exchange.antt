@@ -1,4 +1,5 @@
 -- In form 2 an exchange of two neighbouring words that differ is refused, where byte 6 stays 2. Assumes nothing.
+use Rattle.std.proofs.Common.{Ok}
 use mathlib.Core.Path.{◌≡◌, refl, sym, ap, ◌∙◌}
 use mathlib.Core.Logic.{◌≢◌}
 use mathlib.Core.Bool.{Bool, true, false}
@@ -9,9 +10,8 @@ use native.Mathlib.Nat.{mul-suc}
 use borrow.Author.Tests.{eqb-true, eqb-false, ne_eqb}
 use lib.Dec.{eqb}
 use lib.ListN.{length, replicate}
-use Rattle.model.specs.declared.CheckedBlock.TheVariants.{Good, Refused}
 use Rattle.model.specs.Wire.{byte, word}
-use Rattle.model.specs.Block.{known_form, sum_of_words, weighed_words, check_holds, all_zero, block_of, checked_block}
+use Rattle.model.specs.Block.{known_form, sum_of_words, weighed_words, check_holds, all_zero, block_of, checked_block, refused}
 use Rattle.model.specs.Table.{word4, words}
 use Rattle.block.proofs.Laws.{wrong-check}
 use Rattle.convert_forms.specs.Forms.{next_first, exchanged}
@@ -108,7 +108,7 @@ module _ (b : List ℕ) (i : ℕ) (size : length b ≡ 512) (bytes : Bytes b) (p
   check-stays = same_word b (exchanged b i) 508 (λ j l m. above b i room-for-both j (omega (arith, l, place)))
 
   pub exchange-refused : byte b 6 ≡ 2 → check_holds b ≡ true → word b (4 * i) ≢ word b (4 * i + 4) → byte (exchanged b i) 6 ≡ 2
-      → checked_block (exchanged b i) ≡ Refused 0 10
+      → checked_block (exchanged b i) ≡ refused 0 10
   exchange-refused form holds differ stays =
       sym (wrong-check (exchanged b i) (ap known_form stays) (weighed-check (exchanged b i) stays ∙ ne_eqb _ _ slips))
     where
@@ -130,12 +130,12 @@ unlucky =
     ++ replicate 268 0
     ++ word4 0xc395c52f
 
-pub form-2-by-chance-form-1 : (checked_block unlucky ≡ Good (block_of unlucky)) × (byte unlucky 6 ≡ 2)
-    × (checked_block (exchanged unlucky 1) ≡ Good (block_of (exchanged unlucky 1))) × (byte (exchanged unlucky 1) 6 ≡ 0)
+pub form-2-by-chance-form-1 : (checked_block unlucky ≡ Ok (block_of unlucky)) × (byte unlucky 6 ≡ 2)
+    × (checked_block (exchanged unlucky 1) ≡ Ok (block_of (exchanged unlucky 1))) × (byte (exchanged unlucky 1) 6 ≡ 0)
 unfolding checked_block sum_of_words weighed_words all_zero word exchanged
 form-2-by-chance-form-1 = (refl, refl, refl, refl)
 
 -- words 4 and 5 exchanged
-pub exchange-seen : checked_block (exchanged unlucky 4) ≡ Refused 0 10
+pub exchange-seen : checked_block (exchanged unlucky 4) ≡ refused 0 10
 unfolding checked_block sum_of_words weighed_words all_zero word exchanged
 exchange-seen = refl

@@ -8,7 +8,9 @@ use native.Mathlib.Numerals.{add-one}
 use borrow.Author.Tests.{leb-true, ltb-true, eq-eqb}
 use lib.Dec.{leb, ltb}
 use lib.ListN.{length, take, drop, set, length-set, length-drop}
-use lib.Seq.{drop-length, take-length, length-take-le, get_or-set_same}
+use lib.Seq.{length-take-le, get_or-set_same, drop-drop, sets-eq}
+use borrow.Rule.Slice.PartMut.{put_mid}
+use Rattle.wire.specs.Bytes.{word_bytes}
 use Rattle.model.specs.Wire.{byte}
 use Rattle.model.specs.Block.{sum_before, checked_block}
 use Rattle.model.specs.Blocks.{whole_blocks, blocks, is_good, passes}
@@ -22,9 +24,6 @@ use Rattle.convert_forms.specs.Forms.{with_check, other_number, fitting_check, s
 use Rattle.convert_forms.specs.Convert.{converted, told_from, file_by, text_by, fits}
 
 -- ---- the other form, as it is made
-pub copied : (b z : List ℕ) → length b ≡ 512 → length z ≡ 512 → take (length b) b ++ drop (length b) z ≡ b
-copied b z h k = rw (take-length b, h, ← k, drop-length z) (append-nil b)
-
 pub made : (b t : List ℕ) (form s : ℕ) → length b ≡ 512 → t ≡ b → form ≡ other_number (byte t 6) → s ≡ sum_before form (set t 6 form) % 2 ^ 32
     → with_check (set t 6 form) (4294967295 - s) ≡ other_form b
 unfolding other_form sealed
@@ -35,6 +34,13 @@ made b t form s h e f g =
   where
     sealed' : List ℕ → List ℕ
     sealed' l = with_check l (fitting_check l)
+
+-- the check copied behind the other words
+pub check-copied : (b : List ℕ) (c : ℕ) → length b ≡ 512 → put_mid 508 4 b (word_bytes c) ≡ with_check b c
+check-copied b c h =
+    let bytes = word_bytes c in
+    ap (λ (r : List ℕ). take 508 b ++ (bytes ++ r)) (drop-drop 4 508 b) ∙ sym (append_assoc (take 508 b) bytes (drop 512 b))
+    ∙ sym (sets-eq bytes b 508 (omega (arith, h)))
 
 length-check : (b : List ℕ) (c : ℕ) → length (with_check b c) ≡ length b
 length-check b c = rw (length-set, length-set, length-set, length-set)
@@ -64,19 +70,19 @@ told-append n (x ∷ xs) ys =
     let e : n + 1 + length xs ≡ n + suc (length xs) = omega arith in
     rw (told-append (n + 1) xs ys, e) (sym (append_assoc (cond (passes x) [] (number (n + 1) 10)) _ _))
 
--- block i, of so many bytes
-module _ (b : List ℕ) (before i size : ℕ) (whole : size ≡ 512) (inside : 512 * i + 512 ≤ length b) where
+-- block i
+module _ (b : List ℕ) (before i : ℕ) (inside : 512 * i + 512 ≤ length b) where
   abbrev x : List ℕ
-  x = take size (drop (512 * i) b)
+  x = take 512 (drop (512 * i) b)
 
   block-length : length x ≡ 512
-  block-length = length-take-le size (drop (512 * i) b) (rw (length-drop (512 * i) b) (omega (arith, whole, inside))) ∙ whole
+  block-length = length-take-le 512 (drop (512 * i) b) (rw (length-drop (512 * i) b) (omega (arith, inside)))
 
   passes-if-good : passes x ≡ is_good (checked_block x)
   passes-if-good = rw (eq-eqb (length x) 512 block-length)
 
   more : whole_blocks (i + 1) b ≡ whole_blocks i b ++ (x ∷ [])
-  more = rw (add-one i, whole) (blocks_more i b)
+  more = rw (add-one i) (blocks_more i b)
 
   one-converted : converted (whole_blocks (i + 1) b) ≡ converted (whole_blocks i b) ++ file_by x
   unfolding converted

@@ -1,4 +1,5 @@
 -- A block that passes does so in the other form, with the same answer: its printed line is the same for every number. Assumes nothing.
+use Rattle.std.proofs.Common.{Ok}
 use mathlib.Core.Path.{◌≡◌, sym, ap, ◌∙◌}
 use mathlib.Core.Logic.{◌≢◌}
 use mathlib.Core.Bool.{true}
@@ -8,7 +9,6 @@ use native.Mathlib.Omega.{arith}
 use lib.Ieee.{Format}
 use lib.ListN.{length}
 use Rattle.model.specs.declared.Block.{Block}
-use Rattle.model.specs.declared.CheckedBlock.TheVariants.{Good}
 use Rattle.model.specs.Wire.{byte}
 use Rattle.model.specs.Block.{known_form, bad_fields, job_of, block_of, most_points, checked_block}
 use Rattle.model.specs.Blocks.{is_good}
@@ -75,7 +75,7 @@ module _ (b : List ℕ) (size : length b ≡ 512) (good : is_good (checked_block
   -- the other form passes too, with the same job and counts
   pub other-checked : checked_block (other_form b) ≡ checked_block b
   other-checked =
-      passed-good (other_form b) other-passed ∙ ap Good (block_same b (other_form b) (other-same b size)) ∙ sym (passed-good b passed)
+      passed-good (other_form b) other-passed ∙ ap Ok (block_same b (other_form b) (other-same b size)) ∙ sym (passed-good b passed)
 
   pub same_answer : (f : Format) → block_answer f (other_form b) ≡ block_answer f b
   unfolding block_answer

@@ -11,7 +11,7 @@ ghost use Rattle.convert_forms.specs.Convert as Convert;
 
 use model::{COUNT_LIMIT, PART_SIZE};
 
-// How many bytes go to the file, how many are told; how many blocks came up to the part's end; whether the part was the last.
+// How many bytes go to the file, how many are told; how many blocks came up to the part's end; whether the part was the last. All of them hold either way.
 #[derive(Clone, Copy)]
 pub struct Converted {
     pub file: usize,
@@ -42,11 +42,7 @@ fn other_form(bytes: &[u8]) -> [u8; 512]
     let form = other_number(turned[6]);
     turned[6] = form;
     let check = 0xffff_ffff - block::sum_before(&turned, form);
-    let last = wire::word_bytes(check);
-    turned[508] = last[0];
-    turned[509] = last[1];
-    turned[510] = last[2];
-    turned[511] = last[3];
+    turned[508..].copy_from_slice(&wire::word_bytes(check));
     turned
 }
 
@@ -79,16 +75,11 @@ fn convert_blocks(part: &[u8], before: u64, file: &mut [u8], text: &mut [u8]) ->
     ensures put_2 { Put text.old 0 (told_from before (whole_of part.now)) text.new result.text }
     ensures text_bound { result.text ≤ 21 * (length part.now / block_size) }
 {
-    let k = part.len() / 512;
     let mut at = Places { file: 0, text: 0 };
     let mut n = before;
-    let mut i: usize = 0;
-    while i < k {
-        let from = 512 * i;
-        let end = from + 512;
-        at = convert_block(&part[from..end], n, file, text, at);
+    for block in part.chunks_exact(512) {
+        at = convert_block(block, n, file, text, at);
         n += 1;
-        i += 1;
     }
     at
 }

@@ -16,11 +16,8 @@ fn all_below(limit: usize, indices: [u32; 3], count: usize) -> bool
     ensures { result ≡ Model.all_below limit indices count }
 {
     let mut all = true;
-    let mut i: usize = 0;
-    while i < count {
-        let index = indices[i];
-        all = all & below(index, limit);
-        i += 1;
+    for i in 0..count {
+        all = all & below(indices[i], limit);
     }
     all
 }
@@ -50,11 +47,9 @@ pub(crate) fn write_cache(
 {
     let mut index_a = cache.index_a;
     let mut index_b = cache.index_b;
-    let mut i: usize = 0;
-    while i < count {
+    for i in 0..count {
         index_a[i] = simplex[i].index_a;
         index_b[i] = simplex[i].index_b;
-        i += 1;
     }
     SimplexCache {
         pair,

@@ -12,8 +12,8 @@ use ground::{
     add, distance, dot, inv_rotate_vec, max, neg, normalize_or_zero, scale, sub, transform_point,
 };
 use model::{
-    Checked, CheckedPose, Distance, DistanceAnswer, Ending, Measurement, Pose, ProxyDistanceOutput,
-    Rounds, SimplexCache, SimplexVertex, Vector, WitnessPoints,
+    Distance, Ending, Measurement, Pose, ProxyDistanceOutput, Refusal, Rounds, SimplexCache,
+    SimplexVertex, Vector, WitnessPoints,
 };
 use outline::{point, support_index};
 use simplex::{solve, witness_points};
@@ -94,7 +94,7 @@ fn from_cache(cache: SimplexCache, na: usize, nb: usize) -> bool
     some & cache_is_valid(cache, na, nb)
 }
 
-// What the rounds start with: three slots, and how many of them count.
+// What the rounds start with: three slots, and how many of them count. The memory is fixed, so a simplex is an array of three with its count beside it.
 #[derive(Clone, Copy)]
 struct Slots {
     simplex: [SimplexVertex; 3],
@@ -183,8 +183,7 @@ fn rounds(pos12: Pose, points_a: &[f32], points_b: &[f32], cache: SimplexCache) 
     let mut simplex = begin.simplex;
     let mut count = begin.count;
     let mut direction = zero();
-    let mut iterations: u32 = 0;
-    while iterations < MAX_ITERATIONS {
+    for iterations in 0..MAX_ITERATIONS {
         let solved = solve(simplex, count);
         let d = solved.direction;
         let kept = solved.count;
@@ -217,7 +216,6 @@ fn rounds(pos12: Pose, points_a: &[f32], points_b: &[f32], cache: SimplexCache) 
         }
         simplex = grown(pos12, points_a, points_b, slots, kept, index_a, index_b);
         direction = d;
-        iterations += 1;
         count = kept + 1;
     }
     Rounds {
@@ -225,7 +223,7 @@ fn rounds(pos12: Pose, points_a: &[f32], points_b: &[f32], cache: SimplexCache) 
         simplex,
         count,
         direction,
-        iterations,
+        iterations: MAX_ITERATIONS,
     }
 }
 
@@ -270,7 +268,7 @@ fn apart(
 }
 
 // The distance of any two lists at any pose, with nothing checked, and the cache as the call leaves it: Touching does not write it, and what is
-// written carries the pair's number.
+// written carries the pair's number. The parameters are the published call's own, in its order.
 pub fn measure(
     pos12: Pose,
     points_a: &[f32],
@@ -326,26 +324,26 @@ pub fn proxy_distance(
     ensures { result ≡ Model.proxy_distance binary32 pos12 points_a.now radius_a points_b.now radius_b use_radii pair cache }
 {
     let outlines = check_pair(points_a, points_b, radius_a, radius_b);
-    let Checked::Passed = outlines else {
+    let Ok(()) = outlines else {
         let number = refusal(outlines);
         return Distance {
-            answer: DistanceAnswer::Refused(number),
+            answer: Err(Refusal { number }),
             cache,
         };
     };
     let pose = check_pose(pos12);
-    let CheckedPose::Good(good) = pose else {
+    let Ok(good) = pose else {
         let number = pose_refusal(pose);
         return Distance {
-            answer: DistanceAnswer::Refused(number),
+            answer: Err(Refusal { number }),
             cache,
         };
     };
     let owned = check_cache(pair, cache);
-    let Checked::Passed = owned else {
+    let Ok(()) = owned else {
         let number = refusal(owned);
         return Distance {
-            answer: DistanceAnswer::Refused(number),
+            answer: Err(Refusal { number }),
             cache,
         };
     };
@@ -355,7 +353,7 @@ pub fn proxy_distance(
     let output = measured.output;
     let cache = measured.cache;
     Distance {
-        answer: DistanceAnswer::Measured(output),
+        answer: Ok(output),
         cache,
     }
 }

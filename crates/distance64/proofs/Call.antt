@@ -5,6 +5,7 @@ use mathlib.Core.Bool.{Bool}
 use mathlib.Core.List.{List}
 use mathlib.Core.Path.{◌≡◌, refl, ap, ◌∙◌}
 use lib.Ieee.{Float, Format}
+use Rattle.std.proofs.Common.{Result, Ok, Err}
 use Rattle.model64.specs.declared.Vector.{Vector}
 use Rattle.model64.specs.declared.Pose.{Pose}
 use Rattle.model.specs.declared.SimplexCache.{SimplexCache}
@@ -14,13 +15,11 @@ use Rattle.model64.specs.declared.Rounds.{Rounds}
 use Rattle.model64.specs.declared.WitnessPoints.{WitnessPoints}
 use Rattle.model64.specs.declared.ProxyDistanceOutput.{ProxyDistanceOutput}
 use Rattle.model64.specs.declared.Measurement.{Measurement}
-use Rattle.model64.specs.declared.DistanceAnswer.TheVariants.{Measured, Refused}
 use Rattle.model64.specs.declared.Distance.{Distance}
-use Rattle.model.specs.declared.Checked.{Checked}
-use Rattle.model64.specs.declared.CheckedPose.{CheckedPose}
+use Rattle.model.specs.declared.Refusal.{Refusal}
 use Rattle.model64.specs.Ground.{origin}
 use Rattle.model64.specs.Ground as Ground
-use Rattle.model.specs.Domain.{cache_refusal, or_else, checked}
+use Rattle.model.specs.Domain.{cache_refusal, or_else, checked, numbered}
 use Rattle.model64.specs.Domain.{pair_refusal, pose_refusal, checked_pose, refusal_of_pose}
 use Rattle.model.specs.Domain.{refusal as number_of}
 use Rattle.model64.specs.Distance.{written, rounds, witness_points, output, apart, measured_by, cache_by, measured_from, measure, distance_by, proxy_distance}
@@ -31,10 +30,10 @@ abbrev measurement : ProxyDistanceOutput → SimplexCache → Measurement
 measurement o k = record { output = o; cache = k }
 
 abbrev answered : ProxyDistanceOutput → SimplexCache → Distance
-answered o k = record { answer = Measured o; cache = k }
+answered o k = record { answer = Ok o; cache = k }
 
 abbrev refusal : ℕ → SimplexCache → Distance
-refusal n k = record { answer = Refused n; cache = k }
+refusal n k = record { answer = Err (numbered n); cache = k }
 
 module _ (f : Format) (p : Pose) (a : List Float) (ra : Float) (b : List Float) (rb : Float) (radii : Bool) (pair : ℕ) (c : SimplexCache) where
   -- ---- the measurement
@@ -75,27 +74,27 @@ module _ (f : Format) (p : Pose) (a : List Float) (ra : Float) (b : List Float) 
   abbrev refuse : ℕ → Distance
   refuse n = refusal n c
 
-  module _ (x : Checked) (ex : x ≡ checked (pair_refusal f a b ra rb)) where
-    pub pair-refused : (n : ℕ) → x ≡ Checked.Refused n → (m : ℕ) → m ≡ number_of x → refusal m c ≡ proxy_distance f p a ra b rb radii pair c
+  module _ (x : Result Unit Refusal) (ex : x ≡ checked (pair_refusal f a b ra rb)) where
+    pub pair-refused : (r : Refusal) → x ≡ Err r → (m : ℕ) → m ≡ number_of x → refusal m c ≡ proxy_distance f p a ra b rb radii pair c
     unfolding proxy_distance
     pair-refused = refused first refuse (λ n. refl) (pair_refusal f a b ra rb) x ex
 
-    module _ (good : x ≡ Checked.Passed) (y : CheckedPose) (ey : y ≡ checked_pose (checked (pose_refusal f p)) p) where
+    module _ (good : x ≡ Ok tt) (y : Result Pose Refusal) (ey : y ≡ checked_pose (checked (pose_refusal f p)) p) where
       after-pair : second (pose_refusal f p) ≡ proxy_distance f p a ra b rb radii pair c
       unfolding proxy_distance
       after-pair = passed first refuse (λ n. refl) (pair_refusal f a b ra rb) x ex good
 
-      pub pose-refused : (n : ℕ) → y ≡ CheckedPose.Refused n → (m : ℕ) → m ≡ refusal_of_pose y → refusal m c ≡ proxy_distance f p a ra b rb radii pair c
+      pub pose-refused : (r : Refusal) → y ≡ Err r → (m : ℕ) → m ≡ refusal_of_pose y → refusal m c ≡ proxy_distance f p a ra b rb radii pair c
       pose-refused n g m em = Domain.pose-refused second refuse (λ n. refl) (pose_refusal f p) p y ey n g m em ∙ after-pair
 
-      module _ (q : Pose) (g : y ≡ CheckedPose.Good q) (z : Checked) (ez : z ≡ checked (cache_refusal pair c)) where
+      module _ (q : Pose) (g : y ≡ Ok q) (z : Result Unit Refusal) (ez : z ≡ checked (cache_refusal pair c)) where
         posed : (second 0 ≡ second (pose_refusal f p)) × (q ≡ p)
         posed = pose-passed second refuse (λ n. refl) (pose_refusal f p) p y ey q g
 
-        pub cache-refused : (n : ℕ) → z ≡ Checked.Refused n → (m : ℕ) → m ≡ number_of z → refusal m c ≡ proxy_distance f p a ra b rb radii pair c
+        pub cache-refused : (r : Refusal) → z ≡ Err r → (m : ℕ) → m ≡ number_of z → refusal m c ≡ proxy_distance f p a ra b rb radii pair c
         cache-refused n r m em = refused by refuse (λ n. refl) (cache_refusal pair c) z ez n r m em ∙ posed.0 ∙ after-pair
 
-        pub all-passed : z ≡ Checked.Passed → (m : Measurement) → m ≡ measure f q a ra b rb radii pair c →
+        pub all-passed : z ≡ Ok tt → (m : Measurement) → m ≡ measure f q a ra b rb radii pair c →
             answered m.output m.cache ≡ proxy_distance f p a ra b rb radii pair c
         all-passed own m em =
             let goes_on = passed by refuse (λ n. refl) (cache_refusal pair c) z ez own in

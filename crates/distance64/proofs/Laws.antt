@@ -80,9 +80,9 @@ module _ (f : Format) (a b : List Float) (p : Pose) where
   begun c s n d es en ed = rw (es, en, ed)
 
   module _ (s : List SimplexVertex) (n : ℕ) (d : Vector) (it : ℕ) where
-    pub limit : it ≤ 20 → 20 ≤ it → ended RoundLimit s n d it ≡ rounds_from f a b p (20 - it) s n d it
+    pub limit : it ≤ 20 → 20 ≤ it → ended RoundLimit s n d 20 ≡ rounds_from f a b p (20 - it) s n d it
     unfolding rounds_from
-    limit h k = let x : 20 - it ≡ 0 = omega arith in rw x
+    limit h k = let all : it ≡ 20 = omega arith in rw all
 
     round : (r : Solved) → it < 20 → r ≡ solve f s n →
         cond (touches f r) (ended Touching r.simplex r.count (origin f) it)

@@ -12,10 +12,9 @@ use domain64::{check_cache, check_pair, check_pose, pose_refusal, refusal};
 use ground64::{
     add, distance, dot, inv_rotate_vec, max, neg, normalize_or_zero, scale, sub, transform_point,
 };
-use model::{Checked, Ending, SimplexCache};
+use model::{Ending, Refusal, SimplexCache};
 use model64::{
-    CheckedPose, Distance, DistanceAnswer, Measurement, Pose, ProxyDistanceOutput, Rounds,
-    SimplexVertex, Vector, WitnessPoints,
+    Distance, Measurement, Pose, ProxyDistanceOutput, Rounds, SimplexVertex, Vector, WitnessPoints,
 };
 use outline64::{point, support_index};
 use simplex64::{solve, witness_points};
@@ -96,7 +95,7 @@ fn from_cache(cache: SimplexCache, na: usize, nb: usize) -> bool
     some & cache_is_valid(cache, na, nb)
 }
 
-// What the rounds start with: three slots, and how many of them count.
+// What the rounds start with: three slots, and how many of them count. The memory is fixed, so a simplex is an array of three with its count beside it.
 #[derive(Clone, Copy)]
 struct Slots {
     simplex: [SimplexVertex; 3],
@@ -185,8 +184,7 @@ fn rounds(pos12: Pose, points_a: &[f64], points_b: &[f64], cache: SimplexCache) 
     let mut simplex = begin.simplex;
     let mut count = begin.count;
     let mut direction = zero();
-    let mut iterations: u32 = 0;
-    while iterations < MAX_ITERATIONS {
+    for iterations in 0..MAX_ITERATIONS {
         let solved = solve(simplex, count);
         let d = solved.direction;
         let kept = solved.count;
@@ -219,7 +217,6 @@ fn rounds(pos12: Pose, points_a: &[f64], points_b: &[f64], cache: SimplexCache) 
         }
         simplex = grown(pos12, points_a, points_b, slots, kept, index_a, index_b);
         direction = d;
-        iterations += 1;
         count = kept + 1;
     }
     Rounds {
@@ -227,7 +224,7 @@ fn rounds(pos12: Pose, points_a: &[f64], points_b: &[f64], cache: SimplexCache) 
         simplex,
         count,
         direction,
-        iterations,
+        iterations: MAX_ITERATIONS,
     }
 }
 
@@ -272,7 +269,7 @@ fn apart(
 }
 
 // The distance of any two lists at any pose, with nothing checked, and the cache as the call leaves it: Touching does not write it, and what is
-// written carries the pair's number.
+// written carries the pair's number. The parameters are the published call's own, in its order.
 pub fn measure(
     pos12: Pose,
     points_a: &[f64],
@@ -328,26 +325,26 @@ pub fn proxy_distance(
     ensures { result ≡ Model.proxy_distance binary64 pos12 points_a.now radius_a points_b.now radius_b use_radii pair cache }
 {
     let outlines = check_pair(points_a, points_b, radius_a, radius_b);
-    let Checked::Passed = outlines else {
+    let Ok(()) = outlines else {
         let number = refusal(outlines);
         return Distance {
-            answer: DistanceAnswer::Refused(number),
+            answer: Err(Refusal { number }),
             cache,
         };
     };
     let pose = check_pose(pos12);
-    let CheckedPose::Good(good) = pose else {
+    let Ok(good) = pose else {
         let number = pose_refusal(pose);
         return Distance {
-            answer: DistanceAnswer::Refused(number),
+            answer: Err(Refusal { number }),
             cache,
         };
     };
     let owned = check_cache(pair, cache);
-    let Checked::Passed = owned else {
+    let Ok(()) = owned else {
         let number = refusal(owned);
         return Distance {
-            answer: DistanceAnswer::Refused(number),
+            answer: Err(Refusal { number }),
             cache,
         };
     };
@@ -357,7 +354,7 @@ pub fn proxy_distance(
     let output = measured.output;
     let cache = measured.cache;
     Distance {
-        answer: DistanceAnswer::Measured(output),
+        answer: Ok(output),
         cache,
     }
 }

@@ -25,10 +25,8 @@ pub fn bad_parts(points: &[f32]) -> bool
     ensures { result ≡ Domain.bad_parts binary32 points.now }
 {
     let mut bad = false;
-    let mut i: usize = 0;
-    while i < points.len() {
-        bad = bad | bad_part(points[i]);
-        i += 1;
+    for x in points {
+        bad = bad | bad_part(*x);
     }
     bad
 }

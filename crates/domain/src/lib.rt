@@ -10,57 +10,65 @@ ghost use Rattle.model.specs.Domain as Domain;
 
 pub use bad::bad_vector;
 use bad::{bad_centres, bad_outline, bad_parts, bad_radius, bad_rotation};
-use model::{Checked, CheckedPose, Pose, SimplexCache, Sweep};
+use model::{
+    BAD_CENTRE, BAD_FRACTION, BAD_OUTLINE_A, BAD_OUTLINE_B, BAD_PART, BAD_RADIUS, BAD_ROTATION,
+    BAD_SLOP, OTHER_PAIR, Pose, Refusal, SimplexCache, Sweep,
+};
 
 // One outline: 1, 3.
-pub fn check_outline(points: &[f32]) -> Checked
+pub fn check_outline(points: &[f32]) -> Result<(), Refusal>
     ensures { result ≡ Domain.checked (Domain.outline_refusal binary32 points.now) }
 {
     if bad_outline(points) {
-        return Checked::Refused(1);
+        return Err(BAD_OUTLINE_A);
     }
     if bad_parts(points) {
-        return Checked::Refused(3);
+        return Err(BAD_PART);
     }
-    Checked::Passed
+    Ok(())
 }
 
 // Two outlines and their radii: 1 to 4.
-pub fn check_pair(points_a: &[f32], points_b: &[f32], radius_a: f32, radius_b: f32) -> Checked
+pub fn check_pair(
+    points_a: &[f32],
+    points_b: &[f32],
+    radius_a: f32,
+    radius_b: f32,
+) -> Result<(), Refusal>
     ensures { result ≡ Domain.checked (Domain.pair_refusal binary32 points_a.now points_b.now radius_a radius_b) }
 {
     if bad_outline(points_a) {
-        return Checked::Refused(1);
+        return Err(BAD_OUTLINE_A);
     }
     if bad_outline(points_b) {
-        return Checked::Refused(2);
+        return Err(BAD_OUTLINE_B);
     }
     let parts = bad_parts(points_a) | bad_parts(points_b);
     let radii = bad_radius(radius_a) | bad_radius(radius_b);
     if parts {
-        return Checked::Refused(3);
+        return Err(BAD_PART);
     }
     if radii {
-        return Checked::Refused(4);
+        return Err(BAD_RADIUS);
     }
-    Checked::Passed
+    Ok(())
 }
 
 // A pose: 5, 6.
-pub fn check_pose(p: Pose) -> CheckedPose
+pub fn check_pose(p: Pose) -> Result<Pose, Refusal>
     ensures { result ≡ Domain.checked_pose (Domain.checked (Domain.pose_refusal binary32 p)) p }
 {
     if bad_rotation(p.rotation) {
-        return CheckedPose::Refused(5);
+        return Err(BAD_ROTATION);
     }
     if bad_vector(p.translation) {
-        return CheckedPose::Refused(6);
+        return Err(BAD_CENTRE);
     }
-    CheckedPose::Good(p)
+    Ok(p)
 }
 
 // Two moves: 5, 6. All rotations come before all centres.
-pub fn check_sweeps(a: Sweep, b: Sweep) -> Checked
+pub fn check_sweeps(a: Sweep, b: Sweep) -> Result<(), Refusal>
     ensures { result ≡ Domain.checked (Domain.sweeps_refusal binary32 a b) }
 {
     let rotations = bad_rotation(a.q1)
@@ -69,63 +77,63 @@ pub fn check_sweeps(a: Sweep, b: Sweep) -> Checked
         | bad_rotation(b.q2);
     let centres = bad_centres(a) | bad_centres(b);
     if rotations {
-        return Checked::Refused(5);
+        return Err(BAD_ROTATION);
     }
     if centres {
-        return Checked::Refused(6);
+        return Err(BAD_CENTRE);
     }
-    Checked::Passed
+    Ok(())
 }
 
 // A max fraction from 0 to 1: 7.
-pub fn check_fraction(t: f32) -> Checked
+pub fn check_fraction(t: f32) -> Result<(), Refusal>
     ensures { result ≡ Domain.checked (Domain.fraction_refusal binary32 t) }
 {
     if (t >= 0.0) & (t <= 1.0) {
-        Checked::Passed
+        Ok(())
     } else {
-        Checked::Refused(7)
+        Err(BAD_FRACTION)
     }
 }
 
 // A slop above 0 and at most 1,048,576: 8.
-pub fn check_slop(x: f32) -> Checked
+pub fn check_slop(x: f32) -> Result<(), Refusal>
     ensures { result ≡ Domain.checked (Domain.slop_refusal binary32 x) }
 {
     if (x > 0.0) & (x <= 1048576.0) {
-        Checked::Passed
+        Ok(())
     } else {
-        Checked::Refused(8)
+        Err(BAD_SLOP)
     }
 }
 
 // A cache that is not empty has the number of its pair: 12. Whether its entries name points is not asked here.
-pub fn check_cache(pair: u32, cache: SimplexCache) -> Checked
+pub fn check_cache(pair: u32, cache: SimplexCache) -> Result<(), Refusal>
     ensures { result ≡ Domain.checked (Domain.cache_refusal pair cache) }
 {
     if (cache.count > 0) & (cache.pair != pair) {
-        Checked::Refused(12)
+        Err(OTHER_PAIR)
     } else {
-        Checked::Passed
+        Ok(())
     }
 }
 
 // The number of a refusal, 0 where the check passed.
-pub fn refusal(checked: Checked) -> u32
+pub fn refusal(checked: Result<(), Refusal>) -> u32
     ensures { result ≡ Domain.refusal checked }
 {
     match checked {
-        Checked::Passed => 0,
-        Checked::Refused(n) => n,
+        Ok(()) => 0,
+        Err(refused) => refused.number,
     }
 }
 
 // The number of a pose's refusal, 0 where it passed.
-pub fn pose_refusal(checked: CheckedPose) -> u32
+pub fn pose_refusal(checked: Result<Pose, Refusal>) -> u32
     ensures { result ≡ Domain.refusal_of_pose checked }
 {
     match checked {
-        CheckedPose::Good(_) => 0,
-        CheckedPose::Refused(n) => n,
+        Ok(_) => 0,
+        Err(refused) => refused.number,
     }
 }

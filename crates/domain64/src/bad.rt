@@ -26,10 +26,8 @@ pub fn bad_parts(points: &[f64]) -> bool
     ensures { result ≡ Domain.bad_parts binary64 points.now }
 {
     let mut bad = false;
-    let mut i: usize = 0;
-    while i < points.len() {
-        bad = bad | bad_part(points[i]);
-        i += 1;
+    for x in points {
+        bad = bad | bad_part(*x);
     }
     bad
 }

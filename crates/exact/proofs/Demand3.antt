@@ -7,6 +7,7 @@ use native.Mathlib.Omega.{arith}
 use lib.Dec.{lit≤}
 use lib.ListN.{length}
 use lib.Ieee.{Float, Format, binary32, binary64}
+use Rattle.std.proofs.Common.{Ok, Err}
 use Rattle.model.specs.declared.Pose.{Pose}
 use Rattle.model.specs.declared.SimplexVertex.{SimplexVertex}
 use Rattle.model.specs.declared.SimplexCache.{SimplexCache}
@@ -14,8 +15,8 @@ use Rattle.model.specs.declared.Ending.{Ending}
 use Rattle.model.specs.declared.Ending.TheVariants.{Touching, Settled, RoundLimit}
 use Rattle.model.specs.declared.Rounds.{Rounds}
 use Rattle.model.specs.declared.ProxyDistanceOutput.{ProxyDistanceOutput}
-use Rattle.model.specs.declared.DistanceAnswer.TheVariants.{Measured, Refused}
 use Rattle.model.specs.declared.WitnessPoints.{WitnessPoints}
+use Rattle.model.specs.Domain.{numbered}
 use Rattle.model.specs.Distance.{cache, replaced, written, measured_by, cache_by, measure, rounds, witness_points, distance_by, distance_refusal, proxy_distance}
 use Rattle.exact.specs.Shared.{SpansNearestPlace}
 use Rattle.exact.specs.SquaredPaper.{SquaredPaper, outline_a, posed_b, IsCache, Room, bound_of, Exact, Demand3, Answered}
@@ -105,7 +106,7 @@ pub demand3 : (f : Format) (bound : ℕ) → Room f bound → Demand3 f bound
 unfolding proxy_distance measure
 demand3 f bound room p a ra b rb radii pair c paper o arrays answered not_limit = go (distance_refusal f p a ra b rb pair c) (λ h. h) answered
   where
-    go : (n : ℕ) → (n ≡ 0 → distance_refusal f p a ra b rb pair c ≡ 0) → (distance_by f p a ra b rb radii pair c n).answer ≡ Measured o
+    go : (n : ℕ) → (n ≡ 0 → distance_refusal f p a ra b rb pair c ≡ 0) → (distance_by f p a ra b rb radii pair c n).answer ≡ Ok o
         → Exact (outline_a paper) (posed_b paper) o.ending (distance_by f p a ra b rb radii pair c n).cache
     go zero none is =
         let r = rounds f a b p c in
@@ -117,7 +118,7 @@ demand3 f bound room p a ra b rb radii pair c paper o arrays answered not_limit 
         (exact-end f room paper domain pair c arrays r (call-right f room paper domain c) (λ e. not_limit (sym ends ∙ e)))
     go (suc n) none is = absurd (refused is)
       where
-        refused : Refused (suc n) ≡ Measured o → ⊥
+        refused : Err (numbered (suc n)) ≡ Ok o → ⊥
         refused e = let z : ◌≡◌ {A = ℕ} 0 1 = cc in omega arith
 
 -- ---- the bounds of the formats

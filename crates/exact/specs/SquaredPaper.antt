@@ -1,6 +1,6 @@
 -- Demand 3. On squared paper, a call that is answered and does not end at the round limit ends touching exactly when the outlines share a point,
 -- and otherwise the corners in the returned cache span a nearest place. The radii are free, and so is the cache that came, if it is not refused.
-use Rattle.std.specs.Prelude.{◌≡◌, Bool, false, List, ℕ, ◌*◌, ◌/◌, ◌%◌, ◌^◌, ◌≤◌, ◌<◌, length, Float}
+use Rattle.std.specs.Prelude.{◌≡◌, Bool, false, List, ℕ, ◌*◌, ◌/◌, ◌%◌, ◌^◌, ◌≤◌, ◌<◌, length, Float, Ok}
 use Rattle.std.specs.Float.{Format, binary32, binary64}
 use Rattle.std.specs.Float.Ieee.{prec}
 use Rattle.integers.specs.Signed.{Int, of_nat, ◌⊞◌, ◌⊠◌, ◌≃◌}
@@ -11,7 +11,6 @@ use Rattle.model.specs.declared.SimplexCache.{SimplexCache}
 use Rattle.model.specs.declared.Ending.{Ending}
 use Rattle.model.specs.declared.Ending.TheVariants.{Touching, RoundLimit}
 use Rattle.model.specs.declared.ProxyDistanceOutput.{ProxyDistanceOutput}
-use Rattle.model.specs.declared.DistanceAnswer.TheVariants.{Measured}
 use Rattle.model.specs.Domain.{bad_radius, cache_refusal}
 use Rattle.model.specs.Support.{point}
 use Rattle.model.specs.Distance.{proxy_distance}
@@ -91,11 +90,11 @@ abbrev pub Demand3 : Format → ℕ → Type 0
 Demand3 f bound =
     (p : Pose) (a : List Float) (ra : Float) (b : List Float) (rb : Float) (radii : Bool) (pair : ℕ) (c : SimplexCache)
     (paper : SquaredPaper bound p a b) (o : ProxyDistanceOutput)
-    → IsCache c → (proxy_distance f p a ra b rb radii pair c).answer ≡ Measured o → (o.ending ≡ RoundLimit → ⊥)
+    → IsCache c → (proxy_distance f p a ra b rb radii pair c).answer ≡ Ok o → (o.ending ≡ RoundLimit → ⊥)
     → Exact (outline_a paper) (posed_b paper) o.ending (proxy_distance f p a ra b rb radii pair c).cache
 
 -- the other half: a call with its inputs in the domain is answered, from any cache that is not refused for the pair's number
 abbrev pub Answered : Format → ℕ → Type 0
 Answered f bound =
     (p : Pose) (a : List Float) (ra : Float) (b : List Float) (rb : Float) (radii : Bool) (pair : ℕ) (c : SimplexCache) (paper : SquaredPaper bound p a b)
-    → InTheDomain f paper ra rb → cache_refusal pair c ≡ 0 → (o : ProxyDistanceOutput) × ((proxy_distance f p a ra b rb radii pair c).answer ≡ Measured o)
+    → InTheDomain f paper ra rb → cache_refusal pair c ≡ 0 → (o : ProxyDistanceOutput) × ((proxy_distance f p a ra b rb radii pair c).answer ≡ Ok o)

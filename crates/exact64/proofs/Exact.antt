@@ -6,16 +6,15 @@ use lib.Dec.{lit<, lit≤}
 use mathlib.Core.Bool.{Bool}
 use mathlib.Core.List.{List}
 use lib.Ieee.{Float, binary64}
+use Rattle.std.proofs.Common.{Result, Ok, Err}
 use Rattle.model.specs.declared.SimplexCache.{SimplexCache}
 use Rattle.model.specs.declared.Ending.{Ending}
 use Rattle.model.specs.declared.ProxyDistanceOutput.{ProxyDistanceOutput}
-use Rattle.model.specs.declared.DistanceAnswer.{DistanceAnswer}
-use Rattle.model.specs.declared.DistanceAnswer.TheVariants.{Measured, Refused}
 use Rattle.model.specs.declared.Distance.{Distance}
+use Rattle.model.specs.declared.Refusal.{Refusal}
 use Rattle.model.specs.Distance.{max_iterations, proxy_distance}
 use Rattle.model64.specs.declared.Pose.{Pose as Pose64}
 use Rattle.model64.specs.declared.ProxyDistanceOutput.{ProxyDistanceOutput as Output64}
-use Rattle.model64.specs.declared.DistanceAnswer.TheVariants.{Measured as Measured64, Refused as Refused64}
 use Rattle.model64.specs.declared.Distance.{Distance as Distance64}
 use Rattle.bridge.specs.Wide.{output64, answer64, distance64}
 use Rattle.bridge.proofs.Distance.{proxy-distance-same}
@@ -48,23 +47,23 @@ module _ (p : Pose64) (a : List Float) (ra : Float) (b : List Float) (rb : Float
   -- and what is measured ends in the same way, after as many rounds
   record Narrow (o : Output64) : Type 0 where
     output : ProxyDistanceOutput
-    answered : told.answer ≡ Measured output
+    answered : told.answer ≡ Ok output
     ending : output.ending ≡ o.ending
     rounds : output.iterations ≡ o.iterations
 
-  narrow : (o : Output64) → (call p a ra b rb radii pair c).answer ≡ Measured64 o → Narrow o
+  narrow : (o : Output64) → (call p a ra b rb radii pair c).answer ≡ Ok o → Narrow o
   narrow o h = go told.answer refl (sym (ap (λ (d : Distance64). d.answer) same) ∙ h)
     where
-      go : (x : DistanceAnswer) → told.answer ≡ x → answer64 x ≡ Measured64 o → Narrow o
-      go (Measured m) is e =
+      go : (x : Result ProxyDistanceOutput Refusal) → told.answer ≡ x → answer64 x ≡ Ok o → Narrow o
+      go (Ok m) is e =
           let out : output64 m ≡ o = cc in
           record { output = m; answered = is; ending = ap (λ (u : Output64). u.ending) out; rounds = ap (λ (u : Output64). u.iterations) out }
-      go (Refused n) is e = absurd (refused e)
+      go (Err r) is e = absurd (refused e)
         where
-          refused : Refused64 n ≡ Measured64 o → ⊥
+          refused : Err r ≡ Ok o → ⊥
           refused k = let z : ◌≡◌ {A = ℕ} 0 1 = cc in omega arith
 
-  widened : (m : ProxyDistanceOutput) → told.answer ≡ Measured m → (call p a ra b rb radii pair c).answer ≡ Measured64 (output64 m)
+  widened : (m : ProxyDistanceOutput) → told.answer ≡ Ok m → (call p a ra b rb radii pair c).answer ≡ Ok (output64 m)
   widened m is = ap (λ (d : Distance64). d.answer) same ∙ ap answer64 is
 
 -- ---- where f64 leaves the room

@@ -8,10 +8,13 @@ use native.Mathlib.Omega.{arith}
 use lib.Dec.{lit≤, lit<}
 use lib.IntN.{pos, negsuc}
 use lib.Ieee.{Float, binary64, of_bits, of_int, add, sub, mul, div, neg, lt, le, eq, round, is_nan}
+use Rattle.std.proofs.Common.{Result, Ok, Err}
 use Rattle.integers.specs.Signed.{◌⊠◌}
 use Rattle.model.specs.declared.SimplexCache.{SimplexCache}
 use Rattle.model.specs.declared.Ending.{Ending}
 use Rattle.model.specs.declared.Ending.TheVariants.{Touching, Settled, RoundLimit}
+use Rattle.model.specs.declared.Refusal.{Refusal}
+use Rattle.model64.specs.declared.ProxyDistanceOutput.{ProxyDistanceOutput}
 use Rattle.model.specs.Ground.{abs}
 use Rattle.model.specs.Root.{root}
 use Rattle.model.specs.Domain as Domain
@@ -20,8 +23,6 @@ use Rattle.model.specs.Simplex as Simplex
 use Rattle.model.specs.Distance.{cache, all_below, replaced}
 use Rattle.model.specs.Distance as Narrow
 use Rattle.model64.specs.declared.Pose.{Pose as Pose64}
-use Rattle.model64.specs.declared.DistanceAnswer.{DistanceAnswer as DistanceAnswer64}
-use Rattle.model64.specs.declared.DistanceAnswer.TheVariants.{Measured, Refused}
 use Rattle.model64.specs.declared.Distance.{Distance as Distance64}
 use Rattle.model64.specs.Ground as Ground64
 use Rattle.model64.specs.Domain.{bad_parts}
@@ -101,13 +102,13 @@ abbrev pub thin_call : Distance64
 thin_call =
     call (pose_of thin) (drawn_marked binary64 [] thin.a) (Ground64.zero binary64) (drawn_marked binary64 [] thin.b) (Ground64.zero binary64) false ours none
 
-abbrev endings : DistanceAnswer64 → List Ending
-endings (Measured o) = o.ending ∷ []
-endings (Refused n) = []
+abbrev endings : Result ProxyDistanceOutput Refusal → List Ending
+endings (Ok o) = o.ending ∷ []
+endings (Err r) = []
 
-abbrev distances : DistanceAnswer64 → List Float
-distances (Measured o) = o.distance ∷ []
-distances (Refused n) = []
+abbrev distances : Result ProxyDistanceOutput Refusal → List Float
+distances (Ok o) = o.distance ∷ []
+distances (Err r) = []
 
 -- the plate's right side, corners 1 and 3, against the triangle's corner 3 at (1400, 300); 200 apart, and 150 less the radii
 abbrev pub from_hall : SimplexCache
@@ -179,13 +180,13 @@ module _ (p : Pose64) (a : List Float) (ra : Float) (b : List Float) (rb : Float
       not-touching : Settled ≡ Touching → ⊥
       not-touching e = let z : ◌≡◌ {A = ℕ} 0 1 = cc in omega arith
 
-      go : (x : DistanceAnswer64) → (call p a ra b rb radii ours none).answer ≡ x → endings x ≡ (Settled ∷ [])
+      go : (x : Result ProxyDistanceOutput Refusal) → (call p a ra b rb radii ours none).answer ≡ x → endings x ≡ (Settled ∷ [])
           → SpansNearestPlace (outline_a paper) (posed_b paper) (call p a ra b rb radii ours none).cache
-      go (Measured o) is h =
+      go (Ok o) is h =
           let ends : o.ending ≡ Settled = cc in
           (exact-wide p a ra b rb radii ours none paper o (record { a = refl; b = refl }) is (λ l. not-limit (sym ends ∙ l))).otherwise_nearest
           (λ t. not-touching (sym ends ∙ t))
-      go (Refused n) is h = absurd (refused h)
+      go (Err r) is h = absurd (refused h)
         where
           refused : ◌≡◌ {A = List Ending} [] (Settled ∷ []) → ⊥
           refused h = let z : ◌≡◌ {A = ℕ} 0 1 = cc in omega arith

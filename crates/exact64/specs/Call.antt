@@ -1,6 +1,6 @@
 -- Demand 3 and its kin, said of the f64 code's own call: the definition that `distance64` is proved to meet. What stands on the paper is what `exact`
 -- speaks of; a pose of the f64 crates is read as the pose with the same parts.
-use Rattle.std.specs.Prelude.{◌≡◌, ℕ, ◌≤◌, Bool, List, Float}
+use Rattle.std.specs.Prelude.{◌≡◌, ℕ, ◌≤◌, Bool, List, Float, Ok}
 use Rattle.std.specs.Float.{binary64}
 use Rattle.model.specs.declared.Pose.{Pose}
 use Rattle.model.specs.declared.SimplexCache.{SimplexCache}
@@ -8,7 +8,6 @@ use Rattle.model.specs.declared.Ending.TheVariants.{RoundLimit}
 use Rattle.model.specs.Domain.{cache_refusal}
 use Rattle.model64.specs.declared.Pose.{Pose as Pose64}
 use Rattle.model64.specs.declared.ProxyDistanceOutput.{ProxyDistanceOutput as Output64}
-use Rattle.model64.specs.declared.DistanceAnswer.TheVariants.{Measured}
 use Rattle.model64.specs.declared.Distance.{Distance as Distance64}
 use Rattle.model64.specs.Distance.{proxy_distance}
 use Rattle.plane.specs.Plane.{Point}
@@ -36,7 +35,7 @@ abbrev pub Demand3 : ℕ → Type 0
 Demand3 bound =
     (p : Pose64) (a : List Float) (ra : Float) (b : List Float) (rb : Float) (radii : Bool) (pair : ℕ) (c : SimplexCache)
     (paper : SquaredPaper bound (read p) a b) (o : Output64)
-    → IsCache c → (call p a ra b rb radii pair c).answer ≡ Measured o → (o.ending ≡ RoundLimit → ⊥)
+    → IsCache c → (call p a ra b rb radii pair c).answer ≡ Ok o → (o.ending ≡ RoundLimit → ⊥)
     → Exact (outline_a paper) (posed_b paper) o.ending (call p a ra b rb radii pair c).cache
 
 -- the other half: a call with its inputs in the domain is answered
@@ -44,14 +43,14 @@ abbrev pub Answered : ℕ → Type 0
 Answered bound =
     (p : Pose64) (a : List Float) (ra : Float) (b : List Float) (rb : Float) (radii : Bool) (pair : ℕ) (c : SimplexCache)
     (paper : SquaredPaper bound (read p) a b)
-    → InTheDomain binary64 paper ra rb → cache_refusal pair c ≡ 0 → (o : Output64) × ((call p a ra b rb radii pair c).answer ≡ Measured o)
+    → InTheDomain binary64 paper ra rb → cache_refusal pair c ≡ 0 → (o : Output64) × ((call p a ra b rb radii pair c).answer ≡ Ok o)
 
 -- Ask 14
 abbrev pub Exchange : ℕ → Type 0
 Exchange bound =
     (p q : Pose64) (a : List Float) (ra : Float) (b : List Float) (rb : Float) (radii radii' : Bool) (pair pair' : ℕ) (c c' : SimplexCache)
     (paper : SquaredPaper bound (read p) a b) (o o' : Output64) → IsInverse paper (read q) → IsCache c → IsCache c'
-    → (call p a ra b rb radii pair c).answer ≡ Measured o → (call q b rb a ra radii' pair' c').answer ≡ Measured o'
+    → (call p a ra b rb radii pair c).answer ≡ Ok o → (call q b rb a ra radii' pair' c').answer ≡ Ok o'
     → (o.ending ≡ RoundLimit → ⊥) → (o'.ending ≡ RoundLimit → ⊥)
     → Exchanged paper o.ending o'.ending (call p a ra b rb radii pair c).cache (call q b rb a ra radii' pair' c').cache
 
@@ -59,7 +58,7 @@ abbrev pub Shift : ℕ → Type 0
 Shift bound =
     (p q : Pose64) (a : List Float) (ra : Float) (b l : List Float) (rb : Float) (radii radii' : Bool) (pair pair' : ℕ) (c c' : SimplexCache)
     (paper : SquaredPaper bound (read p) a b) (by : Point) (o o' : Output64) → IsShifted paper by (read q) l → IsCache c → IsCache c'
-    → (call p a ra b rb radii pair c).answer ≡ Measured o → (call q a ra l rb radii' pair' c').answer ≡ Measured o'
+    → (call p a ra b rb radii pair c).answer ≡ Ok o → (call q a ra l rb radii' pair' c').answer ≡ Ok o'
     → (o.ending ≡ RoundLimit → ⊥) → (o'.ending ≡ RoundLimit → ⊥)
     → Alike paper by l o.ending o'.ending (call p a ra b rb radii pair c).cache (call q a ra l rb radii' pair' c').cache
 
@@ -68,7 +67,7 @@ module _ (p : Pose64) (a : List Float) (ra : Float) (b : List Float) (rb : Float
     {bound : ℕ} (paper : SquaredPaper bound (read p) a b) where
   pub record ExactAnswer : Type 0 where
     pub output : Output64
-    pub answered : (call p a ra b rb radii pair c).answer ≡ Measured output
+    pub answered : (call p a ra b rb radii pair c).answer ≡ Ok output
     pub in_time : output.ending ≡ RoundLimit → ⊥
     pub exact : Exact (outline_a paper) (posed_b paper) output.ending (call p a ra b rb radii pair c).cache
 
@@ -82,7 +81,7 @@ AlwaysExact bound =
 abbrev pub TellsAtMost : ℕ → ℕ → Type 0
 TellsAtMost bound k =
     (p : Pose64) (a : List Float) (ra : Float) (b : List Float) (rb : Float) (radii : Bool) (pair : ℕ) (c : SimplexCache) → SquaredPaper bound (read p) a b
-    → (o : Output64) → (call p a ra b rb radii pair c).answer ≡ Measured o → o.iterations ≤ k
+    → (o : Output64) → (call p a ra b rb radii pair c).answer ≡ Ok o → o.iterations ≤ k
 
 -- Ask 14 without "unless": from the domain and caches that are not refused
 module _ (p q : Pose64) (a : List Float) (ra : Float) (b : List Float) (rb : Float) (radii radii' : Bool) (pair pair' : ℕ) (c c' : SimplexCache)
@@ -90,8 +89,8 @@ module _ (p q : Pose64) (a : List Float) (ra : Float) (b : List Float) (rb : Flo
   pub record ExchangedAnswers : Type 0 where
     pub here : Output64
     pub there : Output64
-    pub answered_here : (call p a ra b rb radii pair c).answer ≡ Measured here
-    pub answered_there : (call q b rb a ra radii' pair' c').answer ≡ Measured there
+    pub answered_here : (call p a ra b rb radii pair c).answer ≡ Ok here
+    pub answered_there : (call q b rb a ra radii' pair' c').answer ≡ Ok there
     pub exchanged : Exchanged paper here.ending there.ending (call p a ra b rb radii pair c).cache (call q b rb a ra radii' pair' c').cache
 
 abbrev pub ExchangeAlways : ℕ → Type 0
@@ -105,8 +104,8 @@ module _ (p q : Pose64) (a : List Float) (ra : Float) (b l : List Float) (rb : F
   pub record ShiftedAnswers : Type 0 where
     pub here : Output64
     pub there : Output64
-    pub answered_here : (call p a ra b rb radii pair c).answer ≡ Measured here
-    pub answered_there : (call q a ra l rb radii' pair' c').answer ≡ Measured there
+    pub answered_here : (call p a ra b rb radii pair c).answer ≡ Ok here
+    pub answered_there : (call q a ra l rb radii' pair' c').answer ≡ Ok there
     pub alike : Alike paper by l here.ending there.ending (call p a ra b rb radii pair c).cache (call q a ra l rb radii' pair' c').cache
 
 abbrev pub ShiftAlways : ℕ → Type 0

@@ -1,6 +1,6 @@
 -- The rounds of the f64 code's own call, and no going round in circles said of them: the states are over the records of `model64`. Fractions, places and
 -- nearest places are those that `circles` speaks of.
-use Rattle.std.specs.Prelude.{◌≡◌, ◌⊎◌, Bool, false, List, ℕ, suc, ◌+◌, ◌/◌, length, Float}
+use Rattle.std.specs.Prelude.{◌≡◌, ◌⊎◌, Bool, false, List, ℕ, suc, ◌+◌, ◌/◌, length, Float, Ok}
 use Rattle.std.specs.Float.{binary64}
 use Rattle.model.specs.declared.SimplexCache.{SimplexCache}
 use Rattle.model.specs.declared.Ending.{Ending}
@@ -10,7 +10,6 @@ use Rattle.model64.specs.declared.Pose.{Pose}
 use Rattle.model64.specs.declared.SimplexVertex.{SimplexVertex}
 use Rattle.model64.specs.declared.Solved.{Solved}
 use Rattle.model64.specs.declared.ProxyDistanceOutput.{ProxyDistanceOutput}
-use Rattle.model64.specs.declared.DistanceAnswer.TheVariants.{Measured}
 use Rattle.model64.specs.Ground.{origin}
 use Rattle.model64.specs.Simplex.{slot, solve}
 use Rattle.model64.specs.Distance.{held, touches, start_simplex, support_a, support_b, extended}
@@ -77,6 +76,6 @@ abbrev pub NoCircles : ℕ → Type 0
 NoCircles bound =
     (p : Pose) (a : List Float) (ra : Float) (b : List Float) (rb : Float) (radii : Bool) (pair : ℕ) (c : SimplexCache)
     (paper : SquaredPaper bound (read p) a b) (o : ProxyDistanceOutput)
-    → (call p a ra b rb radii pair c).answer ≡ Measured o
+    → (call p a ra b rb radii pair c).answer ≡ Ok o
     → (k : ℕ) (x : State) → Reaches a b p c (suc (suc k)) x → GoesOn a b p x
     → Nearer paper o.ending o.iterations x

@@ -1,7 +1,7 @@
 -- Either one may be called A. Two outlines have one nearest difference, a point of the plane; a distance call on squared paper that does not end at the
 -- round limit tells it. With the outlines exchanged and the inverse pose it is negated and turned; with a shift of B that the pose takes back it stays.
 -- Which corners are named is left open: where flat sides face each other, many corners span the same nearest place.
-use Rattle.std.specs.Prelude.{◌≡◌, Bool, List, ℕ, ◌/◌, ◌<◌, T, length, get_or, Float}
+use Rattle.std.specs.Prelude.{◌≡◌, Bool, List, ℕ, ◌/◌, ◌<◌, T, length, get_or, Float, Ok}
 use Rattle.std.specs.Float.{Format}
 use Rattle.integers.specs.Signed.{0Int, of_nat, neg, ◌⊠◌, ◌≺◌}
 use Rattle.integers.specs.Whole.{IsWhole}
@@ -10,7 +10,6 @@ use Rattle.model.specs.declared.SimplexCache.{SimplexCache}
 use Rattle.model.specs.declared.Ending.{Ending}
 use Rattle.model.specs.declared.Ending.TheVariants.{Touching, RoundLimit}
 use Rattle.model.specs.declared.ProxyDistanceOutput.{ProxyDistanceOutput}
-use Rattle.model.specs.declared.DistanceAnswer.TheVariants.{Measured}
 use Rattle.model.specs.Support.{point}
 use Rattle.model.specs.Distance.{cache_is_valid, proxy_distance}
 use Rattle.plane.specs.Plane.{Point, sum, difference, opposite, turned, turned_back, total, weighted_sum}
@@ -101,7 +100,7 @@ abbrev pub Exchange : Format → ℕ → Type 0
 Exchange f bound =
     (p q : Pose) (a : List Float) (ra : Float) (b : List Float) (rb : Float) (radii radii' : Bool) (pair pair' : ℕ) (c c' : SimplexCache)
     (paper : SquaredPaper bound p a b) (o o' : ProxyDistanceOutput) → IsInverse paper q → IsCache c → IsCache c'
-    → (proxy_distance f p a ra b rb radii pair c).answer ≡ Measured o → (proxy_distance f q b rb a ra radii' pair' c').answer ≡ Measured o'
+    → (proxy_distance f p a ra b rb radii pair c).answer ≡ Ok o → (proxy_distance f q b rb a ra radii' pair' c').answer ≡ Ok o'
     → (o.ending ≡ RoundLimit → ⊥) → (o'.ending ≡ RoundLimit → ⊥)
     → Exchanged paper o.ending o'.ending (proxy_distance f p a ra b rb radii pair c).cache (proxy_distance f q b rb a ra radii' pair' c').cache
 
@@ -141,6 +140,6 @@ abbrev pub Shift : Format → ℕ → Type 0
 Shift f bound =
     (p q : Pose) (a : List Float) (ra : Float) (b l : List Float) (rb : Float) (radii radii' : Bool) (pair pair' : ℕ) (c c' : SimplexCache)
     (paper : SquaredPaper bound p a b) (by : Point) (o o' : ProxyDistanceOutput) → IsShifted paper by q l → IsCache c → IsCache c'
-    → (proxy_distance f p a ra b rb radii pair c).answer ≡ Measured o → (proxy_distance f q a ra l rb radii' pair' c').answer ≡ Measured o'
+    → (proxy_distance f p a ra b rb radii pair c).answer ≡ Ok o → (proxy_distance f q a ra l rb radii' pair' c').answer ≡ Ok o'
     → (o.ending ≡ RoundLimit → ⊥) → (o'.ending ≡ RoundLimit → ⊥)
     → Alike paper by l o.ending o'.ending (proxy_distance f p a ra b rb radii pair c).cache (proxy_distance f q a ra l rb radii' pair' c').cache

@@ -1,11 +1,10 @@
 -- Either one may be called A, within the bound at which the round limit is never reached: both calls are answered and tell the one nearest difference, from
 -- the domain and caches that are not refused alone.
-use Rattle.std.specs.Prelude.{◌≡◌, Bool, List, ℕ, ◌/◌, ◌<◌, length, Float}
+use Rattle.std.specs.Prelude.{◌≡◌, Bool, List, ℕ, ◌/◌, ◌<◌, length, Float, Ok}
 use Rattle.std.specs.Float.{Format}
 use Rattle.model.specs.declared.Pose.{Pose}
 use Rattle.model.specs.declared.SimplexCache.{SimplexCache}
 use Rattle.model.specs.declared.ProxyDistanceOutput.{ProxyDistanceOutput}
-use Rattle.model.specs.declared.DistanceAnswer.TheVariants.{Measured}
 use Rattle.model.specs.Domain.{cache_refusal}
 use Rattle.model.specs.Distance.{proxy_distance}
 use Rattle.plane.specs.Plane.{Point, sum}
@@ -23,8 +22,8 @@ module _ (f : Format) (p q : Pose) (a : List Float) (ra : Float) (b : List Float
   pub record ExchangedAnswers : Type 0 where
     pub here : ProxyDistanceOutput
     pub there : ProxyDistanceOutput
-    pub answered_here : (proxy_distance f p a ra b rb radii pair c).answer ≡ Measured here
-    pub answered_there : (proxy_distance f q b rb a ra radii' pair' c').answer ≡ Measured there
+    pub answered_here : (proxy_distance f p a ra b rb radii pair c).answer ≡ Ok here
+    pub answered_there : (proxy_distance f q b rb a ra radii' pair' c').answer ≡ Ok there
     pub exchanged : Exchanged paper here.ending there.ending (proxy_distance f p a ra b rb radii pair c).cache
         (proxy_distance f q b rb a ra radii' pair' c').cache
 
@@ -44,8 +43,8 @@ module _ (f : Format) (p q : Pose) (a : List Float) (ra : Float) (b l : List Flo
   pub record ShiftedAnswers : Type 0 where
     pub here : ProxyDistanceOutput
     pub there : ProxyDistanceOutput
-    pub answered_here : (proxy_distance f p a ra b rb radii pair c).answer ≡ Measured here
-    pub answered_there : (proxy_distance f q a ra l rb radii' pair' c').answer ≡ Measured there
+    pub answered_here : (proxy_distance f p a ra b rb radii pair c).answer ≡ Ok here
+    pub answered_there : (proxy_distance f q a ra l rb radii' pair' c').answer ≡ Ok there
     pub alike : Alike paper by l here.ending there.ending (proxy_distance f p a ra b rb radii pair c).cache
         (proxy_distance f q a ra l rb radii' pair' c').cache
 

@@ -2,13 +2,15 @@
 // The fields that the sheet's lines and a route's line share: the letter of a status, and the floats of a contact.
 #![tactic(auto)]
 
-ghost use Rattle.std.specs.Prelude.{◌≡◌, ◌+◌, ◌≤◌, length};
+ghost use Rattle.std.specs.Prelude.{◌≡◌, ◌+◌, length};
 ghost use Rattle.model.specs.Sheet.{letter_of};
-ghost use Rattle.text.specs.Put.{Put, where_room};
+ghost use Rattle.text.specs.Put.{where_room};
+ghost use Rattle.text.specs.Written.{Room, Wrote};
 ghost use Rattle.fields64.specs.Floats.{float_room, contact_room, hex_of, floats};
 
 use model::Status;
 use model64::Contact;
+use text::Draft;
 
 // Five floats, each with the blank after it.
 const CONTACT_ROOM: usize = 85;
@@ -25,35 +27,32 @@ pub fn letter_of(status: Status) -> u8
 }
 
 // A float by its pattern in hexadecimal digits, any NaN as one, and a blank.
-fn put_float(out: &mut [u8], at: usize, x: f64) -> usize
-    requires { at + float_room ≤ length out.old }
-    ensures { Put out.old at (hex_of x) out.new result }
+fn put_float(draft: &mut Draft<'_>, x: f64)
+    requires { Room float_room draft.old }
+    ensures { Wrote float_room draft.old (hex_of x) draft.new }
 {
-    text::put_wide_hex(out, at, ground64::to_bits(x), b' ')
+    draft.put_wide_hex(ground64::to_bits(x), b' ');
 }
 
 // The floats of a contact, and a blank after each.
-fn put_contact(out: &mut [u8], at: usize, c: Contact) -> usize
-    requires { at + contact_room ≤ length out.old }
-    ensures { Put out.old at (floats c) out.new result }
+fn put_floats(draft: &mut Draft<'_>, c: Contact)
+    requires { Room contact_room draft.old }
+    ensures { Wrote contact_room draft.old (floats c) draft.new }
 {
-    let e1 = put_float(out, at, c.fraction);
-    let e2 = put_float(out, e1, c.point.x);
-    let e3 = put_float(out, e2, c.point.y);
-    let e4 = put_float(out, e3, c.normal.x);
-    put_float(out, e4, c.normal.y)
+    put_float(draft, c.fraction);
+    put_float(draft, c.point.x);
+    put_float(draft, c.point.y);
+    put_float(draft, c.normal.x);
+    put_float(draft, c.normal.y);
 }
 
 // The same, where there is room for them; else nothing is written, and the place stays.
-pub fn write_contact(out: &mut [u8], at: usize, c: Contact) -> usize
-    ensures { Put out.old at (where_room (at + contact_room) (length out.old) (floats c)) out.new result }
+pub fn put_contact(draft: &mut Draft<'_>, c: Contact)
+    ensures { Wrote contact_room draft.old
+        (where_room (draft.old.at + contact_room) (length draft.old.bytes.now) (floats c)) draft.new }
 {
-    let size = out.len();
-    if size < CONTACT_ROOM {
-        return at;
+    if draft.lacks(CONTACT_ROOM) {
+        return;
     }
-    if size - CONTACT_ROOM < at {
-        return at;
-    }
-    put_contact(out, at, c)
+    put_floats(draft, c);
 }

@@ -2,14 +2,14 @@
 ghost use Rattle.std.specs.Prelude.{◌≡◌};
 ghost use Rattle.foldflake.specs.Entry.{built_number};
 
-use shapes::Built;
+use model::Refusal;
 
 // 32, or the number of its refusal.
-pub fn built_number(x: Built) -> u32
+pub fn built_number(x: Result<usize, Refusal>) -> u32
     ensures { result ≡ built_number x }
 {
     match x {
-        Built::Corners(_) => 32,
-        Built::Refused(number) => number,
+        Ok(_) => 32,
+        Err(refused) => refused.number,
     }
 }

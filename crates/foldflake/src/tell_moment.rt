@@ -2,8 +2,7 @@
 ghost use Rattle.std.specs.Prelude.{◌≡◌, [], ◌∷◌, length};
 ghost use Rattle.foldflake.specs.Moment.{pose_floats, pose_number, pose_after, gap_number, gap_after};
 
-use at_fraction::GapAnswer;
-use model::{CheckedPose, Pose};
+use model::{Pose, Refusal};
 
 fn put_pose(out: &mut [f32], pose: Pose) -> u32
     requires { length out.old ≡ 4 }
@@ -25,22 +24,22 @@ fn put_gap(out: &mut [f32], apart: f32) -> u32
 }
 
 // A refusal writes nothing.
-pub fn tell_pose(x: CheckedPose, out: &mut [f32]) -> u32
+pub fn tell_pose(x: Result<Pose, Refusal>, out: &mut [f32]) -> u32
     requires { length out.old ≡ 4 }
     ensures { (result ≡ pose_number x) × (out.new ≡ pose_after x out.old) }
 {
     match x {
-        CheckedPose::Good(pose) => put_pose(out, pose),
-        CheckedPose::Refused(number) => number,
+        Ok(pose) => put_pose(out, pose),
+        Err(refused) => refused.number,
     }
 }
 
-pub fn tell_gap(x: GapAnswer, out: &mut [f32]) -> u32
+pub fn tell_gap(x: Result<f32, Refusal>, out: &mut [f32]) -> u32
     requires { length out.old ≡ 1 }
     ensures { (result ≡ gap_number x) × (out.new ≡ gap_after x out.old) }
 {
     match x {
-        GapAnswer::Apart(apart) => put_gap(out, apart),
-        GapAnswer::Refused(number) => number,
+        Ok(apart) => put_gap(out, apart),
+        Err(refused) => refused.number,
     }
 }

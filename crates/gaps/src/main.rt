@@ -5,68 +5,47 @@
 
 use gaps_lines::{PART_SIZE, Tally};
 use std::io::{Read, Write};
+use std::ops::ControlFlow;
 use std::process::ExitCode;
 use streams::Stopped;
 
-// Whether the run goes on, and the tally so far.
-#[derive(Clone, Copy)]
-struct Worked {
-    more: bool,
-    tally: Tally,
-}
-
-// Writes the text of a part.
+// Writes the text of a part, by room lent for it, and counts its blocks.
+// The same as in `sheet`: one function for both would ask of its closure that the text ends within the room, which is proved here of this text.
 fn work_part<W: Write, E: Write>(
     out: &mut W,
     err: &mut E,
     part: &[u8],
-    t: Tally,
-) -> Result<Worked, Stopped> {
-    let mut text = io::large_buffer();
-    let written = gaps_lines::write_part(part, &mut text, t);
-    let tally = written.tally;
-    streams::write_to_output(out, err, &text, written.at)?;
-    if written.last & (tally.blocks == 0) {
-        streams::write_to_error(err, b"standard input: no block came\n", 30)?;
+    text: &mut [u8],
+    tally: &mut Tally,
+) -> Result<ControlFlow<()>, Stopped> {
+    let written = gaps_lines::write_part(part, text, *tally);
+    *tally = written.tally;
+    streams::write_to_output(out, err, &text[..written.at])?;
+    if !written.last {
+        return Ok(ControlFlow::Continue(()));
     }
-    Ok(Worked {
-        more: !written.last,
-        tally,
-    })
+    if tally.blocks == 0 {
+        streams::write_to_error(err, b"standard input: no block came\n")?;
+    }
+    Ok(ControlFlow::Break(()))
 }
 
-fn next_part<R: Read, W: Write, E: Write>(
-    input: &mut R,
-    out: &mut W,
-    err: &mut E,
-    t: Tally,
-) -> Result<Worked, Stopped> {
-    let mut buffer = [0u8; PART_SIZE];
-    let filled = streams::fill_from_input(input, err, &mut buffer);
-    if filled.failed.is_some() {
-        return Err(Stopped::Told);
-    }
-    let n = filled.count;
-    work_part(out, err, &buffer[..n], t)
-}
-
-// A proved loop has to end, and nothing says that the input does: so the reads are counted, to a number that no run reaches.
+// The whole run. What an earlier part left in the buffer, and in the text, is not looked at.
 fn run<R: Read, W: Write, E: Write>(
     input: &mut R,
     out: &mut W,
     err: &mut E,
 ) -> Result<(), Stopped> {
-    let mut t = Tally {
+    let mut tally = Tally {
         blocks: 0,
         refused: 0,
     };
-    for reads in 0..u64::MAX {
-        let worked = next_part(input, out, err, t)?;
-        t = worked.tally;
-        if !worked.more {
-            return Ok(());
-        }
-    }
+    let mut buffer = [0u8; PART_SIZE];
+    let mut text = io::large_buffer();
+    streams::each_part(input, &mut buffer, |part| {
+        let part = streams::told(err, b"standard input", part)?;
+        work_part(out, err, part, &mut text, &mut tally)
+    })?;
     Ok(())
 }
 

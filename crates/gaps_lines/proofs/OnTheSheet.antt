@@ -1,20 +1,21 @@
 -- What is refused here is what the sheet refuses, by the same line, and both count the same. Assumes nothing.
+use Rattle.std.proofs.Common.{Ok, Err}
 use mathlib.Core.Path.{◌≡◌, refl, ap}
 use mathlib.Core.List.{List, [], ◌∷◌, map}
 use Prim.Native.Nat.{ℕ, ◌+◌}
 use lib.Ieee.{Format}
 use Rattle.model.specs.declared.Status.{Status}
 use Rattle.model.specs.declared.Status.TheVariants.{Overlapped, Hit, Separated, Failed}
-use Rattle.model.specs.declared.BlockAnswer.{BlockAnswer}
-use Rattle.model.specs.declared.BlockAnswer.TheVariants.{Worked, Refused}
 use Rattle.model.specs.declared.Totals.{Totals}
 use Rattle.model.specs.Blocks.{blocks}
 use Rattle.model.specs.Sheet.{answer_of, answers, answer_line, one_worked, totals_from}
 use Rattle.model.specs.Sheet as Sheet
+use Rattle.model.specs.Block.{refused}
+use Rattle.model.specs.Work.{BlockAnswer}
 use Rattle.gaps_lines.specs.declared.part.Tally.{Tally}
 use Rattle.gaps_lines.specs.Gaps.{line_of, none, counted, tally_from}
 
-pub refused-as-on-the-sheet : (f : Format) (n : ℕ) (b : List ℕ) (job number : ℕ) → answer_of f b ≡ Refused job number
+pub refused-as-on-the-sheet : (f : Format) (n : ℕ) (b : List ℕ) (job number : ℕ) → answer_of f b ≡ refused job number
     → line_of f n b ≡ answer_line f n (answer_of f b)
 refused-as-on-the-sheet f n b job number e = rw e
 
@@ -23,8 +24,8 @@ abbrev Agree : Tally → Totals → Type 0
 Agree t s = (t.blocks ≡ s.blocks) × (t.refused ≡ s.refused)
 
 one_more : (t : Tally) (s : Totals) (x : BlockAnswer) → Agree t s → Agree (counted t x) (Sheet.counted s x)
-one_more t s (Refused job number) (b, r) = (ap (λ (n : ℕ). n + 1) b, ap (λ (n : ℕ). n + 1) r)
-one_more t s (Worked job v) (b, r) = go v.status
+one_more t s (Err e) (b, r) = (ap (λ (n : ℕ). n + 1) b, ap (λ (n : ℕ). n + 1) r)
+one_more t s (Ok w) (b, r) = go w.verdict.status
   where
     go : (k : Status) → (t.blocks + 1 ≡ (one_worked s k).blocks) × (t.refused ≡ (one_worked s k).refused)
     go Overlapped = (ap (λ (n : ℕ). n + 1) b, r)

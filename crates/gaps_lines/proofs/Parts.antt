@@ -1,4 +1,5 @@
 -- Lines one after the other, what there is room for, and that no count overflows. Assumes nothing.
+use Rattle.std.proofs.Common.{Result, Ok, Err}
 use mathlib.Core.Path.{◌≡◌, refl, sym, ap, ◌∙◌}
 use mathlib.Core.Bool.{Bool, true, false, ◌&&◌, cond}
 use mathlib.Core.List.{List, [], ◌∷◌, ◌++◌, append-nil, append_assoc}
@@ -10,26 +11,24 @@ use lib.Dec.{eqb, ltb, leb}
 use lib.Ieee.{binary32}
 use lib.ListN.{length, take, drop, length-drop}
 use lib.Seq.{length-take-le}
-use Rattle.model.specs.declared.CheckedBlock.{CheckedBlock}
-use Rattle.model.specs.declared.CheckedBlock.TheVariants as Checked
-use Rattle.model.specs.declared.BlockAnswer.{BlockAnswer}
-use Rattle.model.specs.declared.BlockAnswer.TheVariants.{Worked, Refused}
+use Rattle.model.specs.declared.Block.{Block}
+use Rattle.model.specs.declared.BlockRefusal.{BlockRefusal}
 use Rattle.model.specs.declared.Verdict.{Verdict}
-use Rattle.model.specs.Block.{checked_block, most_points}
+use Rattle.model.specs.Block.{checked_block, most_points, refused}
 use Rattle.model.specs.Blocks.{whole_blocks, short_rest, blocks, is_good}
 use Rattle.model.specs.Parts.{count_limit}
 use Rattle.model.specs.Sheet.{answer_of, refused_line}
 use Rattle.model.specs.Wire.{byte}
-use Rattle.model.specs.Work.{block_answer, answer_by}
+use Rattle.model.specs.Work.{block_answer, answer_by, BlockAnswer, worked}
 use Rattle.block.proofs.Passed.{is-passed, fields-of}
 use Rattle.model.proofs.Blocks.{blocks_more, rest_of, rest-short}
 use Rattle.model.proofs.DistanceCall.{both}
-use Rattle.text.specs.Put.{Put}
-use Rattle.text.proofs.Pasted.{put_then}
+use Rattle.text.specs.declared.draft.Draft.{Draft}
+use Rattle.text.specs.Written.{Wrote}
+use Rattle.text.proofs.Written.{wrote-then}
 use Rattle.gaps_lines.specs.declared.part.Tally.{Tally}
 use Rattle.gaps_lines.specs.Gaps.{longest_line, line_by, line_of, lines_from, counted, tally_from}
 use Rattle.gaps_lines.specs.Part.{Below, rest_line, rest_tally, fits}
-use Rattle.gaps_lines.proofs.Pieces.{length-refused}
 
 -- ---- folds over blocks in two parts
 pub lines-append : (n : ℕ) (xs ys : List (List ℕ)) → lines_from binary32 n (xs ++ ys) ≡ lines_from binary32 n xs ++ lines_from binary32 (n + length xs) ys
@@ -46,8 +45,8 @@ tally-append t (x ∷ xs) ys = tally-append (counted t (answer_of binary32 x)) x
 
 -- every block is counted once
 one-counted : (t : Tally) (x : BlockAnswer) → (counted t x).blocks ≡ t.blocks + 1
-one-counted t (Worked job v) = refl
-one-counted t (Refused job number) = refl
+one-counted t (Ok w) = refl
+one-counted t (Err r) = refl
 
 pub blocks-counted : (t : Tally) (xs : List (List ℕ)) → (tally_from binary32 t xs).blocks ≡ t.blocks + length xs
 unfolding tally_from
@@ -57,8 +56,8 @@ blocks-counted t (x ∷ xs) =
 
 -- and no more are refused than there are
 one-refused : (t : Tally) (x : BlockAnswer) → t.refused ≤ t.blocks → (counted t x).refused ≤ (counted t x).blocks
-one-refused t (Worked job v) h = omega arith
-one-refused t (Refused job number) h = omega arith
+one-refused t (Ok w) h = omega arith
+one-refused t (Err r) h = omega arith
 
 pub refused-among : (t : Tally) (xs : List (List ℕ)) → t.refused ≤ t.blocks → (tally_from binary32 t xs).refused ≤ (tally_from binary32 t xs).blocks
 unfolding tally_from
@@ -70,8 +69,8 @@ pub below_less : {m n : ℕ} {t : Tally} → m ≤ n → Below m t → Below n t
 below_less le h = record { blocks = omega (arith, h.blocks); refused = omega (arith, h.refused) }
 
 pub below_more : (n : ℕ) (t : Tally) (x : BlockAnswer) → Below n t → Below (n + 1) (counted t x)
-below_more n t (Worked job v) h = record { blocks = omega (arith, h.blocks); refused = omega (arith, h.refused) }
-below_more n t (Refused job number) h = record { blocks = omega (arith, h.blocks); refused = omega (arith, h.refused) }
+below_more n t (Ok w) h = record { blocks = omega (arith, h.blocks); refused = omega (arith, h.refused) }
+below_more n t (Err r) h = record { blocks = omega (arith, h.blocks); refused = omega (arith, h.refused) }
 
 -- ---- what there is room for
 pub record Room (size room : ℕ) (t : Tally) : Type 0 where
@@ -87,31 +86,31 @@ fits-room size room t e =
       small = record { blocks = ltb-true _ _ one.1; refused = ltb-true _ _ two.1 };
     }
 
--- ---- a turn over the blocks of a part: n bytes from the block's start are its 512
-module _ (t₀ t : Tally) (b : List ℕ) (i n : ℕ) (whole : n ≡ 512) (inside : 512 * i + 512 ≤ length b)
+-- ---- a turn over the blocks of a part
+module _ (t₀ t : Tally) (b : List ℕ) (i : ℕ) (inside : 512 * i + 512 ≤ length b)
     (so_far : t ≡ tally_from binary32 t₀ (whole_blocks i b)) where
   abbrev x : List ℕ
-  x = take n (drop (512 * i) b)
+  x = take 512 (drop (512 * i) b)
 
   size : length x ≡ 512
-  size = length-take-le n (drop (512 * i) b) (rw (length-drop (512 * i) b) (omega (arith, whole, inside))) ∙ whole
+  size = length-take-le 512 (drop (512 * i) b) (rw (length-drop (512 * i) b) (omega (arith, inside)))
 
   answered : answer_of binary32 x ≡ block_answer binary32 x
   answered = rw (eq-eqb (length x) 512 size)
 
   more : whole_blocks (i + 1) b ≡ whole_blocks i b ++ (x ∷ [])
-  more = rw (add-one i, whole) (blocks_more i b)
+  more = rw (add-one i) (blocks_more i b)
 
   number : t.blocks ≡ t₀.blocks + length (whole_blocks i b)
   number = rw so_far (blocks-counted t₀ (whole_blocks i b))
 
-  pub line_step : {d₀ d d' : List ℕ} {at at' : ℕ} → Put d₀ 0 (lines_from binary32 t₀.blocks (whole_blocks i b)) d at
-      → Put d at (line_by binary32 (t.blocks + 1) x (block_answer binary32 x)) d' at'
-      → Put d₀ 0 (lines_from binary32 t₀.blocks (whole_blocks (i + 1) b)) d' at'
+  pub line_step : {k m : ℕ} {p₀ p p' : Draft} → p₀.at ≤ length p₀.bytes.now → Wrote k p₀ (lines_from binary32 t₀.blocks (whole_blocks i b)) p
+      → Wrote m p (line_by binary32 (t.blocks + 1) x (block_answer binary32 x)) p'
+      → Wrote (k + m) p₀ (lines_from binary32 t₀.blocks (whole_blocks (i + 1) b)) p'
   unfolding lines_from
-  line_step p q =
+  line_step start v w =
       let one = line_by binary32 (t.blocks + 1) x (block_answer binary32 x) in
-      rw (more, lines-append t₀.blocks (whole_blocks i b) (x ∷ []), ← number, answered, append-nil one) (put_then (omega arith) p q)
+      rw (more, lines-append t₀.blocks (whole_blocks i b) (x ∷ []), ← number, answered, append-nil one) (wrote-then start v w)
 
   pub tally-step : {t' : Tally} → t' ≡ counted t (block_answer binary32 x) → t' ≡ tally_from binary32 t₀ (whole_blocks (i + 1) b)
   unfolding tally_from
@@ -130,16 +129,9 @@ rest-tally : (b : List ℕ) (t : Tally) → tally_from binary32 t (short_rest b)
 unfolding tally_from
 rest-tally b t = go (eqb (length b % 512) 0)
   where
-    go : (none : Bool) → tally_from binary32 t (cond none [] (rest_of b ∷ [])) ≡ cond none t (counted t (Refused 0 9))
+    go : (none : Bool) → tally_from binary32 t (cond none [] (rest_of b ∷ [])) ≡ cond none t (counted t (refused 0 9))
     go true = refl
     go false = rw (rest-short b)
-
-pub length_rest : (t : Tally) (rest : ℕ) → length (rest_line t rest) ≤ longest_line
-length_rest t rest = go (eqb rest 0)
-  where
-    go : (none : Bool) → length (cond none [] (refused_line (t.blocks + 1) 0 9)) ≤ longest_line
-    go true = omega arith
-    go false = length-refused (t.blocks + 1) 0 9
 
 -- ---- the whole blocks and the rest are the blocks of the part
 in_two : (b : List ℕ) → blocks b ≡ whole_blocks (length b / 512) b ++ short_rest b
@@ -147,12 +139,13 @@ unfolding blocks
 in_two b = refl
 
 module _ (t₀ t : Tally) (b : List ℕ) (so_far : t ≡ tally_from binary32 t₀ (whole_blocks (length b / 512) b)) where
-  pub all_lines : {d₀ d d' : List ℕ} {at at' : ℕ} → Put d₀ 0 (lines_from binary32 t₀.blocks (whole_blocks (length b / 512) b)) d at
-      → Put d at (rest_line t (length b % 512)) d' at' → Put d₀ 0 (lines_from binary32 t₀.blocks (blocks b)) d' at'
-  all_lines p q =
+  pub all_lines : {k m : ℕ} {p₀ p p' : Draft} → p₀.at ≤ length p₀.bytes.now
+      → Wrote k p₀ (lines_from binary32 t₀.blocks (whole_blocks (length b / 512) b)) p
+      → Wrote m p (rest_line t (length b % 512)) p' → Wrote (k + m) p₀ (lines_from binary32 t₀.blocks (blocks b)) p'
+  all_lines start v w =
       let xs = whole_blocks (length b / 512) b in
       let number : t.blocks ≡ t₀.blocks + length xs = rw so_far (blocks-counted t₀ xs) in
-      rw (in_two b, lines-append t₀.blocks xs (short_rest b), ← number, rest_lines b t) (put_then (omega arith) p q)
+      rw (in_two b, lines-append t₀.blocks xs (short_rest b), ← number, rest_lines b t) (wrote-then start v w)
 
   pub all-tally : {t' : Tally} → t' ≡ rest_tally t (length b % 512) → t' ≡ tally_from binary32 t₀ (blocks b)
   all-tally e =
@@ -160,10 +153,10 @@ module _ (t₀ t : Tally) (b : List ℕ) (so_far : t ≡ tally_from binary32 t�
       e ∙ sym (rest-tally b t) ∙ rw (in_two b, tally-append t₀ xs (short_rest b), ← so_far)
 
 -- ---- a block that is worked has passed its checks, so its outlines have at most sixteen points each
-pub worked-counts : (b : List ℕ) {job : ℕ} {v : Verdict} → block_answer binary32 b ≡ Worked job v → (byte b 4 ≤ most_points) × (byte b 5 ≤ most_points)
+pub worked-counts : (b : List ℕ) {job : ℕ} {v : Verdict} → block_answer binary32 b ≡ worked job v → (byte b 4 ≤ most_points) × (byte b 5 ≤ most_points)
 unfolding block_answer
 worked-counts b {job} {v} e = go (checked_block b) refl e
   where
-    go : (k : CheckedBlock) → checked_block b ≡ k → answer_by binary32 b k ≡ Worked job v → (byte b 4 ≤ most_points) × (byte b 5 ≤ most_points)
-    go (Checked.Good k) c e = let f = fields-of b (is-passed b (ap is_good c)).fields in (f.count-a, f.count-b)
-    go (Checked.Refused j number) c e = absurd (let z : ◌≡◌ {A = ℕ} 0 1 = cc in omega (arith, z))
+    go : (k : Result Block BlockRefusal) → checked_block b ≡ k → answer_by binary32 b k ≡ worked job v → (byte b 4 ≤ most_points) × (byte b 5 ≤ most_points)
+    go (Ok k) c e = let f = fields-of b (is-passed b (ap is_good c)).fields in (f.count-a, f.count-b)
+    go (Err r) c e = absurd (let z : ◌≡◌ {A = ℕ} 0 1 = cc in omega (arith, z))

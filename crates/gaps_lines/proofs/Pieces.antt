@@ -1,29 +1,22 @@
--- The pieces of a line: how long they get, and how a line is made of them. Assumes nothing.
+-- How a line is made of its pieces. Assumes nothing.
 use mathlib.Core.Path.{◌≡◌, refl, sym, ap, ◌∙◌}
 use mathlib.Core.List.{List, [], ◌∷◌, ◌++◌, append_assoc, append-nil}
-use Prim.Native.Nat.{ℕ, zero, suc, ◌+◌, ◌*◌, ◌≤◌}
+use Prim.Native.Nat.{ℕ, zero, suc, ◌+◌}
 use native.Mathlib.Omega.{arith}
 use native.Mathlib.Numerals.{add-one}
-use lib.Ieee.{Float, binary32, to_bits}
-use lib.ListN.{length, length-append}
+use lib.Ieee.{Float, binary32}
 use Rattle.model.specs.declared.Sweep.{Sweep}
-use Rattle.model.specs.declared.BlockAnswer.{BlockAnswer}
-use Rattle.model.specs.declared.BlockAnswer.TheVariants.{Worked, Refused}
 use Rattle.model.specs.Sheet.{refused_line}
 use Rattle.model.specs.Text.{decimal, hex_float, line}
 use Rattle.model.specs.Work.{floats_at, move_at}
 use Rattle.text.specs.Put.{number}
-use Rattle.text.proofs.Lengths.{length-number, length-hex}
 use Rattle.gaps_lines.specs.declared.part.Tally.{Tally}
-use Rattle.gaps_lines.specs.Gaps.{longest_line, gap_at, gap_fields, block_gaps, worked_line, line_by, total_line}
-use Rattle.gaps_lines.specs.Pieces.{two, gap_text, gap_texts, gaps_text, gaps_room, block_text}
+use Rattle.gaps_lines.specs.Gaps.{gap_at, gap_fields, block_gaps, worked_line, total_line}
+use Rattle.gaps_lines.specs.Pieces.{two, gap_text, gap_texts, gaps_text, block_text}
 
 pub two_is : (a b end : ℕ) → two a b end ≡ number a 32 ++ number b end
 unfolding two
 two_is a b end = refl
-
-pub length_two : (a b end : ℕ) → length (two a b end) ≤ 42
-length_two a b end = rw (two_is a b end, length-append (number a 32) (number b end)) (omega (arith, length-number a 32, length-number b end))
 
 -- ---- gaps, one more at a time
 module _ (outline_a : List Float) (wa : Sweep) (outline_b : List Float) (wb : Sweep) (most : Float) where
@@ -35,10 +28,6 @@ module _ (outline_a : List Float) (wa : Sweep) (outline_b : List Float) (wb : Sw
 
   abbrev fields : ℕ → ℕ → List (List ℕ)
   fields = gap_fields binary32 outline_a wa outline_b wb most
-
-  pub length-gap : (k end : ℕ) → length (text k end) ≡ 9
-  unfolding gap_text
-  length-gap k end = length-hex (to_bits binary32 (gap_at binary32 outline_a wa outline_b wb most k)) end
 
   texts-more : (k n : ℕ) → texts k (n + 1) ≡ texts k n ++ text (k + n) 32
   unfolding gap_texts
@@ -53,18 +42,9 @@ module _ (outline_a : List Float) (wa : Sweep) (outline_b : List Float) (wb : Sw
   pub gaps-more : (k : ℕ) → texts 0 (k + 1) ≡ texts 0 k ++ text k 32
   gaps-more k = let e : 0 + k ≡ k = omega arith in texts-more 0 k ∙ rw e
 
-  length-texts : (k n : ℕ) → length (texts k n) ≡ 9 * n
-  unfolding gap_texts
-  length-texts k zero = refl
-  length-texts k (suc n) =
-      rw (length-append (text k 32) (texts (k + 1) n)) (omega (arith, length-gap k 32, length-texts (k + 1) n))
-
   pub gaps-are : gaps_text outline_a wa outline_b wb most ≡ texts 0 256 ++ text 256 10
   unfolding gaps_text
   gaps-are = refl
-
-  pub length-gaps : length (gaps_text outline_a wa outline_b wb most) ≡ gaps_room
-  length-gaps = rw (gaps-are, length-append (texts 0 256) (text 256 10)) (omega (arith, length-texts 0 256, length-gap 256 10))
 
   -- the fields of a line, with a blank between and a newline
   fields-line : (k n : ℕ) → line (fields k (suc n)) ≡ texts k n ++ text (k + n) 10
@@ -91,10 +71,6 @@ pub worked-is : (n job : ℕ) (b : List ℕ) → worked_line binary32 n job b �
 unfolding worked_line block_gaps block_text move_at floats_at
 worked-is n job b = gaps-line _ _ _ _ _ n job
 
-pub length-block : (b : List ℕ) → length (block_text b) ≡ gaps_room
-unfolding block_text
-length-block b = length-gaps _ _ _ _ _
-
 pub refused-is : (n job k : ℕ) → refused_line n job k ≡ two n job 32 ++ number k 10
 unfolding refused_line line two
 refused-is n job k = simp append_assoc
@@ -102,17 +78,3 @@ refused-is n job k = simp append_assoc
 pub total-is : (t : Tally) → total_line t ≡ (84 ∷ 79 ∷ 84 ∷ 65 ∷ 76 ∷ 32 ∷ []) ++ two t.blocks t.refused 10
 unfolding total_line line two
 total-is t = simp append_assoc
-
--- ---- the longest line
-length-worked : (n job : ℕ) (b : List ℕ) → length (worked_line binary32 n job b) ≤ longest_line
-length-worked n job b =
-    rw (worked-is n job b, length-append (two n job 32 ++ (48 ∷ 32 ∷ [])) (block_text b), length-append (two n job 32) (48 ∷ 32 ∷ []))
-    (omega (arith, length_two n job 32, length-block b))
-
-pub length-refused : (n job k : ℕ) → length (refused_line n job k) ≤ longest_line
-length-refused n job k =
-    rw (refused-is n job k, length-append (two n job 32) (number k 10)) (omega (arith, length_two n job 32, length-number k 10))
-
-pub length-line : (n : ℕ) (b : List ℕ) (x : BlockAnswer) → length (line_by binary32 n b x) ≤ longest_line
-length-line n b (Worked job v) = length-worked n job b
-length-line n b (Refused job k) = length-refused n job k

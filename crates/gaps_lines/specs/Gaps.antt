@@ -1,17 +1,15 @@
 -- The gaps of a batch: of each block that is worked the distance of its outlines, without radii, at 257 fractions of its moves. Each is the distance
 -- call's answer at that fraction; nothing is said of the moments between.
-use Rattle.std.specs.Prelude.{ℕ, zero, suc, ◌+◌, pos, List, [], ◌∷◌, ◌++◌, Float}
+use Rattle.std.specs.Prelude.{ℕ, zero, suc, ◌+◌, pos, List, [], ◌∷◌, ◌++◌, Float, Ok, Err}
 use Rattle.std.specs.Float.{Format}
 use Rattle.std.specs.Float.Ieee.{of_int, mul, div}
 use Rattle.model.specs.declared.Sweep.{Sweep}
-use Rattle.model.specs.declared.BlockAnswer.{BlockAnswer}
-use Rattle.model.specs.declared.BlockAnswer.TheVariants.{Worked, Refused}
 use Rattle.model.specs.Ground.{constant}
 use Rattle.model.specs.Support.{point}
 use Rattle.model.specs.Text.{decimal, hex_float, line}
 use Rattle.model.specs.Block.{block_of}
 use Rattle.model.specs.Blocks.{blocks}
-use Rattle.model.specs.Work.{move_at, numbers_of, points_a, points_b}
+use Rattle.model.specs.Work.{move_at, numbers_of, points_a, points_b, BlockAnswer}
 use Rattle.model.specs.Sheet.{answer_of, refused_line}
 use Rattle.at_fraction.specs.Moment.{gap}
 use Rattle.gaps_lines.specs.declared.part.Tally.{Tally}
@@ -45,8 +43,8 @@ worked_line f n job b = line (decimal n ∷ decimal job ∷ (48 ∷ []) ∷ bloc
 
 -- by the answer that the block has on the sheet: what is refused there is refused here, by the same line
 abbrev pub line_by : Format → ℕ → List ℕ → BlockAnswer → List ℕ
-line_by f n b (Worked job v) = worked_line f n job b
-line_by f n b (Refused job number) = refused_line n job number
+line_by f n b (Ok w) = worked_line f n w.job b
+line_by f n b (Err r) = refused_line n r.job r.number
 
 abbrev pub line_of : Format → ℕ → List ℕ → List ℕ
 line_of f n b = line_by f n b (answer_of f b)
@@ -64,8 +62,8 @@ abbrev pub none : Tally
 none = tally 0 0
 
 abbrev pub counted : Tally → BlockAnswer → Tally
-counted t (Worked job v) = tally (t.blocks + 1) t.refused
-counted t (Refused job number) = tally (t.blocks + 1) (t.refused + 1)
+counted t (Ok w) = tally (t.blocks + 1) t.refused
+counted t (Err r) = tally (t.blocks + 1) (t.refused + 1)
 
 -- of blocks, from a given tally on
 unfoldable pub tally_from : Format → Tally → List (List ℕ) → Tally

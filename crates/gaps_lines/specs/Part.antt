@@ -1,8 +1,7 @@
 -- A part of the input worked into lent bytes: what there is room for, what is written, and whether it was the last part.
 use Rattle.std.specs.Prelude.{ℕ, ◌+◌, ◌/◌, ◌<◌, Bool, true, ◌&&◌, cond, List, [], ◌++◌, eqb, ltb, leb, length}
 use Rattle.std.specs.Float.{binary32}
-use Rattle.model.specs.declared.BlockAnswer.TheVariants.{Refused}
-use Rattle.model.specs.Block.{block_size}
+use Rattle.model.specs.Block.{block_size, refused}
 use Rattle.model.specs.Blocks.{blocks}
 use Rattle.model.specs.Parts.{count_limit}
 use Rattle.model.specs.Sheet.{refused_line}
@@ -28,7 +27,7 @@ abbrev pub rest_line : Tally → ℕ → List ℕ
 rest_line t rest = cond (eqb rest 0) [] (refused_line (t.blocks + 1) 0 9)
 
 abbrev pub rest_tally : Tally → ℕ → Tally
-rest_tally t rest = cond (eqb rest 0) t (counted t (Refused 0 9))
+rest_tally t rest = cond (eqb rest 0) t (counted t (refused 0 9))
 
 -- room for a line of each block, of a rest and of the totals
 abbrev pub fits : ℕ → ℕ → Tally → Bool

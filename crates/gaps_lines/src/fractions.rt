@@ -1,13 +1,24 @@
 // The gaps at 257 fractions of two moves.
-ghost use Rattle.std.specs.Prelude.{◌≡◌, ◌+◌, ◌≤◌, length};
+ghost use Rattle.std.specs.Prelude.{◌≡◌};
 ghost use Rattle.std.specs.Float.{binary32};
-ghost use Rattle.text.specs.Put.{Put};
+ghost use Rattle.text.specs.Written.{Room, Wrote};
 ghost use Rattle.gaps_lines.specs.Gaps as Gaps;
 ghost use Rattle.gaps_lines.specs.Pieces.{gap_room, gap_text, gaps_text, gaps_room};
 
 use crate::put::put_float;
 use at_fraction::gap;
 use model::Sweep;
+use text::Draft;
+
+// Two outlines, their moves, and the max fraction of these.
+#[derive(Clone, Copy)]
+pub struct Moves<'a> {
+    pub points_a: &'a [f32],
+    pub sweep_a: Sweep,
+    pub points_b: &'a [f32],
+    pub sweep_b: Sweep,
+    pub most: f32,
+}
 
 // The k-th of 256 steps from 0 to the max fraction.
 fn fraction_at(most: f32, k: u16) -> f32
@@ -17,46 +28,30 @@ fn fraction_at(most: f32, k: u16) -> f32
 }
 
 // The gap there, and a byte after it.
-fn put_gap(
-    out: &mut [u8],
-    at: usize,
-    points_a: &[f32],
-    sweep_a: Sweep,
-    points_b: &[f32],
-    sweep_b: Sweep,
-    most: f32,
-    k: u16,
-    end: u8,
-) -> usize
-    requires { at + gap_room ≤ length out.old }
-    ensures { Put out.old at (gap_text points_a.now sweep_a points_b.now sweep_b most k end)
-        out.new result }
+fn put_gap(draft: &mut Draft<'_>, moves: Moves, k: u16, end: u8)
+    requires { Room gap_room draft.old }
+    ensures { Wrote gap_room draft.old
+        (gap_text moves.entry.points_a.now moves.entry.sweep_a moves.entry.points_b.now moves.entry.sweep_b moves.entry.most k end) draft.new }
 {
-    let apart = gap(points_a, sweep_a, points_b, sweep_b, fraction_at(most, k));
-    put_float(out, at, apart, end)
+    let fraction = fraction_at(moves.most, k);
+    let apart = gap(
+        moves.points_a,
+        moves.sweep_a,
+        moves.points_b,
+        moves.sweep_b,
+        fraction,
+    );
+    put_float(draft, apart, end);
 }
 
 // All of them, with a blank between and a newline.
-pub fn put_gaps(
-    out: &mut [u8],
-    at: usize,
-    points_a: &[f32],
-    sweep_a: Sweep,
-    points_b: &[f32],
-    sweep_b: Sweep,
-    most: f32,
-) -> usize
-    requires { at + gaps_room ≤ length out.old }
-    ensures { Put out.old at (gaps_text points_a.now sweep_a points_b.now sweep_b most)
-        out.new result }
+pub fn put_gaps(draft: &mut Draft<'_>, moves: Moves)
+    requires { Room gaps_room draft.old }
+    ensures { Wrote gaps_room draft.old
+        (gaps_text moves.entry.points_a.now moves.entry.sweep_a moves.entry.points_b.now moves.entry.sweep_b moves.entry.most) draft.new }
 {
-    let mut to = at;
-    let mut k: u16 = 0;
-    while k < 256 {
-        to = put_gap(out, to, points_a, sweep_a, points_b, sweep_b, most, k, b' ');
-        k += 1;
+    for k in 0..256 {
+        put_gap(draft, moves, k, b' ');
     }
-    put_gap(
-        out, to, points_a, sweep_a, points_b, sweep_b, most, 256, b'\n',
-    )
+    put_gap(draft, moves, 256, b'\n');
 }

@@ -1,20 +1,21 @@
 // The lines of a part of the input, and after the last part the totals.
 ghost use Rattle.std.specs.Prelude.{◌≡◌, ◌+◌, ◌*◌, ◌/◌, ◌≤◌, length};
 ghost use Rattle.std.specs.Float.{binary32};
-ghost use Rattle.model.specs.declared.BlockAnswer.TheVariants as Answer;
-ghost use Rattle.model.specs.Block.{block_size};
+ghost use Rattle.model.specs.Block.{block_size, refused};
 ghost use Rattle.model.specs.Blocks.{whole_blocks};
 ghost use Rattle.model.specs.Parts.{count_limit};
 ghost use Rattle.model.specs.Sheet.{refused_line};
 ghost use Rattle.model.specs.Work.{block_answer};
 ghost use Rattle.text.specs.Put.{Put};
+ghost use Rattle.text.specs.Written.{Room, Wrote};
 ghost use Rattle.gaps_lines.specs.Gaps.{longest_line, line_by, lines_from, counted, tally_from, total_line};
 ghost use Rattle.gaps_lines.specs.Part.{Below, rest_line, rest_tally, text_for, tally_for, last_for};
 ghost use Rattle.gaps_lines.specs.Part as Part;
 
 use crate::job::{put_refused, put_worked};
-use crate::put::{put, put_two};
-use model::{BlockAnswer, COUNT_LIMIT};
+use crate::put::put_two;
+use model::COUNT_LIMIT;
+use text::Draft;
 
 // So many bytes are a part: 24 blocks. A shorter one is the last.
 pub const PART_SIZE: usize = 12288;
@@ -29,7 +30,7 @@ pub struct Tally {
     pub refused: u64,
 }
 
-// The place after what was written, the tally after it, and whether the part was the last.
+// The place after what was written, the tally after it, and whether the part was the last. Both hold either way, so it is no Option.
 #[derive(Clone, Copy)]
 pub struct Printed {
     pub at: usize,
@@ -37,89 +38,73 @@ pub struct Printed {
     pub last: bool,
 }
 
-#[derive(Clone, Copy)]
-struct Lines {
-    at: usize,
-    tally: Tally,
-}
-
-// The line of a refused block more, whose number follows those counted before.
-fn write_refused(out: &mut [u8], at: usize, t: Tally, job: u32, number: u32) -> Lines
-    requires { (at + longest_line ≤ length out.old) × Below 0xffff_ffff_ffff_ffff t }
-    ensures { Put out.old at (refused_line (t.blocks + 1) job number) out.new result.at
-        × (result.tally ≡ counted t (Answer.Refused job number)) }
+// The line of a refused block more, whose number follows those counted before, and the tally after it.
+fn write_refused(draft: &mut Draft<'_>, t: Tally, job: u32, number: u32) -> Tally
+    requires { Room longest_line draft.old × Below 0xffff_ffff_ffff_ffff t }
+    ensures line { Wrote longest_line draft.old (refused_line (t.blocks + 1) job number) draft.new }
+    ensures tally_value { result ≡ counted t (refused job number) }
 {
-    let end = put_refused(out, at, t.blocks + 1, job, number);
-    let tally = Tally {
+    put_refused(draft, t.blocks + 1, job, number);
+    Tally {
         blocks: t.blocks + 1,
         refused: t.refused + 1,
-    };
-    Lines { at: end, tally }
+    }
 }
 
 // The line of one block more.
-fn write_block(bytes: &[u8], out: &mut [u8], at: usize, t: Tally) -> Lines
-    requires { (at + longest_line ≤ length out.old) × Below 0xffff_ffff_ffff_ffff t }
-    ensures { Put out.old at (line_by binary32 (t.blocks + 1) bytes.now (block_answer binary32 bytes.now))
-        out.new result.at × (result.tally ≡ counted t (block_answer binary32 bytes.now)) }
+fn write_block(bytes: &[u8], draft: &mut Draft<'_>, t: Tally) -> Tally
+    requires { Room longest_line draft.old × Below 0xffff_ffff_ffff_ffff t }
+    ensures line { Wrote longest_line draft.old (line_by binary32 (t.blocks + 1) bytes.now (block_answer binary32 bytes.now)) draft.new }
+    ensures tally_value { result ≡ counted t (block_answer binary32 bytes.now) }
 {
     let answer = work::answer_block(bytes);
     match answer {
-        BlockAnswer::Worked(job, _) => {
-            let end = put_worked(out, at, t.blocks + 1, job, bytes);
-            let tally = Tally {
+        Ok(worked) => {
+            put_worked(draft, t.blocks + 1, worked.job, bytes);
+            Tally {
                 blocks: t.blocks + 1,
                 refused: t.refused,
-            };
-            Lines { at: end, tally }
+            }
         }
-        BlockAnswer::Refused(job, number) => write_refused(out, at, t, job, number),
+        Err(refusal) => write_refused(draft, t, refusal.job, refusal.number),
     }
 }
 
-// The lines of the whole blocks of a part, each from its own 512 bytes, with the tally carried on.
-fn write_blocks(part: &[u8], out: &mut [u8], t: Tally) -> Lines
-    requires { (longest_line * (length part.now / block_size) ≤ length out.old) × Below count_limit t }
-    ensures put { Put out.old 0
-        (lines_from binary32 t.blocks (whole_blocks (length part.now / block_size) part.now)) out.new result.at }
-    ensures tally_value { result.tally ≡ tally_from binary32 t (whole_blocks (length part.now / block_size) part.now) }
-    ensures at_bound { (result.at ≤ longest_line * (length part.now / block_size)) × Below (count_limit + length part.now / block_size)
-        result.tally }
+// The lines of the whole blocks of a part, each from its own 512 bytes, with the tally carried on. One walk for all crates of lines would take each
+// crate's answers, lines and totals as a trait with a law for each step: that is longer than the loop.
+fn write_blocks(part: &[u8], draft: &mut Draft<'_>, t: Tally) -> Tally
+    requires { Room (longest_line * (length part.now / block_size)) draft.old × Below count_limit t }
+    ensures lines { Wrote (longest_line * (length part.now / block_size)) draft.old
+        (lines_from binary32 t.blocks (whole_blocks (length part.now / block_size) part.now)) draft.new }
+    ensures tally_value { result ≡ tally_from binary32 t (whole_blocks (length part.now / block_size) part.now) }
+    ensures bound { Below (count_limit + length part.now / block_size) result }
 {
-    let k = part.len() / 512;
     let mut tally = t;
-    let mut at: usize = 0;
-    let mut i: usize = 0;
-    while i < k {
-        let from = 512 * i;
-        let end = from + 512;
-        let written = write_block(&part[from..end], out, at, tally);
-        let next = written.tally;
-        at = written.at;
-        tally = next;
-        i += 1;
+    for block in part.chunks_exact(512) {
+        tally = write_block(block, draft, tally);
     }
-    Lines { at, tally }
+    tally
 }
 
 // The line of a rest of fewer bytes than a block, where there is one.
-fn write_rest(out: &mut [u8], at: usize, t: Tally, rest: usize) -> Lines
-    requires { (at + longest_line ≤ length out.old) × Below 0xffff_ffff_ffff_ffff t }
-    ensures { Put out.old at (rest_line t rest) out.new result.at × (result.tally ≡ rest_tally t rest) }
+fn write_rest(draft: &mut Draft<'_>, t: Tally, rest: usize) -> Tally
+    requires { Room longest_line draft.old × Below 0xffff_ffff_ffff_ffff t }
+    ensures line { Wrote longest_line draft.old (rest_line t rest) draft.new }
+    ensures tally_value { result ≡ rest_tally t rest }
 {
     if rest == 0 {
-        return Lines { at, tally: t };
+        return t;
     }
-    write_refused(out, at, t, 0, 9)
+    write_refused(draft, t, 0, 9)
 }
 
 // The last line.
-fn put_total(out: &mut [u8], at: usize, t: Tally) -> usize
-    requires { at + longest_line ≤ length out.old }
-    ensures { Put out.old at (total_line t) out.new result }
+fn put_total(draft: &mut Draft<'_>, t: Tally)
+    requires { Room longest_line draft.old }
+    ensures { Wrote longest_line draft.old (total_line t) draft.new }
 {
-    let e1 = put(out, at, b"TOTAL ");
-    put_two(out, e1, t.blocks, t.refused, b'\n')
+    draft.put(b"TOTAL ");
+    put_two(draft, t.blocks, t.refused, b'\n');
 }
 
 // Whether there is room for a line of each block, of a rest and of the totals, and the tally can be counted on.
@@ -143,19 +128,19 @@ pub fn write_part(part: &[u8], out: &mut [u8], t: Tally) -> Printed
             last: true,
         };
     }
-    let blocks = write_blocks(part, out, t);
-    let lines = write_rest(out, blocks.at, blocks.tally, part.len() % 512);
-    let tally = lines.tally;
+    let mut draft = Draft { bytes: out, at: 0 };
+    let blocks = write_blocks(part, &mut draft, t);
+    let tally = write_rest(&mut draft, blocks, part.len() % 512);
     if part.len() < PART_SIZE {
-        let end = put_total(out, lines.at, tally);
+        put_total(&mut draft, tally);
         return Printed {
-            at: end,
+            at: draft.at,
             tally,
             last: true,
         };
     }
     Printed {
-        at: lines.at,
+        at: draft.at,
         tally,
         last: false,
     }

@@ -1,32 +1,17 @@
 // The numbers of a job on a grid of whole numbers. No float operation: patterns are read.
 #![tactic(auto)]
 
-ghost use Rattle.std.specs.Prelude.{true, false, ◌≡◌, ℕ, ◌+◌, ◌*◌, ◌^◌, ◌≤◌, ◌<◌, length};
+ghost use Rattle.std.specs.Prelude.{true, ◌≡◌, ℕ, ◌+◌, ◌*◌, ◌^◌, ◌≤◌, ◌<◌, length, MatchOption};
 ghost use Rattle.std.specs.Float.{binary32};
 ghost use Rattle.std.specs.Float.Ieee.{to_bits};
 ghost use Rattle.model.specs.Support.{point};
 ghost use Rattle.grid.specs.Grid.{unit};
-ghost use Rattle.board.specs.Pairs.{size_of, Sized};
 ghost use Rattle.grid_job.specs.Placing.{Near, NearPair, UpTo, Suits, Ordinary, Fitting, Steady, Less, Offset, Span, Turned, Headed, Asked};
 ghost use Rattle.grid_job.specs.Placing.{AllCornered, PlacedBody, Between, Limits, Joined, keep_of, OnBoard, FractionUp, FractionDown};
 
-use board::{GridBody, GridJob, Pair, Vector, norm};
+use board::{GridBody, GridJob, Pair, Vector, both_within, norm};
 use grid::{Parts, grid, grid_down, grid_up};
 use outline::point;
-
-// An exponent, where there is one.
-#[derive(Clone, Copy)]
-struct Chosen {
-    found: bool,
-    g: u32,
-}
-
-// A job on the grid, where it was found.
-#[derive(Clone, Copy)]
-pub struct Placed {
-    pub found: bool,
-    pub job: GridJob,
-}
 
 // The largest pattern from one place to another, signs dropped, and at least `least`.
 fn largest(list: &[f32], from: usize, to: usize, least: u32) -> u32
@@ -34,37 +19,23 @@ fn largest(list: &[f32], from: usize, to: usize, least: u32) -> u32
     ensures { (least ≤ result) × UpTo list.now from to result × ((m : ℕ) → least ≤ m → UpTo list.now from to m → result ≤ m) }
 {
     let mut best = least;
-    let mut i = from;
-    while i < to {
-        let a = ground::to_bits(list[i]) % 0x8000_0000;
-        if best < a {
-            best = a;
-        }
-        i += 1;
+    for i in from..to {
+        best = best.max(ground::to_bits(list[i]) % 0x8000_0000);
     }
     best
 }
 
 // The exponent of a grid on which every place of the job is below 2^28.
-fn exponent(points_a: &[f32], points_b: &[f32], numbers: &[f32]) -> Chosen
+fn exponent(points_a: &[f32], points_b: &[f32], numbers: &[f32]) -> Option<u32>
     requires { length numbers.now ≡ 24 }
-    ensures { (result.found ≡ true → Suits points_a.now points_b.now numbers.now result.g)
-        × (Ordinary points_a.now points_b.now numbers.now → result.found ≡ true) }
+    ensures { MatchOption result (Ordinary points_a.now points_b.now numbers.now → ⊥) (λ g. Suits points_a.now points_b.now numbers.now g) }
 {
     let a = largest(points_a, 0, points_a.len(), 0);
     let b = largest(points_b, 0, points_b.len(), a);
     let c = largest(numbers, 0, 2, b);
     let d = largest(numbers, 3, 10, c);
     let e = largest(numbers, 14, 20, d);
-    let x = e / 8388608;
-    if x <= 154 {
-        Chosen {
-            found: true,
-            g: 154 - x,
-        }
-    } else {
-        Chosen { found: false, g: 0 }
-    }
+    154u32.checked_sub(e / 8388608)
 }
 
 // x less c.
@@ -92,11 +63,7 @@ fn distance(x: u64) -> u64
     requires { x ≤ 1073741824 }
     ensures { (result ≤ 536870912) × (x ≤ 536870912 + result) × (536870912 ≤ x + result) }
 {
-    if x < 536870912 {
-        536870912 - x
-    } else {
-        x - 536870912
-    }
+    x.abs_diff(536870912)
 }
 
 // No less than the length of a corner, and at most an eighth more: the larger part and half of the smaller.
@@ -155,17 +122,12 @@ fn corners(points: &[f32], centre: model::Vector, g: u32, xs: &mut [u64], ys: &m
     ensures { AllCornered points.now centre g xs.new ys.new result }
 {
     let mut best: u64 = 0;
-    let mut i = 0;
-    while i < xs.len() {
+    for i in 0..xs.len() {
         let x = offset(points[2 * i], centre.x, g);
         let y = offset(points[2 * i + 1], centre.y, g);
-        let r = span(x, y);
         xs[i] = x;
         ys[i] = y;
-        if best < r {
-            best = r;
-        }
-        i += 1;
+        best = best.max(span(x, y));
     }
     best
 }
@@ -257,97 +219,34 @@ fn kept_down(numbers: &[f32], g: u32) -> u64
     )
 }
 
-fn none() -> Placed
-    ensures { result.found ≡ false }
-{
-    let zero = Pair { p: 0, m: 0 };
-    let origin = Vector { x: zero, y: zero };
-    let body = GridBody {
-        q1: origin,
-        q2: origin,
-        reach: 0,
-    };
-    Placed {
-        found: false,
-        job: GridJob {
-            a: body,
-            b: body,
-            d1: origin,
-            d2: origin,
-            up: 0,
-            down: 0,
-        },
-    }
-}
-
-fn at_most_1(a: Pair) -> bool
-    ensures { (result ≡ true → size_of a ≤ 1073741824) × (size_of a ≤ 1073741824 → result ≡ true) }
-{
-    if a.p > 1073741824 {
-        return false;
-    }
-    if a.m > 1073741824 - a.p {
-        return false;
-    }
-    true
-}
-
-fn heading_fits(q: Vector) -> bool
-    ensures { (result ≡ true → Sized 1073741824 q) × (Sized 1073741824 q → result ≡ true) }
-{
-    let x = at_most_1(q.x);
-    if !x {
-        return false;
-    }
-    at_most_1(q.y)
-}
-
 // The headings are at most 1 in both parts.
 fn headings_fit(o: GridBody) -> bool
     ensures { (result ≡ true → Steady o) × (Steady o → result ≡ true) }
 {
-    let first = heading_fits(o.q1);
-    if !first {
-        return false;
-    }
-    heading_fits(o.q2)
+    both_within(o.q1, 1073741824) && both_within(o.q2, 1073741824)
 }
 
 // The job's rest, once its bodies are placed.
-fn job_of(numbers: &[f32], g: u32, a: GridBody, b: GridBody) -> Placed
+fn job_of(numbers: &[f32], g: u32, a: GridBody, b: GridBody) -> Option<GridJob>
     requires { Limits numbers.now g }
-    ensures { (result.found ≡ true → Joined numbers.now g a b result.job) × (Steady a → Steady b → result.found ≡ true) }
+    ensures { MatchOption result (Steady a → Steady b → ⊥) (λ job. Joined numbers.now g a b job) }
 {
-    let fit_a = headings_fit(a);
-    if !fit_a {
-        return none();
+    if !headings_fit(a) || !headings_fit(b) {
+        return None;
     }
-    let fit_b = headings_fit(b);
-    if !fit_b {
-        return none();
-    }
-    let d1 = between(numbers, 3, 8, g);
-    let d2 = between(numbers, 4, 9, g);
-    let up = kept_up(numbers, g);
-    let down = kept_down(numbers, g);
-    if up > 1073741824 {
-        return none();
-    }
-    Placed {
-        found: true,
-        job: GridJob {
-            a,
-            b,
-            d1,
-            d2,
-            up,
-            down,
-        },
-    }
+    Some(GridJob {
+        a,
+        b,
+        d1: between(numbers, 3, 8, g),
+        d2: between(numbers, 4, 9, g),
+        up: kept_up(numbers, g),
+        down: kept_down(numbers, g),
+    })
 }
 
 // A job on the grid: two outlines and 24 numbers as a sweep has them. The lists, as long as the outlines have points, get the corners. It is always found
-// where the lengths are right and the numbers in their domain.
+// where the lengths are right and the numbers in their domain. The lists come one by one: a record of lists lent for writing would be taken apart at once, to
+// lend each body's two on.
 pub fn grid_job(
     points_a: &[f32],
     points_b: &[f32],
@@ -356,45 +255,29 @@ pub fn grid_job(
     ays: &mut [u64],
     bxs: &mut [u64],
     bys: &mut [u64],
-) -> Placed
-    ensures { (result.found ≡ true → OnBoard points_a.now points_b.now numbers.now result.job
-        axs.new ays.new bxs.new bys.new)
-        × (Fitting points_a.now points_b.now numbers.now axs.old ays.old
-        bxs.old bys.old → result.found ≡ true) }
+) -> Option<GridJob>
+    ensures { MatchOption result (Fitting points_a.now points_b.now numbers.now axs.old ays.old bxs.old bys.old → ⊥)
+        (λ job. OnBoard points_a.now points_b.now numbers.now job axs.new ays.new bxs.new bys.new) }
 {
-    if numbers.len() != 24 {
-        return none();
+    if numbers.len() != 24
+        || axs.len() != points_a.len() / 2
+        || ays.len() != axs.len()
+        || bxs.len() != points_b.len() / 2
+        || bys.len() != bxs.len()
+    {
+        return None;
     }
-    if axs.len() != points_a.len() / 2 {
-        return none();
-    }
-    if ays.len() != axs.len() {
-        return none();
-    }
-    if bxs.len() != points_b.len() / 2 {
-        return none();
-    }
-    if bys.len() != bxs.len() {
-        return none();
-    }
-    let e = exponent(points_a, points_b, numbers);
-    if !e.found {
-        return none();
-    }
-    let a = body_of(points_a, numbers, 2, e.g, axs, ays);
-    let b = body_of(points_b, numbers, 7, e.g, bxs, bys);
-    job_of(numbers, e.g, a, b)
+    let g = exponent(points_a, points_b, numbers)?;
+    let a = body_of(points_a, numbers, 2, g, axs, ays);
+    let b = body_of(points_b, numbers, 7, g, bxs, bys);
+    job_of(numbers, g, a, b)
 }
 
 // A number that is not below 0; 0 for one that is.
 fn natural(a: Parts) -> u64
     ensures { (a.plus ≤ a.minus + result) × (result ≤ a.plus) × (a.minus ≤ a.plus → a.minus + result ≤ a.plus) × (a.plus ≤ a.minus → result ≡ 0) }
 {
-    if a.plus < a.minus {
-        0
-    } else {
-        a.plus - a.minus
-    }
+    a.plus.saturating_sub(a.minus)
 }
 
 // A fraction of the way in 2^24-ths, never below it and never above it.

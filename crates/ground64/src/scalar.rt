@@ -1,5 +1,5 @@
 // Written by tests/written/wide.py from ground, in f64.
-// The greater of two numbers, and the absolute value.
+// The greater of two numbers, and the absolute value: not f64's own, since the definitions say which bits come of NaNs and of two zeros.
 ghost use Rattle.std.specs.Prelude.{◌≡◌};
 ghost use Rattle.model64.specs.Ground as Ground;
 

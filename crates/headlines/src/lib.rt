@@ -1,1 +1,2 @@
 // What is promised, cited name by name: no code.
+#![tactic(auto)]

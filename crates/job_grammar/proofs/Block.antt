@@ -1,4 +1,5 @@
 -- The block built from the numbers of a job has them in their places, and passes. Assumes nothing.
+use Rattle.std.proofs.Common.{Ok}
 use mathlib.Core.Path.{◌≡◌, refl, sym, ap, ◌∙◌}
 use mathlib.Core.Bool.{Bool, true, false, not, ◌&&◌, ◌||◌, cond}
 use mathlib.Core.List.{List, [], ◌∷◌, ◌++◌}
@@ -10,7 +11,6 @@ use borrow.Author.Tests.{lt-ltb, le-ltb, ltb-true, ltb-false, eq-eqb, ne_eqb}
 use lib.Dec.{eqb, ltb}
 use lib.ListN.{length, take, get_or, get_or-append, get_or-eq_default}
 use lib.Seq.{get_or-append-add, take-suc, take_all}
-use Rattle.model.specs.declared.CheckedBlock.TheVariants.{Good}
 use Rattle.model.specs.Wire.{byte, word}
 use Rattle.model.specs.Block.{job_of, block_of, sum_of_words, weighed_words, all_zero, bad_count, checked_block}
 use Rattle.model.specs.Blocks.{is_good}
@@ -275,7 +275,7 @@ module _ (job a c : ℕ) (ws : List ℕ) (fits : Fits job a c ws) where
   zeros-c : all_zero (block_from numbers) (232 + 8 * c) (276 - 8 * c) ≡ true
   zeros-c = all-zero (block_from numbers) (232 + 8 * c) (276 - 8 * c) (λ m low high. unused-c m low (omega arith))
 
-  accepted : checked_block (block_from numbers) ≡ Good (block_of (block_from numbers))
+  accepted : checked_block (block_from numbers) ≡ Ok (block_of (block_from numbers))
   accepted =
       passed-good (block_from numbers)
       (record {

@@ -1,23 +1,11 @@
 -- What there is room for, and how long a refusal is. Assumes nothing.
 use Rattle.std.proofs.Common.{◌≡◌, ℕ, zero, suc, ◌+◌, ◌/◌, ◌<◌, ◌≤◌, Bool, true, false, cond, ltb, length, refl, arith, length-append, ltb-false, ltb-true}
+use Rattle.std.specs.Prelude.{min}
+use Rattle.std.proofs.Math.Nat.{min-le_left, min-le_right}
 use Rattle.model.specs.Parts.{count_limit}
 use Rattle.text.specs.Put.{number}
 use Rattle.text.proofs.Lengths.{length-number}
-use Rattle.job_text.specs.Room.{refusal, refusal_room, least, used_of}
-
-pub least-left : (a b : ℕ) → least a b ≤ a
-least-left a b = go (ltb b a) refl
-  where
-    go : (t : Bool) → ltb b a ≡ t → cond t b a ≤ a
-    go true e = omega (arith, ltb-true b a e)
-    go false e = omega arith
-
-pub least-right : (a b : ℕ) → least a b ≤ b
-least-right a b = go (ltb b a) refl
-  where
-    go : (t : Bool) → ltb b a ≡ t → cond t b a ≤ b
-    go true e = omega arith
-    go false e = omega (arith, ltb-false b a e)
+use Rattle.job_text.specs.Room.{refusal, refusal_room, used_of}
 
 pub record Room (n size most told before : ℕ) : Type 0 where
   pub inside : n ≤ size
@@ -28,13 +16,12 @@ pub record Room (n size most told before : ℕ) : Type 0 where
 pub used-fits : {n : ℕ} (size most told before : ℕ) → n ≡ used_of size most told before → Room n size most told before
 used-fits {n} size most told before e = go (ltb before count_limit) refl e
   where
-    go : (t : Bool) → ltb before count_limit ≡ t → n ≡ cond t (least (least size most) (told / refusal_room)) 0 → Room n size most told before
+    go : (t : Bool) → ltb before count_limit ≡ t → n ≡ cond t (min (min size most) (told / refusal_room)) 0 → Room n size most told before
     go true f same =
-        let both = least (least size most) (told / refusal_room) in
         record {
-          inside = omega (arith, same, least-left (least size most) (told / refusal_room), least-left size most);
-          room = omega (arith, same, least-left (least size most) (told / refusal_room), least-right size most);
-          refusals = omega (arith, same, least-right (least size most) (told / refusal_room));
+          inside = omega (arith, same, min-le_left (min size most) (told / refusal_room), min-le_left size most);
+          room = omega (arith, same, min-le_left (min size most) (told / refusal_room), min-le_right size most);
+          refusals = omega (arith, same, min-le_right (min size most) (told / refusal_room));
           countable = λ some. ltb-true before count_limit f;
         }
     go false f same = record {

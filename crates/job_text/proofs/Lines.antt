@@ -3,8 +3,10 @@ use Rattle.std.proofs.Common.{◌≡◌, ℕ, zero, suc, ◌+◌, ◌*◌, ◌<�
 use Rattle.model.specs.Wire.{byte, word}
 use Rattle.model.specs.Text.{decimal, hex_by, line}
 use Rattle.model.specs.Block.{job_of}
-use Rattle.text.specs.Put.{Put, number, hex}
-use Rattle.text.proofs.Pasted.{put_then}
+use Rattle.text.specs.declared.draft.Draft.{Draft}
+use Rattle.text.specs.Put.{number, hex}
+use Rattle.text.specs.Written.{Wrote}
+use Rattle.text.proofs.Written.{wrote-then}
 use Rattle.text.proofs.Lengths.{length-number, length-hex}
 use Rattle.job_text.specs.Job.{place_of, words_of, word_count, hexes, job_line}
 use Rattle.job_text.specs.Pieces.{head_of, spaced}
@@ -14,10 +16,10 @@ unfolding spaced
 spaced-more [] w = append-nil (hex w 32)
 spaced-more (v ∷ ws) w = rw (spaced-more ws w) (sym (append_assoc (hex v 32) (spaced ws) (hex w 32)))
 
-pub fields-more : (b : List ℕ) (j : ℕ) {d d₁ d₂ : List ℕ} {at to e : ℕ} → at ≤ length d → Put d at (spaced (words_of b j)) d₁ to →
-    Put d₁ to (hex (word b (place_of (byte b 4) j)) 32) d₂ e → Put d at (spaced (words_of b (j + 1))) d₂ e
+pub fields-more : (b : List ℕ) (j : ℕ) {k m : ℕ} {p q r : Draft} → p.at ≤ length p.bytes.now → Wrote k p (spaced (words_of b j)) q →
+    Wrote m q (hex (word b (place_of (byte b 4) j)) 32) r → Wrote (k + m) p (spaced (words_of b (j + 1))) r
 unfolding words_of
-fields-more b j inside p q = rw (add-one j, spaced-more (words_of b j) (word b (place_of (byte b 4) j))) (put_then inside p q)
+fields-more b j inside v w = rw (add-one j, spaced-more (words_of b j) (word b (place_of (byte b 4) j))) (wrote-then inside v w)
 
 -- the words of a line but the last, and the last
 words-line : (ws : List ℕ) (w : ℕ) → line (hexes (ws ++ (w ∷ []))) ≡ spaced ws ++ hex w 10

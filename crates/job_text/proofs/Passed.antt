@@ -1,7 +1,7 @@
 -- What a block that passes tells. Assumes nothing.
-use Rattle.std.proofs.Common.{◌≡◌, ℕ, ◌+◌, ◌-◌, ◌*◌, ◌%◌, ◌^◌, ◌≤◌, Bool, true, false, cond, eqb, List, sym, refl, ap, ◌∙◌, eqb-true}
-use Rattle.model.specs.declared.CheckedBlock.{CheckedBlock}
-use Rattle.model.specs.declared.CheckedBlock.TheVariants.{Good}
+use Rattle.std.proofs.Common.{◌≡◌, ℕ, ◌+◌, ◌-◌, ◌*◌, ◌%◌, ◌^◌, ◌≤◌, Bool, true, false, cond, eqb, List, sym, refl, ap, ◌∙◌, eqb-true, Result, Ok}
+use Rattle.model.specs.declared.Block.{Block}
+use Rattle.model.specs.declared.BlockRefusal.{BlockRefusal}
 use Rattle.model.specs.Wire.{byte, word}
 use Rattle.model.specs.Block.{job_of, block_of, sum_of_words, weighed_words, all_zero, checked_block}
 use Rattle.model.specs.Blocks.{is_good}
@@ -10,7 +10,7 @@ use Rattle.block.proofs.Passed.{is-passed, passed-good, fields-of}
 use Rattle.job_text.specs.Job.{other_form, plain_block}
 
 -- only where byte 6 is 0 can a block pass
-plain-good : (plain : Bool) (k : CheckedBlock) (other : Bool) (job : ℕ) → is_good (cond plain k (other_form other job)) ≡ true → (plain ≡ true)
+plain-good : (plain : Bool) (k : Result Block BlockRefusal) (other : Bool) (job : ℕ) → is_good (cond plain k (other_form other job)) ≡ true → (plain ≡ true)
     × (is_good k ≡ true)
 plain-good true k other job e = (refl, e)
 plain-good false k true job e = (cc, cc)
@@ -31,7 +31,7 @@ pub record Passed (b : List ℕ) : Type 0 where
   pub zeros-a : all_zero b (104 + 8 * byte b 4) (128 - 8 * byte b 4) ≡ true
   pub zeros-b : all_zero b (232 + 8 * byte b 5) (276 - 8 * byte b 5) ≡ true
   pub after-form : byte b 7 ≡ 0
-  pub accepted : checked_block b ≡ Good (block_of b)
+  pub accepted : checked_block b ≡ Ok (block_of b)
 
 pub what-passed : (b : List ℕ) → is_good (plain_block b) ≡ true → Passed b
 unfolding plain_block

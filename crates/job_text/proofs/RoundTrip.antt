@@ -1,10 +1,9 @@
 -- From block to line and back, and from line to block and back. Assumes nothing.
-use Rattle.std.proofs.Common.{◌≡◌, ℕ, zero, suc, ◌+◌, ◌-◌, ◌*◌, ◌/◌, ◌%◌, ◌^◌, ◌<◌, ◌≤◌, Bool, true, false, cond, eqb, ltb, List, [], ◌∷◌, ◌++◌, length, get_or, take, drop, replicate, sym, refl, ap, ◌∙◌, mod-eq_of_lt, add-one, arith, take_all, drop-cons, get_or-append-add, take-add, ltb-false, ltb-true, le-ltb, lt-ltb, eqb-true}
+use Rattle.std.proofs.Common.{◌≡◌, ℕ, zero, suc, ◌+◌, ◌-◌, ◌*◌, ◌/◌, ◌%◌, ◌^◌, ◌<◌, ◌≤◌, Bool, true, false, cond, eqb, ltb, List, [], ◌∷◌, ◌++◌, length, get_or, take, drop, replicate, sym, refl, ap, ◌∙◌, mod-eq_of_lt, add-one, arith, take_all, drop-cons, get_or-append-add, take-add, ltb-false, ltb-true, le-ltb, lt-ltb, eqb-true, Ok}
 use borrow.Author.Tests.{eqb-false}
 use lib.ListN.{get_or-append}
 use lib.Seq.{sets, sets-eq, get_or_at}
 use Rattle.model.specs.Wire.{byte, word}
-use Rattle.model.specs.declared.CheckedBlock.TheVariants.{Good}
 use Rattle.model.specs.Block.{job_of, block_of, sum_of_words, all_zero, checked_block}
 use Rattle.wire.specs.Bytes.{word_bytes}
 use Rattle.model.specs.Blocks.{is_good}
@@ -238,7 +237,7 @@ unfolding is_job
 line-block-line l e = same-list (job_line (block_for l)) l (both_true (is_good (plain_block (block_for l))) (Job.same (job_line (block_for l)) l) e).1
 
 -- the block of a job is_good, and `sheet` reads it as the job whose fields the line has
-pub job-accepted : (l : List ℕ) → is_job l ≡ true → checked_block (block_for l) ≡ Good (block_of (block_for l))
+pub job-accepted : (l : List ℕ) → is_job l ≡ true → checked_block (block_for l) ≡ Ok (block_of (block_for l))
 unfolding is_job
 job-accepted l e = (what-passed (block_for l) (both_true (is_good (plain_block (block_for l))) (Job.same (job_line (block_for l)) l) e).0).accepted
 

@@ -1,9 +1,9 @@
 -- A job's line and its block. The line of a block is given by its fields; a line is a job where it is the line of a block that passes.
-use Rattle.std.specs.Prelude.{ℕ, zero, suc, ◌+◌, ◌-◌, ◌*◌, ◌%◌, ◌^◌, Bool, true, false, cond, ◌&&◌, List, [], ◌∷◌, ◌++◌, replicate, ◌==◌, nat_lt, slice_index}
-use Rattle.model.specs.declared.CheckedBlock.{CheckedBlock}
-use Rattle.model.specs.declared.CheckedBlock.TheVariants.{Refused}
+use Rattle.std.specs.Prelude.{ℕ, zero, suc, ◌+◌, ◌-◌, ◌*◌, ◌%◌, ◌^◌, Bool, true, false, cond, ◌&&◌, List, [], ◌∷◌, ◌++◌, replicate, ◌==◌, nat_lt, slice_index, Result}
+use Rattle.model.specs.declared.Block.{Block}
+use Rattle.model.specs.declared.BlockRefusal.{BlockRefusal}
 use Rattle.model.specs.Wire.{byte, word}
-use Rattle.model.specs.Block.{job_of, most_points, sum_of_words, checked_block}
+use Rattle.model.specs.Block.{job_of, most_points, sum_of_words, checked_block, refused}
 use Rattle.model.specs.Blocks.{is_good}
 use Rattle.model.specs.Text.{decimal, hex_by, line}
 use Rattle.wire.specs.Bytes.{word_bytes}
@@ -12,10 +12,10 @@ use Rattle.text.specs.Read.{stored}
 
 -- ---- a block of form 1
 -- byte 6 is 0, and `sheet` reads it; another is refused by 10 or 11, by the sum of form 1
-abbrev pub other_form : Bool → ℕ → CheckedBlock
-other_form sum job = cond sum (Refused job 11) (Refused 0 10)
+abbrev pub other_form : Bool → ℕ → Result Block BlockRefusal
+other_form sum job = cond sum (refused job 11) (refused 0 10)
 
-unfoldable pub plain_block : List ℕ → CheckedBlock
+unfoldable pub plain_block : List ℕ → Result Block BlockRefusal
 plain_block b = cond (byte b 6 == 0) (checked_block b) (other_form (sum_of_words b 128 % 2 ^ 32 == 4294967295) (job_of b))
 
 -- ---- from block to line

@@ -1,5 +1,5 @@
 -- Refusals as text, and how much of the input there is room for.
-use Rattle.std.specs.Prelude.{ℕ, ◌+◌, ◌/◌, cond, List, [], ◌++◌, nat_lt}
+use Rattle.std.specs.Prelude.{ℕ, ◌+◌, ◌/◌, min, cond, List, [], ◌++◌, nat_lt}
 use Rattle.model.specs.Parts.{count_limit}
 use Rattle.text.specs.Put.{number, where_room}
 
@@ -15,9 +15,6 @@ refusal_room = 42
 abbrev pub told_for : ℕ → ℕ → ℕ → List ℕ
 told_for before why room = cond (nat_lt before count_limit) (where_room refusal_room room (refusal (before + 1) why)) []
 
-abbrev pub least : ℕ → ℕ → ℕ
-least a b = cond (nat_lt b a) b a
-
 -- of so many bytes or blocks those that have room, if each of them were written and each refused
 abbrev pub used_of : ℕ → ℕ → ℕ → ℕ → ℕ
-used_of size most told before = cond (nat_lt before count_limit) (least (least size most) (told / refusal_room)) 0
+used_of size most told before = cond (nat_lt before count_limit) (min (min size most) (told / refusal_room)) 0

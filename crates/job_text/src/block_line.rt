@@ -2,25 +2,28 @@
 ghost use Rattle.std.specs.Prelude.{◌≡◌, ◌+◌, ◌*◌, ◌≤◌, length};
 ghost use Rattle.model.specs.Wire.{byte, word};
 ghost use Rattle.text.specs.Put.{Put, hex};
+ghost use Rattle.text.specs.Written.{Room, Wrote};
 ghost use Rattle.job_text.specs.Job.{place_of, words_of, job_line, longest_line, line_for, plain_block};
 ghost use Rattle.job_text.specs.Pieces.{spaced, head_of};
 
-use model::CheckedBlock;
+use model::{Block, BlockRefusal};
+use text::Draft;
 
 // No job's line is longer.
 const LONGEST_LINE: usize = 855;
 
 // As `sheet` reads it where byte 6 is 0; else refused, by the sum of form 1.
-pub fn check_plain(bytes: &[u8]) -> CheckedBlock
+pub fn check_plain(bytes: &[u8]) -> Result<Block, BlockRefusal>
     ensures { result ≡ plain_block bytes.now }
 {
     if wire::byte(bytes, 6) == 0 {
         return block::check_block(bytes);
     }
     if block::sum_of_words(bytes) == 0xffff_ffff {
-        return CheckedBlock::Refused(wire::word(bytes, 0), 11);
+        let job = wire::word(bytes, 0);
+        return Err(BlockRefusal { job, number: 11 });
     }
-    CheckedBlock::Refused(0, 10)
+    Err(BlockRefusal { job: 0, number: 10 })
 }
 
 // Where word j of the line stands.
@@ -38,47 +41,43 @@ fn place_of(a: usize, j: usize) -> usize
 }
 
 // Word j of the line, and a byte after it.
-fn put_field(out: &mut [u8], at: usize, block: &[u8], j: usize, end: u8) -> usize
-    requires { (at + 9 ≤ length out.old) × (byte block.now 4 ≤ 16) × (j ≤ 88) }
-    ensures { Put out.old at (hex (word block.now (place_of (byte block.now 4) j)) end) out.new result }
+fn put_field(draft: &mut Draft<'_>, block: &[u8], j: usize, end: u8)
+    requires { Room 9 draft.old × (byte block.now 4 ≤ 16) × (j ≤ 88) }
+    ensures { Wrote 9 draft.old (hex (word block.now (place_of (byte block.now 4) j)) end) draft.new }
 {
     let a = wire::byte(block, 4) as usize;
-    text::put_hex(out, at, wire::word(block, place_of(a, j)), end)
+    draft.put_hex(wire::word(block, place_of(a, j)), end);
 }
 
 // The first n words of the line, and a blank after each.
-fn put_fields(out: &mut [u8], at: usize, block: &[u8], n: usize) -> usize
-    requires { (at + 9 * n ≤ length out.old) × (byte block.now 4 ≤ 16) × (n ≤ 88) }
-    ensures { Put out.old at (spaced (words_of block.now n)) out.new result }
+fn put_fields(draft: &mut Draft<'_>, block: &[u8], n: usize)
+    requires { Room (9 * n) draft.old × (byte block.now 4 ≤ 16) × (n ≤ 88) }
+    ensures { Wrote (9 * n) draft.old (spaced (words_of block.now n)) draft.new }
 {
-    let mut to = at;
-    let mut j: usize = 0;
-    while j < n {
-        to = put_field(out, to, block, j, b' ');
-        j += 1;
+    for j in 0..n {
+        put_field(draft, block, j, b' ');
     }
-    to
 }
 
 // The numbers before the words, and a blank after each.
-fn put_head(out: &mut [u8], at: usize, block: &[u8]) -> usize
-    requires { at + 63 ≤ length out.old }
-    ensures { Put out.old at (head_of block.now) out.new result }
+fn put_head(draft: &mut Draft<'_>, block: &[u8])
+    requires { Room 63 draft.old }
+    ensures { Wrote 63 draft.old (head_of block.now) draft.new }
 {
-    let e1 = text::put_number(out, at, wire::word(block, 0) as u64, b' ');
-    let e2 = text::put_number(out, e1, wire::byte(block, 4) as u64, b' ');
-    text::put_number(out, e2, wire::byte(block, 5) as u64, b' ')
+    draft.put_number(wire::word(block, 0) as u64, b' ');
+    draft.put_number(wire::byte(block, 4) as u64, b' ');
+    draft.put_number(wire::byte(block, 5) as u64, b' ');
 }
 
 // The line of a block that passes.
-pub fn put_line(out: &mut [u8], at: usize, block: &[u8]) -> usize
-    requires { (at + longest_line ≤ length out.old) × (byte block.now 4 ≤ 16) × (byte block.now 5 ≤ 16) }
-    ensures { Put out.old at (job_line block.now) out.new result }
+pub fn put_line(draft: &mut Draft<'_>, block: &[u8])
+    requires { Room longest_line draft.old × (byte block.now 4 ≤ 16) × (byte block.now 5 ≤ 16) }
+    ensures { Wrote longest_line draft.old (job_line block.now) draft.new }
 {
     let last = 23 + 2 * wire::byte(block, 4) as usize + 2 * wire::byte(block, 5) as usize;
-    let e1 = put_head(out, at, block);
-    let e2 = put_fields(out, e1, block, last);
-    put_field(out, e2, block, last, b'\n')
+    put_head(draft, block);
+    put_fields(draft, block, last);
+    put_field(draft, block, last, b'\n');
 }
 
 // The same where the counts are those of outlines and there is room for the longest line; else nothing is written, and the place stays.
@@ -97,5 +96,7 @@ pub fn put_job(out: &mut [u8], at: usize, block: &[u8]) -> usize
     if out.len() - LONGEST_LINE < at {
         return at;
     }
-    put_line(out, at, block)
+    let mut draft = Draft { bytes: out, at };
+    put_line(&mut draft, block);
+    draft.at
 }

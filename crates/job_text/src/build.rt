@@ -8,15 +8,14 @@ ghost use Rattle.wire.specs.Bytes.{word_bytes};
 fn field_at(numbers: &[u32], k: usize) -> u32
     ensures { result ≡ field numbers.now k }
 {
-    if k < numbers.len() { numbers[k] } else { 0 }
+    numbers.get(k).copied().unwrap_or(0)
 }
 
 // At most the sixteen points that an outline can have.
 fn count_at(numbers: &[u32], k: usize) -> u32
     ensures { (result ≡ count_at numbers.now k) × (result ≤ 16) }
 {
-    let n = field_at(numbers, k);
-    if n > 16 { 16 } else { n }
+    field_at(numbers, k).min(16)
 }
 
 fn head_word(numbers: &[u32], i: usize) -> u32
@@ -75,12 +74,10 @@ pub fn build_block(numbers: &[u32], block: &mut [u8])
 {
     let mut sum: u32 = 0;
     let mut at: usize = 0;
-    let mut i: usize = 0;
-    while i < 127 {
+    for i in 0..127 {
         let w = word_at(numbers, i);
         at = put_word(block, at, w);
         sum = std::num::wrapping_add_u32(sum, w);
-        i += 1;
     }
     put_word(block, at, 0xffff_ffff - sum);
 }

@@ -6,7 +6,7 @@ ghost use Rattle.job_text.specs.Job as Job;
 
 use crate::block_line::{check_plain, put_line};
 use crate::build::build_block;
-use model::CheckedBlock;
+use text::Draft;
 
 // Whether a block's line is this one.
 fn prints_as(block: &[u8], line: &[u8]) -> bool
@@ -14,7 +14,12 @@ fn prints_as(block: &[u8], line: &[u8]) -> bool
     ensures { result ≡ Job.same (job_line block.now) line.now }
 {
     let mut text = [0u8; 855];
-    let end = put_line(&mut text, 0, block);
+    let mut draft = Draft {
+        bytes: &mut text,
+        at: 0,
+    };
+    put_line(&mut draft, block);
+    let end = draft.at;
     check::same(&text[..end], line)
 }
 
@@ -22,8 +27,8 @@ fn has_line(block: &[u8], line: &[u8]) -> bool
     ensures { result ≡ has_line block.now line.now }
 {
     match check_plain(block) {
-        CheckedBlock::Good(_) => prints_as(block, line),
-        CheckedBlock::Refused(_, _) => false,
+        Ok(_) => prints_as(block, line),
+        Err(_) => false,
     }
 }
 
@@ -31,6 +36,7 @@ fn has_line(block: &[u8], line: &[u8]) -> bool
 #[derive(Clone, Copy)]
 pub struct Built {
     pub job: bool,
+    // No Option of a block: `job_block` says `result.block ≡ block_for line.now` of a line that is no job, too.
     pub block: [u8; 512],
 }
 

@@ -8,4 +8,4 @@ mod room;
 
 pub use block_line::{check_plain, put_job};
 pub use job::{Built, job_block};
-pub use room::{least, put_refusal, tell_refusal, used_of};
+pub use room::{put_refusal, tell_refusal, used_of};

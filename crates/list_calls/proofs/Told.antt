@@ -1,4 +1,5 @@
 -- The answers of the sweep and of the distance call, told. Assumes nothing.
+use Rattle.std.proofs.Common.{Result}
 use mathlib.Core.Path.{◌≡◌, refl}
 use mathlib.Core.Bool.{Bool, true, false, ◌&&◌}
 use mathlib.Core.List.{List}
@@ -8,13 +9,14 @@ use borrow.Author.Tests.{eqb-true, lt-ltb, le-ltb}
 use lib.Dec.{eqb, ltb}
 use lib.ListN.{length, get_or}
 use lib.Ieee.{Float, binary32}
-use Rattle.model.specs.declared.Outcome.{Outcome}
+use Rattle.std.proofs.Common.{Result, Ok, Err}
+use Rattle.model.specs.declared.Verdict.{Verdict}
+use Rattle.model.specs.declared.Refusal.{Refusal}
 use Rattle.model.specs.declared.SimplexCache.{SimplexCache}
 use Rattle.model.specs.declared.Ending.{Ending}
 use Rattle.model.specs.declared.Ending.TheVariants.{Touching, Settled, RoundLimit}
-use Rattle.model.specs.declared.DistanceAnswer.{DistanceAnswer}
-use Rattle.model.specs.declared.DistanceAnswer.TheVariants.{Measured, Refused}
 use Rattle.model.specs.declared.Distance.{Distance}
+use Rattle.model.specs.declared.ProxyDistanceOutput.{ProxyDistanceOutput}
 use Rattle.model.proofs.DistanceCall.{both, rounds-at-most-20}
 use Rattle.list_calls.specs.Entry.{sweep_call, sweep_number, contact_after, counts_after, sweep_fits, SweepTold, ending_number, rounds_of, cache_of}
 use Rattle.list_calls.specs.Entry.{distance_for, distance_number, cache_after, output_after, distance_fits, DistanceTold}
@@ -28,7 +30,7 @@ module _ (ns out : List Float) (counts : List ℕ) where
       (eqb-true _ _ first.0, eqb-true _ _ first.1, eqb-true _ _ last.1)
 
   module _ (a b : List Float) where
-    pub sweep-told : (x : Outcome) (out' : List Float) (counts' : List ℕ) (r : ℕ) → sweep_fits ns out counts ≡ true → x ≡ sweep_call binary32 a b ns →
+    pub sweep-told : (x : Result Verdict Refusal) (out' : List Float) (counts' : List ℕ) (r : ℕ) → sweep_fits ns out counts ≡ true → x ≡ sweep_call binary32 a b ns →
         (r ≡ sweep_number x) × (out' ≡ contact_after x out) × (counts' ≡ counts_after x counts) → SweepTold binary32 a b ns out counts out' counts' r
     sweep-told x out' counts' r fits is told =
         record { number = rw (fits, ← is) told.0; contact = rw (fits, ← is) told.1; counted = rw (fits, ← is) told.2 }
@@ -47,9 +49,9 @@ pub distance-rounds : (a b ns : List Float) (radii : Bool) (pair : ℕ) (start :
 unfolding distance_for
 distance-rounds a b ns radii pair start = go _ refl
   where
-    go : (x : DistanceAnswer) → (distance_for binary32 a b ns radii pair start).answer ≡ x → rounds_of x ≤ 20
-    go (Measured o) e = rounds-at-most-20 binary32 _ a _ b _ radii pair start o e
-    go (Refused k) e = omega arith
+    go : (x : Result ProxyDistanceOutput Refusal) → (distance_for binary32 a b ns radii pair start).answer ≡ x → rounds_of x ≤ 20
+    go (Ok o) e = rounds-at-most-20 binary32 _ a _ b _ radii pair start o e
+    go (Err r) e = omega arith
 
 module _ (ns : List Float) (words : List ℕ) (out : List Float) where
   abbrev Sizes : Bool

@@ -1,28 +1,26 @@
 -- What the sweep and the distance call over lists answer, and what they leave in the lists that they were lent. A list of the wrong length is told by 255, and nothing is written.
-use Rattle.std.specs.Prelude.{◌≡◌, ℕ, ◌+◌, ◌*◌, Bool, ◌&&◌, cond, List, [], ◌∷◌, eqb, ltb, length, get_or, Float}
+use Rattle.std.specs.Prelude.{◌≡◌, ℕ, ◌+◌, ◌*◌, Bool, ◌&&◌, cond, List, [], ◌∷◌, eqb, ltb, length, get_or, Float, Result, Ok, Err}
 use Rattle.std.specs.Float.{Format}
 use Rattle.model.specs.declared.Pose.{Pose}
 use Rattle.model.specs.declared.SimplexCache.{SimplexCache}
 use Rattle.model.specs.declared.Ending.{Ending}
 use Rattle.model.specs.declared.Ending.TheVariants.{Touching, Settled, RoundLimit}
 use Rattle.model.specs.declared.ProxyDistanceOutput.{ProxyDistanceOutput}
-use Rattle.model.specs.declared.DistanceAnswer.{DistanceAnswer}
-use Rattle.model.specs.declared.DistanceAnswer.TheVariants.{Measured, Refused as Unmeasured}
 use Rattle.model.specs.declared.Distance.{Distance}
 use Rattle.model.specs.declared.Counts.{Counts}
 use Rattle.model.specs.declared.Contact.{Contact}
 use Rattle.model.specs.declared.Corners.{Corners}
 use Rattle.model.specs.declared.Status.{Status}
 use Rattle.model.specs.declared.Status.TheVariants.{Overlapped, Hit, Separated, Failed}
-use Rattle.model.specs.declared.Outcome.{Outcome}
-use Rattle.model.specs.declared.Outcome.TheVariants.{Found, Refused}
+use Rattle.model.specs.declared.Verdict.{Verdict}
+use Rattle.model.specs.declared.Refusal.{Refusal}
 use Rattle.model.specs.Ground.{pose}
 use Rattle.model.specs.Support.{point}
 use Rattle.model.specs.Distance.{cache, proxy_distance}
 use Rattle.model.specs.Work.{turn, sweep_for, told}
 
 -- ---- the sweep
-abbrev pub sweep_call : Format → List Float → List Float → List Float → Outcome
+abbrev pub sweep_call : Format → List Float → List Float → List Float → Result Verdict Refusal
 sweep_call f a b ns = told f (sweep_for f a b ns)
 
 abbrev pub status_number : Status → ℕ
@@ -31,9 +29,9 @@ status_number Hit = 17
 status_number Separated = 18
 status_number Failed = 19
 
-abbrev pub sweep_number : Outcome → ℕ
-sweep_number (Found v) = status_number v.status
-sweep_number (Refused k) = k
+abbrev pub sweep_number : Result Verdict Refusal → ℕ
+sweep_number (Ok v) = status_number v.status
+sweep_number (Err r) = r.number
 
 abbrev pub contact_floats : Contact → List Float
 contact_floats c = c.fraction ∷ c.point.x ∷ c.point.y ∷ c.normal.x ∷ c.normal.y ∷ []
@@ -43,18 +41,18 @@ abbrev pub contact_in : Contact → List Float → List Float
 contact_in c out = cond (eqb (length out) 5) (contact_floats c) out
 
 -- a refusal leaves the list
-abbrev pub contact_after : Outcome → List Float → List Float
-contact_after (Found v) out = contact_floats v.contact
-contact_after (Refused k) out = out
+abbrev pub contact_after : Result Verdict Refusal → List Float → List Float
+contact_after (Ok v) out = contact_floats v.contact
+contact_after (Err r) out = out
 
 -- and of the last search the corners of A and of B, first and second
 abbrev pub counts_words : Counts → Corners → List ℕ
 counts_words n k =
     n.distance_calls ∷ n.searches ∷ n.root_steps ∷ k.a.first ∷ k.a.second ∷ k.b.first ∷ k.b.second ∷ []
 
-abbrev pub counts_after : Outcome → List ℕ → List ℕ
-counts_after (Found v) out = counts_words v.counts v.corners
-counts_after (Refused k) out = out
+abbrev pub counts_after : Result Verdict Refusal → List ℕ → List ℕ
+counts_after (Ok v) out = counts_words v.counts v.corners
+counts_after (Err r) out = out
 
 abbrev pub sweep_fits : List Float → List Float → List ℕ → Bool
 sweep_fits ns out counts = eqb (length ns) 24 && eqb (length out) 5 && eqb (length counts) 7
@@ -93,22 +91,22 @@ output_number o = ending_number o.ending + 256 * o.iterations
 abbrev pub output_floats : ProxyDistanceOutput → List Float
 output_floats o = o.point_a.x ∷ o.point_a.y ∷ o.point_b.x ∷ o.point_b.y ∷ o.normal.x ∷ o.normal.y ∷ o.distance ∷ []
 
-abbrev pub rounds_of : DistanceAnswer → ℕ
-rounds_of (Measured o) = o.iterations
-rounds_of (Unmeasured k) = 0
+abbrev pub rounds_of : Result ProxyDistanceOutput Refusal → ℕ
+rounds_of (Ok o) = o.iterations
+rounds_of (Err r) = 0
 
-abbrev pub distance_number : DistanceAnswer → ℕ
-distance_number (Measured o) = output_number o
-distance_number (Unmeasured k) = k
+abbrev pub distance_number : Result ProxyDistanceOutput Refusal → ℕ
+distance_number (Ok o) = output_number o
+distance_number (Err r) = r.number
 
 -- a refusal leaves both lists
-abbrev pub cache_after : DistanceAnswer → SimplexCache → List ℕ → List ℕ
-cache_after (Measured o) c words = cache_words c
-cache_after (Unmeasured k) c words = words
+abbrev pub cache_after : Result ProxyDistanceOutput Refusal → SimplexCache → List ℕ → List ℕ
+cache_after (Ok o) c words = cache_words c
+cache_after (Err r) c words = words
 
-abbrev pub output_after : DistanceAnswer → List Float → List Float
-output_after (Measured o) out = output_floats o
-output_after (Unmeasured k) out = out
+abbrev pub output_after : Result ProxyDistanceOutput Refusal → List Float → List Float
+output_after (Ok o) out = output_floats o
+output_after (Err r) out = out
 
 abbrev pub distance_fits : List Float → List ℕ → List Float → Bool
 distance_fits ns words out = eqb (length ns) 6 && eqb (length words) 8 && eqb (length out) 7 && ltb (get_or words 1 0) 256

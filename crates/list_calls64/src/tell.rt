@@ -4,8 +4,8 @@ ghost use Rattle.std.specs.Prelude.{◌≡◌, ◌+◌, ◌*◌, ◌≤◌, leng
 ghost use Rattle.list_calls64.specs.Entry.{contact_floats, contact_in, counts_words, status_number, sweep_number, contact_after, counts_after, ending_number};
 ghost use Rattle.list_calls64.specs.Entry.{output_number, output_floats, cache_words, rounds_of, distance_number, output_after, cache_after};
 
-use model::{Corners, Counts, Ending, SimplexCache, Status};
-use model64::{Contact, Distance, DistanceAnswer, Outcome, ProxyDistanceOutput, Verdict};
+use model::{Corners, Counts, Ending, Refusal, SimplexCache, Status};
+use model64::{Contact, Distance, ProxyDistanceOutput, Verdict};
 
 fn store_contact(out: &mut [f64], c: Contact)
     requires { length out.old ≡ 5 }
@@ -67,13 +67,13 @@ fn put_verdict(out: &mut [f64], counts: &mut [u32], v: Verdict) -> u32
 }
 
 // A refusal writes nothing.
-pub fn tell_sweep(x: Outcome, out: &mut [f64], counts: &mut [u32]) -> u32
+pub fn tell_sweep(x: Result<Verdict, Refusal>, out: &mut [f64], counts: &mut [u32]) -> u32
     requires { (length out.old ≡ 5) × (length counts.old ≡ 7) }
     ensures { (result ≡ sweep_number x) × (out.new ≡ contact_after x out.old) × (counts.new ≡ counts_after x counts.old) }
 {
     match x {
-        Outcome::Found(verdict) => put_verdict(out, counts, verdict),
-        Outcome::Refused(number) => number,
+        Ok(verdict) => put_verdict(out, counts, verdict),
+        Err(refusal) => refusal.number,
     }
 }
 
@@ -114,6 +114,7 @@ fn put_cache(words: &mut [u32], cache: SimplexCache)
 {
     let index_a = cache.index_a;
     let index_b = cache.index_b;
+    // C's words, one by one in the header's order
     words[0] = cache.pair;
     words[1] = cache.count as u32;
     words[2] = index_a[0];
@@ -149,7 +150,7 @@ pub fn tell_distance(d: Distance, words: &mut [u32], out: &mut [f64]) -> u32
     let answer = d.answer;
     let cache = d.cache;
     match answer {
-        DistanceAnswer::Measured(o) => put_measured(words, out, o, cache),
-        DistanceAnswer::Refused(number) => number,
+        Ok(o) => put_measured(words, out, o, cache),
+        Err(refused) => refused.number,
     }
 }

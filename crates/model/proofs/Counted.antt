@@ -1,5 +1,6 @@
 -- Each total is what a reader counts from the printed lines: clear the lines with S, contact those with H or O, undecided those with F, refused
 -- those without a letter, a short rest's among them. Assumes nothing.
+use Rattle.std.proofs.Common.{Ok, Err}
 use mathlib.Core.Path.{◌≡◌, refl, sym, ap, ◌∙◌}
 use mathlib.Core.Bool.{Bool, true, false, cond}
 use mathlib.Core.List.{List, [], ◌∷◌, ◌++◌, append_assoc}
@@ -12,13 +13,12 @@ use lib.ListN.{length, get_or}
 use Rattle.model.specs.declared.Status.{Status}
 use Rattle.model.specs.declared.Status.TheVariants.{Overlapped, Hit, Separated, Failed}
 use Rattle.model.specs.declared.Verdict.{Verdict}
-use Rattle.model.specs.declared.BlockAnswer.{BlockAnswer}
-use Rattle.model.specs.declared.BlockAnswer.TheVariants.{Worked, Refused}
 use Rattle.model.specs.declared.Totals.{Totals}
 use Rattle.model.specs.Text.{decimal_by, decimal, line}
 use Rattle.model.specs.Sheet.{letter_of, answer_line, worked_line, refused_line, answers, lines_from, none, one_worked, counted, totals_from, total_line, sheet}
 use Rattle.model.specs.Counted.{after_blanks, printed_letter, lines_one_by_one, sheet_lines, how_many}
 use Rattle.model.specs.Parts.{together}
+use Rattle.model.specs.Work.{BlockAnswer}
 
 -- ---- the letter of a line
 -- no byte is a blank
@@ -60,15 +60,15 @@ last-field n = no-blanks (decimal n) (10 ∷ []) (decimal-has-none 20 n) (refl, 
 
 -- 0 for a refused block
 abbrev pub letter_told : BlockAnswer → ℕ
-letter_told (Worked job v) = letter_of v.status
-letter_told (Refused job number) = 0
+letter_told (Ok w) = letter_of w.verdict.status
+letter_told (Err r) = 0
 
 pub letter-printed : (f : Format) (n : ℕ) (x : BlockAnswer) → printed_letter (answer_line f n x) ≡ letter_told x
 unfolding worked_line refused_line line after_blanks
-letter-printed f n (Worked job v) =
-    rw (past-field 2 (decimal n) _ (decimal-has-none 20 n), past-field 1 (decimal job) _ (decimal-has-none 20 job))
-letter-printed f n (Refused job number) =
-    rw (past-field 2 (decimal n) _ (decimal-has-none 20 n), past-field 1 (decimal job) _ (decimal-has-none 20 job), past_all 0 _ (last-field number))
+letter-printed f n (Ok w) =
+    rw (past-field 2 (decimal n) _ (decimal-has-none 20 n), past-field 1 (decimal w.job) _ (decimal-has-none 20 w.job))
+letter-printed f n (Err r) =
+    rw (past-field 2 (decimal n) _ (decimal-has-none 20 n), past-field 1 (decimal r.job) _ (decimal-has-none 20 r.job), past_all 0 _ (last-field r.number))
 
 -- ---- the lines of a sheet
 pub lines-joined : (f : Format) (n : ℕ) (xs : List BlockAnswer) → together (lines_one_by_one f n xs) ≡ lines_from f n xs
@@ -92,9 +92,9 @@ pub record CountedOn (before after : Totals) (lines : List (List ℕ)) : Type 0 
 
 one_more : (t : Totals) (l : List ℕ) (x : BlockAnswer) → printed_letter l ≡ letter_told x → CountedOn t (counted t x) (l ∷ [])
 unfolding how_many
-one_more t l (Refused job number) e = record
+one_more t l (Err r) e = record
     { blocks = omega arith; clear = rw e (omega arith); contact = rw e (omega arith); undecided = rw e (omega arith); refused = rw e (omega arith) }
-one_more t l (Worked job v) e = go v.status e
+one_more t l (Ok w) e = go w.verdict.status e
   where
     go : (s : Status) → printed_letter l ≡ letter_of s → CountedOn t (one_worked t s) (l ∷ [])
     go Overlapped e = record {

@@ -8,13 +8,14 @@ use mathlib.Core.Path.{◌≡◌, refl, sym, ap, ◌∙◌, subst}
 use borrow.Author.Tests.{ltb-true, lt-ltb, eqb-false, ne_eqb}
 use lib.Dec.{eqb, ltb}
 use lib.Ieee.{Float, Format, le}
+use Rattle.std.proofs.Common.{Err}
 use Rattle.model.specs.declared.Pose.{Pose}
 use Rattle.model.specs.declared.Sweep.{Sweep}
 use Rattle.model.specs.declared.SimplexCache.{SimplexCache}
 use Rattle.model.specs.declared.Ending.{Ending}
 use Rattle.model.specs.declared.Ending.TheVariants.{Touching, Settled, RoundLimit}
 use Rattle.model.specs.declared.Rounds.{Rounds}
-use Rattle.model.specs.declared.DistanceAnswer.TheVariants.{Measured, Refused}
+use Rattle.model.specs.declared.Refusal.{Refusal}
 use Rattle.model.specs.declared.Distance.{Distance}
 use Rattle.model.specs.declared.SweepTask.{SweepTask}
 use Rattle.model.specs.declared.Closest.{Closest}
@@ -22,7 +23,7 @@ use Rattle.model.specs.declared.Counts.{Counts}
 use Rattle.model.specs.declared.SweepAnswer.{SweepAnswer}
 use Rattle.model.specs.declared.SweepAnswer.TheVariants.{Refused as NotSwept}
 use Rattle.model.specs.Ground as Ground
-use Rattle.model.specs.Domain.{pair_refusal, pose_refusal, of_other_pair, cache_refusal, or_else}
+use Rattle.model.specs.Domain.{pair_refusal, pose_refusal, of_other_pair, cache_refusal, or_else, numbered}
 use Rattle.model.specs.Distance.{cache, cache_by, start_simplex, rounds, measure, inputs_refusal, distance_refusal, distance_by, proxy_distance}
 use Rattle.model.specs.Separation.{new_separation}
 use Rattle.model.specs.SweepToi.{sweep_pair, no_corners, no_counts, called, overlapped, hit, PushEnd, ended, moved, onward, high}
@@ -72,7 +73,7 @@ module _ (f : Format) (p : Pose) (a : List Float) (ra : Float) (b : List Float) 
     pub other-number : c.pair ≡ pair → ⊥
 
   -- then the call is refused by 12
-  pub other-pair-refused : ByNumberAlone → call.answer ≡ Refused 12
+  pub other-pair-refused : ByNumberAlone → call.answer ≡ Err (numbered 12)
   unfolding proxy_distance
   other-pair-refused h = ap (λ (k : ℕ). (by k).answer) twelve
     where
@@ -86,7 +87,7 @@ module _ (f : Format) (p : Pose) (a : List Float) (ra : Float) (b : List Float) 
       twelve = behind (inputs_refusal f p a ra b rb) (cache_refusal pair c) h.inputs-pass other
 
   -- and only then
-  pub refused-by-12-only-then : call.answer ≡ Refused 12 → ByNumberAlone
+  pub refused-by-12-only-then : call.answer ≡ Err (numbered 12) → ByNumberAlone
   unfolding proxy_distance
   refused-by-12-only-then e =
       let few = first-most 6 (pair_refusal f a b ra rb) (pose_refusal f p) (omega (arith, pair-at-most-4 f a b ra rb)) (pose-at-most-6 f p) in
@@ -94,9 +95,9 @@ module _ (f : Format) (p : Pose) (a : List Float) (ra : Float) (b : List Float) 
       let (some, unlike) = refused-test (ltb 0 c.count) (eqb c.pair pair) other in
       record { inputs-pass = pass; some-corners = ltb-true _ _ some; other-number = eqb-false _ _ unlike }
     where
-      number : (k : ℕ) → (by k).answer ≡ Refused 12 → k ≡ 12
+      number : (k : ℕ) → (by k).answer ≡ Err (numbered 12) → k ≡ 12
       number zero e = absurd (let z : ◌≡◌ {A = ℕ} 0 1 = cc in omega arith)
-      number (suc k) e = cc
+      number (suc k) e = let same : numbered (suc k) ≡ numbered 12 = cc in ap (λ (r : Refusal). r.number) same
 
   -- ---- the call before
   same-corners : (e : Ending) (r : Rounds) → corners (cache_by e pair c r) ≡ corners (cache_by e 0 (cache 0 c.count c.index_a c.index_b) r)
@@ -105,11 +106,11 @@ module _ (f : Format) (p : Pose) (a : List Float) (ra : Float) (b : List Float) 
   same-corners RoundLimit r = refl
 
   -- A call that is not refused by 12 answers, and leaves of the cache without its number, what the call did before caches had one.
-  pub as_before : (call.answer ≡ Refused 12 → ⊥) → unnumbered call ≡ unnumbered_distance f p a ra b rb radii (corners c)
+  pub as_before : (call.answer ≡ Err (numbered 12) → ⊥) → unnumbered call ≡ unnumbered_distance f p a ra b rb radii (corners c)
   unfolding proxy_distance unnumbered_distance measure start_simplex
   as_before not-12 = go (inputs_refusal f p a ra b rb) (of_other_pair pair c) not-12
     where
-      go : (m : ℕ) (t : Bool) → ((by (or_else m (cond t 12 0))).answer ≡ Refused 12 → ⊥) →
+      go : (m : ℕ) (t : Bool) → ((by (or_else m (cond t 12 0))).answer ≡ Err (numbered 12) → ⊥) →
           unnumbered (by (or_else m (cond t 12 0))) ≡ unnumbered_by f p a ra b rb radii (corners c) m
       go zero true h = absurd (h refl)
       go zero false h = rw (same-corners (rounds f a b p c).ending (rounds f a b p c))

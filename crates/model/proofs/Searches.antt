@@ -1,5 +1,6 @@
 -- The corners that a sweep tells are those of the last search that its count of searches counts, and nothing else of its answer moves: the searches are
 -- as many as the answer counts, and of each the first corners are those of the least separation. Assumes nothing.
+use Rattle.std.proofs.Common.{Result, Ok, Err}
 use Prim.Native.Nat.{ℕ, zero, suc, ◌+◌, ◌-◌}
 use native.Mathlib.Nat.{zero-add}
 use native.Mathlib.Omega.{arith}
@@ -23,9 +24,7 @@ use Rattle.model.specs.declared.Counts.{Counts}
 use Rattle.model.specs.declared.SweepAnswer.{SweepAnswer}
 use Rattle.model.specs.declared.SweepAnswer.TheVariants.{Overlapped, Hit, Separated, Failed, Refused}
 use Rattle.model.specs.declared.Verdict.{Verdict}
-use Rattle.model.specs.declared.Outcome.{Outcome}
-use Rattle.model.specs.declared.Outcome.TheVariants.{Found}
-use Rattle.model.specs.declared.Outcome.TheVariants as Told
+use Rattle.model.specs.declared.Refusal.{Refusal}
 use Rattle.model.specs.Ground as Ground
 use Rattle.model.specs.Sweep.{transform_at}
 use Rattle.model.specs.Separation.{deepest_a, deepest_b, new_separation, evaluate, find_min_separation}
@@ -169,9 +168,9 @@ module _ (f : Format) (a : List Float) (ra : Float) (wa : Sweep) (b : List Float
   corners-of-the-last = refl
 
 -- ---- the block and its line
-abbrev with_corners : Corners → Outcome → Outcome
-with_corners k (Found v) = Found (verdict v.status v.contact v.counts k)
-with_corners k (Told.Refused number) = Told.Refused number
+abbrev with_corners : Corners → Result Verdict Refusal → Result Verdict Refusal
+with_corners k (Ok v) = Ok (verdict v.status v.contact v.counts k)
+with_corners k (Err r) = Err r
 
 -- what a sweep's answer comes to is the same whatever its corners are, these set aside
 pub told-as-ever : (f : Format) (k : Corners) (x : SweepAnswer) → with_corners no_search (told_by f k x) ≡ told_by f no_search x

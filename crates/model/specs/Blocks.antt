@@ -1,7 +1,7 @@
 -- The blocks of a file: one list, of which answers, conversions and reports are maps and folds. The last block is short where bytes are left over.
-use Rattle.std.specs.Prelude.{ℕ, zero, suc, ◌*◌, ◌/◌, ◌%◌, Bool, true, false, ◌&&◌, cond, List, [], ◌∷◌, ◌++◌, eqb, length, take, drop}
-use Rattle.model.specs.declared.CheckedBlock.{CheckedBlock}
-use Rattle.model.specs.declared.CheckedBlock.TheVariants.{Good, Refused}
+use Rattle.std.specs.Prelude.{ℕ, zero, suc, ◌*◌, ◌/◌, ◌%◌, Bool, true, false, ◌&&◌, cond, List, [], ◌∷◌, ◌++◌, eqb, length, take, drop, Result, Ok, Err}
+use Rattle.model.specs.declared.Block.{Block}
+use Rattle.model.specs.declared.BlockRefusal.{BlockRefusal}
 use Rattle.model.specs.Block.{block_size, checked_block}
 
 -- its first k blocks
@@ -21,9 +21,9 @@ abbrev pub block_at : List ℕ → ℕ → List ℕ
 block_at b i = take block_size (drop (block_size * i) b)
 
 -- ---- which of them pass
-abbrev pub is_good : CheckedBlock → Bool
-is_good (Good k) = true
-is_good (Refused job number) = false
+abbrev pub is_good : Result Block BlockRefusal → Bool
+is_good (Ok k) = true
+is_good (Err r) = false
 
 -- not refused with 9, 13, 10 or 11
 abbrev pub passes : List ℕ → Bool

@@ -1,8 +1,8 @@
 -- What a reader counts on a printed sheet: its lines one by one, and the letter that each prints.
 use Rattle.std.specs.Prelude.{ℕ, zero, suc, ◌+◌, cond, List, [], ◌∷◌, ◌++◌, eqb, get_or}
 use Rattle.std.specs.Float.{Format}
-use Rattle.model.specs.declared.BlockAnswer.{BlockAnswer}
 use Rattle.model.specs.Sheet.{answers, answer_line}
+use Rattle.model.specs.Work.{BlockAnswer}
 
 -- what stands behind the k-th blank
 unfoldable pub after_blanks : ℕ → List ℕ → List ℕ

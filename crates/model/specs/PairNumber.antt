@@ -1,20 +1,20 @@
 -- What stays as it was before a cache had the number of its pair, in definitions to compare with: the distance call over caches without a number, and
 -- the sweep with the number looked at before each of its distance calls.
-use Rattle.std.specs.Prelude.{ℕ, zero, suc, ◌-◌, Bool, cond, List, Float}
+use Rattle.std.specs.Prelude.{ℕ, zero, suc, ◌-◌, Bool, cond, List, Float, Result, Ok, Err}
 use Rattle.std.specs.Float.{Format}
 use Rattle.model.specs.declared.Pose.{Pose}
 use Rattle.model.specs.declared.Sweep.{Sweep}
 use Rattle.model.specs.declared.SimplexCache.{SimplexCache}
 use Rattle.model.specs.declared.Measurement.{Measurement}
-use Rattle.model.specs.declared.DistanceAnswer.{DistanceAnswer}
-use Rattle.model.specs.declared.DistanceAnswer.TheVariants.{Measured, Refused}
 use Rattle.model.specs.declared.Distance.{Distance}
 use Rattle.model.specs.declared.SweepTask.{SweepTask}
 use Rattle.model.specs.declared.Counts.{Counts}
 use Rattle.model.specs.declared.SweepAnswer.{SweepAnswer}
 use Rattle.model.specs.declared.SweepAnswer.TheVariants.{Refused as NotSwept}
+use Rattle.model.specs.declared.Refusal.{Refusal}
+use Rattle.model.specs.declared.ProxyDistanceOutput.{ProxyDistanceOutput}
 use Rattle.model.specs.Ground as Ground
-use Rattle.model.specs.Domain.{of_other_pair}
+use Rattle.model.specs.Domain.{of_other_pair, numbered}
 use Rattle.model.specs.Distance.{cache, inputs_refusal, measure}
 use Rattle.model.specs.SweepToi.{sweep_pair, no_corners, no_counts, called, failed_at, closest_at, advance_by, sweep_task, sweep_refusal, max_distance_iterations}
 
@@ -27,7 +27,7 @@ pub record Corners : Type 0 where
 
 -- an answer, and what the call left in such a cache
 pub record Unnumbered : Type 0 where
-  pub answer : DistanceAnswer
+  pub answer : Result ProxyDistanceOutput Refusal
   pub corners : Corners
 
 -- the number set aside
@@ -43,8 +43,8 @@ module _ (f : Format) (pose : Pose) (outline_a : List Float) (ra : Float) (outli
   middle = measure f pose outline_a ra outline_b rb radii 0 (cache 0 k.count k.index_a k.index_b)
 
   abbrev pub unnumbered_by : ℕ → Unnumbered
-  unnumbered_by zero = record { answer = Measured middle.output; corners = corners middle.cache }
-  unnumbered_by (suc n) = record { answer = Refused (suc n); corners = k }
+  unnumbered_by zero = record { answer = Ok middle.output; corners = corners middle.cache }
+  unnumbered_by (suc n) = record { answer = Err (numbered (suc n)); corners = k }
 
   unfoldable pub unnumbered_distance : Unnumbered
   unnumbered_distance = unnumbered_by (inputs_refusal f pose outline_a ra outline_b rb)

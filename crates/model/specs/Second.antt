@@ -1,14 +1,13 @@
 -- The second index of `support`: the highest one whose value equals the winning value. Beside the first, which stays what it is.
-use Rattle.std.specs.Prelude.{◌≡◌, ℕ, zero, suc, ◌+◌, ◌%◌, ◌^◌, ◌≤◌, ◌<◌, true, false, cond, List, [], ◌∷◌, eqb, drop, Float}
+use Rattle.std.specs.Prelude.{◌≡◌, ℕ, zero, suc, ◌+◌, ◌%◌, ◌^◌, ◌≤◌, ◌<◌, true, false, cond, List, [], ◌∷◌, eqb, drop, Float, Result, Ok, Err}
 use Rattle.std.specs.Float.{Format}
 use Rattle.std.specs.Float.Ieee.{lt, eq}
 use Rattle.model.specs.declared.Vector.{Vector}
 use Rattle.model.specs.declared.SupportPair.{SupportPair}
-use Rattle.model.specs.declared.SupportAnswer.{SupportAnswer}
-use Rattle.model.specs.declared.SupportAnswer.TheVariants.{At, Refused}
+use Rattle.model.specs.declared.Refusal.{Refusal}
 use Rattle.model.specs.Ground.{vector, minus, dot}
 use Rattle.model.specs.Ground as Ground
-use Rattle.model.specs.Domain.{outline_refusal}
+use Rattle.model.specs.Domain.{outline_refusal, numbered}
 use Rattle.model.specs.Support.{point, support}
 
 -- Along the points as `support_from` goes: a value above the best so far, or equal to it as floats are, makes its point the second. -0 equals 0, and a
@@ -30,12 +29,12 @@ pair i j = record { first = i; second = j }
 abbrev pub support_pair : Format → List Float → Vector → SupportPair
 support_pair f s d = pair (support f s d) (second f s d)
 
-abbrev pub support_by : ℕ → SupportPair → SupportAnswer
-support_by zero p = At p
-support_by (suc n) p = Refused (suc n)
+abbrev pub support_by : ℕ → SupportPair → Result SupportPair Refusal
+support_by zero p = Ok p
+support_by (suc n) p = Err (numbered (suc n))
 
 -- the public answer, for every list and any direction
-unfoldable pub support_answer : Format → List Float → Vector → SupportAnswer
+unfoldable pub support_answer : Format → List Float → Vector → Result SupportPair Refusal
 support_answer f s d = support_by (outline_refusal f s) (support_pair f s d)
 
 -- ---- the values: point 0's counts as 0

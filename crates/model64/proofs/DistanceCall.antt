@@ -10,6 +10,7 @@ use lib.Dec.{T, eqb, ltb, leb}
 use lib.ListN.{get_or, set, length, length-set}
 use lib.Seq.{get_or-set_same, get_or-set_other}
 use lib.Ieee.{Float, Format, neg, lt}
+use Rattle.std.proofs.Common.{Ok, Err}
 use Rattle.model64.specs.declared.Vector.{Vector}
 use Rattle.model64.specs.declared.Pose.{Pose}
 use Rattle.model64.specs.declared.SimplexVertex.{SimplexVertex}
@@ -21,9 +22,8 @@ use Rattle.model64.specs.declared.Rounds.{Rounds}
 use Rattle.model64.specs.declared.WitnessPoints.{WitnessPoints}
 use Rattle.model64.specs.declared.ProxyDistanceOutput.{ProxyDistanceOutput}
 use Rattle.model64.specs.declared.Measurement.{Measurement}
-use Rattle.model64.specs.declared.DistanceAnswer.{DistanceAnswer}
-use Rattle.model64.specs.declared.DistanceAnswer.TheVariants.{Measured, Refused}
 use Rattle.model64.specs.declared.Distance.{Distance}
+use Rattle.model.specs.declared.Refusal.{Refusal}
 use Rattle.model64.specs.Ground.{one, origin, dot}
 use Rattle.model.specs.Domain.{bad_outline}
 use Rattle.model64.specs.Simplex.{slot, weighted, solve}
@@ -304,25 +304,25 @@ module _ (f : Format) (p : Pose) (a : List Float) (ra : Float) (b : List Float) 
   abbrev by : ℕ → Distance
   by k = distance_by f p a ra b rb radii pair c k
 
-  by-refused : (k n : ℕ) → (by k).answer ≡ Refused n → (by k).cache ≡ c
-  by-refused zero n e = absurd (let z : ◌≡◌ {A = ℕ} 0 1 = cc in omega arith)
-  by-refused (suc k) n e = refl
+  by-refused : (k : ℕ) (r : Refusal) → (by k).answer ≡ Err r → (by k).cache ≡ c
+  by-refused zero r e = absurd (let z : ◌≡◌ {A = ℕ} 0 1 = cc in omega arith)
+  by-refused (suc k) r e = refl
 
   -- a refusal hands the cache back as it came, number and all
-  pub refused-keeps-cache : (n : ℕ) → call.answer ≡ Refused n → call.cache ≡ c
+  pub refused-keeps-cache : (r : Refusal) → call.answer ≡ Err r → call.cache ≡ c
   unfolding proxy_distance
-  refused-keeps-cache n e = by-refused (distance_refusal f p a ra b rb pair c) n e
+  refused-keeps-cache r e = by-refused (distance_refusal f p a ra b rb pair c) r e
 
   record Answered (o : ProxyDistanceOutput) (k : ℕ) : Type 0 where
     output : o ≡ (measure f p a ra b rb radii pair c).output
     cache : (by k).cache ≡ (measure f p a ra b rb radii pair c).cache
     none : k ≡ 0
 
-  by-answered : (o : ProxyDistanceOutput) (k : ℕ) → (by k).answer ≡ Measured o → Answered o k
+  by-answered : (o : ProxyDistanceOutput) (k : ℕ) → (by k).answer ≡ Ok o → Answered o k
   by-answered o zero e = record { output = cc; cache = refl; none = refl }
   by-answered o (suc k) e = absurd (let z : ◌≡◌ {A = ℕ} 0 1 = cc in omega arith)
 
-  module _ (o : ProxyDistanceOutput) (e : call.answer ≡ Measured o) where
+  module _ (o : ProxyDistanceOutput) (e : call.answer ≡ Ok o) where
     answered : Answered o (distance_refusal f p a ra b rb pair c)
     unfolding proxy_distance
     answered = by-answered o (distance_refusal f p a ra b rb pair c) e

@@ -7,15 +7,13 @@ use mathlib.Core.Bool.{Bool, true, false, ◌&&◌, ◌||◌, cond}
 use mathlib.Core.List.{List}
 use mathlib.Core.Path.{◌≡◌, refl, sym, ap, ◌∙◌}
 use lib.Ieee.{Float, Format, lt, le}
+use Rattle.std.proofs.Common.{Result, Ok, Err}
 use Rattle.model64.specs.declared.Pose.{Pose}
-use Rattle.model.specs.declared.Checked.{Checked}
-use Rattle.model.specs.declared.Checked.TheVariants.{Passed, Refused}
-use Rattle.model64.specs.declared.CheckedPose.{CheckedPose}
-use Rattle.model64.specs.declared.CheckedPose.TheVariants as CheckedPose
 use Rattle.model64.specs.declared.Sweep.{Sweep}
+use Rattle.model.specs.declared.Refusal.{Refusal}
 use Rattle.model64.specs.Ground.{one}
 use Rattle.model64.specs.Ground as Ground
-use Rattle.model.specs.Domain.{bad_outline}
+use Rattle.model.specs.Domain.{bad_outline, numbered}
 use Rattle.model64.specs.Domain.{limit, bad_parts, bad_radius, bad_rotation, bad_vector, bad_centres}
 use Rattle.model64.specs.Domain.{pair_refusal, pose_refusal, sweeps_refusal, fraction_refusal, slop_refusal}
 use Rattle.model.specs.Domain.{or_else, checked, refusal}
@@ -62,41 +60,41 @@ pub slop-at-most-8 : (f : Format) (x : Float) → slop_refusal f x ≤ 8
 slop-at-most-8 f x = test-most 8 (lt (Ground.zero f) x && le x (limit f)) 0 8 (omega arith) (omega arith)
 
 -- ---- what a check's answer says
-passed-is-0 : (k : ℕ) → checked k ≡ Passed → k ≡ 0
+passed-is-0 : (k : ℕ) → checked k ≡ Ok tt → k ≡ 0
 unfolding checked
 passed-is-0 zero e = refl
 passed-is-0 (suc k) e = absurd (let z : ◌≡◌ {A = ℕ} 0 1 = cc in omega arith)
 
-good-pose : (x : Checked) (p q : Pose) → checked_pose x p ≡ CheckedPose.Good q → (x ≡ Passed) × (q ≡ p)
+good-pose : (x : Result Unit Refusal) (p q : Pose) → checked_pose x p ≡ Ok q → (x ≡ Ok tt) × (q ≡ p)
 unfolding checked_pose
-good-pose Passed p q e = (refl, cc)
-good-pose (Refused n) p q e = absurd (let z : ◌≡◌ {A = ℕ} 0 1 = cc in omega arith)
+good-pose (Ok tt) p q e = (refl, cc)
+good-pose (Err r) p q e = absurd (let z : ◌≡◌ {A = ℕ} 0 1 = cc in omega arith)
 
-bad-pose : (x : Checked) (p : Pose) (n : ℕ) → checked_pose x p ≡ CheckedPose.Refused n → x ≡ Refused n
+bad-pose : (x : Result Unit Refusal) (p : Pose) (r : Refusal) → checked_pose x p ≡ Err r → x ≡ Err r
 unfolding checked_pose
-bad-pose Passed p n e = absurd (let z : ◌≡◌ {A = ℕ} 0 1 = cc in omega arith)
-bad-pose (Refused k) p n e = let same : k ≡ n = cc in ap Refused same
+bad-pose (Ok tt) p r e = absurd (let z : ◌≡◌ {A = ℕ} 0 1 = cc in omega arith)
+bad-pose (Err q) p r e = let same : q ≡ r = cc in ap Err same
 
 -- Answers by the number of a refusal, where any number above 0 is refused by it. Of a chain of checks, `answer k` is what a first number k gives
 -- before the rest.
 module _ {A : Type 0} (answer refuse : ℕ → A) (refuses : (n : ℕ) → refuse (suc n) ≡ answer (suc n)) where
-  number-refused : (k n : ℕ) → checked k ≡ Refused n → refuse n ≡ answer k
+  number-refused : (k : ℕ) (r : Refusal) → checked k ≡ Err r → refuse r.number ≡ answer k
   unfolding checked
-  number-refused zero n e = absurd (let z : ◌≡◌ {A = ℕ} 0 1 = cc in omega arith)
-  number-refused (suc k) n e = let same : n ≡ suc k = cc in rw same (refuses k)
+  number-refused zero r e = absurd (let z : ◌≡◌ {A = ℕ} 0 1 = cc in omega arith)
+  number-refused (suc k) r e = let same : r ≡ numbered (suc k) = cc in rw same (refuses k)
 
-  module _ (k : ℕ) (x : Checked) (is : x ≡ checked k) where
-    pub passed : x ≡ Passed → answer 0 ≡ answer k
+  module _ (k : ℕ) (x : Result Unit Refusal) (is : x ≡ checked k) where
+    pub passed : x ≡ Ok tt → answer 0 ≡ answer k
     passed e = ap answer (sym (passed-is-0 k (sym is ∙ e)))
 
-    pub refused : (n : ℕ) → x ≡ Refused n → (j : ℕ) → j ≡ refusal x → refuse j ≡ answer k
-    refused n e j ej = rw (ej ∙ ap refusal e) (number-refused k n (sym is ∙ e))
+    pub refused : (r : Refusal) → x ≡ Err r → (j : ℕ) → j ≡ refusal x → refuse j ≡ answer k
+    refused r e j ej = rw (ej ∙ ap refusal e) (number-refused k r (sym is ∙ e))
 
-  module _ (k : ℕ) (p : Pose) (y : CheckedPose) (is : y ≡ checked_pose (checked k) p) where
-    pub pose-passed : (q : Pose) → y ≡ CheckedPose.Good q → (answer 0 ≡ answer k) × (q ≡ p)
+  module _ (k : ℕ) (p : Pose) (y : Result Pose Refusal) (is : y ≡ checked_pose (checked k) p) where
+    pub pose-passed : (q : Pose) → y ≡ Ok q → (answer 0 ≡ answer k) × (q ≡ p)
     pose-passed q e =
         let (good, same) = good-pose (checked k) p q (sym is ∙ e) in
         (passed k (checked k) refl good, same)
 
-    pub pose-refused : (n : ℕ) → y ≡ CheckedPose.Refused n → (j : ℕ) → j ≡ refusal_of_pose y → refuse j ≡ answer k
-    pose-refused n e j ej = rw (ej ∙ ap refusal_of_pose e) (number-refused k n (bad-pose (checked k) p n (sym is ∙ e)))
+    pub pose-refused : (r : Refusal) → y ≡ Err r → (j : ℕ) → j ≡ refusal_of_pose y → refuse j ≡ answer k
+    pose-refused r e j ej = rw (ej ∙ ap refusal_of_pose e) (number-refused k r (bad-pose (checked k) p r (sym is ∙ e)))

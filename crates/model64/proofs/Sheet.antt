@@ -1,6 +1,7 @@
 -- Written by tests/written/wide.py from model, in f64.
 -- The whole run, block by block and part by part: each line comes from its own number and its own 512 bytes, a file worked in parts has the text
 -- of the whole, and every block is clear, contact, undecided or refused. Assumes nothing.
+use Rattle.std.proofs.Common.{Ok, Err}
 use mathlib.Core.Path.{◌≡◌, refl, sym, ap, ◌∙◌}
 use mathlib.Core.Bool.{Bool, true, false, cond}
 use mathlib.Core.List.{List, [], ◌∷◌, ◌++◌, append_assoc, append-nil, map}
@@ -13,15 +14,14 @@ use lib.ListN.{length, take, drop, length-append, length-drop}
 use lib.Seq.{length-take-le}
 use Rattle.model.specs.declared.Status.{Status}
 use Rattle.model.specs.declared.Status.TheVariants.{Overlapped, Hit, Separated, Failed}
-use Rattle.model64.specs.declared.BlockAnswer.{BlockAnswer}
-use Rattle.model64.specs.declared.BlockAnswer.TheVariants.{Worked, Refused}
 use Rattle.model.specs.declared.Totals.{Totals}
-use Rattle.model64.specs.Work.{block_answer}
+use Rattle.model64.specs.Work.{block_answer, BlockAnswer}
 use Rattle.model.specs.Blocks.{whole_blocks, short_rest, blocks, block_at}
 use Rattle.model.specs.Parts.{together}
 use Rattle.model.specs.Sheet.{none, one_worked, total_line}
 use Rattle.model64.specs.Sheet.{answer_of, whole_answers, rest_answer, answers, answer_line, lines_from, counted, totals_from}
 use Rattle.model64.specs.Sheet.{part_text, sheet}
+use Rattle.model.specs.Block.{refused}
 use Rattle.model.proofs.Blocks.{map-append, blocks_more, blocks-in-two-parts, whole-counted, rest_of, rest-short}
 use Rattle.model.proofs.Blocks as Blocks
 
@@ -44,8 +44,8 @@ abbrev pub Sums : Totals → Type 0
 Sums t = t.blocks ≡ t.clear + t.contact + t.undecided + t.refused
 
 one-counted : (t : Totals) (x : BlockAnswer) → (counted t x).blocks ≡ t.blocks + 1
-one-counted t (Refused job number) = refl
-one-counted t (Worked job v) = go v.status
+one-counted t (Err r) = refl
+one-counted t (Ok w) = go w.verdict.status
   where
     go : (s : Status) → (one_worked t s).blocks ≡ t.blocks + 1
     go Overlapped = refl
@@ -54,8 +54,8 @@ one-counted t (Worked job v) = go v.status
     go Failed = refl
 
 one-sums : (t : Totals) (x : BlockAnswer) → Sums t → Sums (counted t x)
-one-sums t (Refused job number) h = omega arith
-one-sums t (Worked job v) h = go v.status
+one-sums t (Err r) h = omega arith
+one-sums t (Ok w) h = go w.verdict.status
   where
     go : (s : Status) → Sums (one_worked t s)
     go Overlapped = omega arith
@@ -93,7 +93,7 @@ whole-answered f (suc k) b inside =
     let left : 512 * k ≤ length (drop 512 b) = rw (length-drop 512 b) (omega (arith, inside)) in
     rw (eq-eqb (length (take 512 b)) 512 size, whole-answered f k (drop 512 b) left)
 
-rest-answered : (f : Format) (b : List ℕ) (t : Bool) → map (answer_of f) (cond t [] (rest_of b ∷ [])) ≡ cond t [] (Refused 0 9 ∷ [])
+rest-answered : (f : Format) (b : List ℕ) (t : Bool) → map (answer_of f) (cond t [] (rest_of b ∷ [])) ≡ cond t [] (refused 0 9 ∷ [])
 rest-answered f b true = refl
 rest-answered f b false = rw (rest-short b)
 

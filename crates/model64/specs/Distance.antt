@@ -4,7 +4,7 @@
 --   settled       the new support pair was held before the round: the cache takes what the solve kept;
 --   round limit   20 rounds without either: the vertex added last is counted, and the cache is written.
 -- A cache that is written carries the number that the caller gave for the pair of outlines; no other part of the call looks at a number.
-use Rattle.std.specs.Prelude.{ℕ, zero, suc, ◌+◌, ◌/◌, Bool, true, false, ◌&&◌, ◌||◌, cond, List, [], ◌∷◌, eqb, ltb, leb, get_or, set, length, Float}
+use Rattle.std.specs.Prelude.{ℕ, zero, suc, ◌+◌, ◌/◌, Bool, true, false, ◌&&◌, ◌||◌, cond, List, [], ◌∷◌, eqb, ltb, leb, get_or, set, length, Float, Ok, Err}
 use Rattle.std.specs.Float.{Format}
 use Rattle.std.specs.Float.Ieee.{sub, mul, neg, lt}
 use Rattle.model64.specs.declared.Vector.{Vector}
@@ -18,13 +18,11 @@ use Rattle.model64.specs.declared.Rounds.{Rounds}
 use Rattle.model64.specs.declared.WitnessPoints.{WitnessPoints}
 use Rattle.model64.specs.declared.ProxyDistanceOutput.{ProxyDistanceOutput}
 use Rattle.model64.specs.declared.Measurement.{Measurement}
-use Rattle.model64.specs.declared.DistanceAnswer.{DistanceAnswer}
-use Rattle.model64.specs.declared.DistanceAnswer.TheVariants.{Measured, Refused}
 use Rattle.model64.specs.declared.Distance.{Distance}
 use Rattle.model.specs.Ground.{max}
 use Rattle.model64.specs.Ground.{one, epsilon, origin, plus, minus, times, negate, dot, distance, normalise_or_zero, inverse_rotate, on_point}
 use Rattle.model64.specs.Ground as Ground
-use Rattle.model.specs.Domain.{cache_refusal, or_else}
+use Rattle.model.specs.Domain.{cache_refusal, or_else, numbered}
 use Rattle.model64.specs.Domain.{pair_refusal, pose_refusal}
 use Rattle.model64.specs.Support.{point, support}
 use Rattle.model64.specs.Simplex.{slot, solve}
@@ -164,8 +162,8 @@ module _ (f : Format) (pose : Pose) (outline_a : List Float) (ra : Float) (outli
   measure = measured_from f ra rb radii pair c (rounds f outline_a outline_b pose c)
 
   abbrev pub distance_by : ℕ → Distance
-  distance_by zero = record { answer = Measured measure.output; cache = measure.cache }
-  distance_by (suc n) = record { answer = Refused (suc n); cache = c }
+  distance_by zero = record { answer = Ok measure.output; cache = measure.cache }
+  distance_by (suc n) = record { answer = Err (numbered (suc n)); cache = c }
 
   -- a refusal leaves the cache as it came
   unfoldable pub proxy_distance : Distance

@@ -1,6 +1,6 @@
 -- Written by tests/written/wide.py from model, in f64.
 -- The domain and the numbers of refusal, in their order. A number of 0 says that nothing is refused; -0 counts as zero everywhere.
-use Rattle.std.specs.Prelude.{ℕ, zero, suc, ◌%◌, Bool, true, false, not, ◌&&◌, ◌||◌, cond, List, [], ◌∷◌, eqb, ltb, length, Float}
+use Rattle.std.specs.Prelude.{ℕ, zero, suc, ◌%◌, Bool, true, false, not, ◌&&◌, ◌||◌, cond, List, [], ◌∷◌, eqb, ltb, length, Float, Result, Ok, Err, ⊤}
 use Rattle.std.specs.Float.{Format}
 use Rattle.std.specs.Float.Ieee.{add, mul, lt, le}
 use Rattle.model64.specs.declared.Vector.{Vector}
@@ -8,10 +8,7 @@ use Rattle.model64.specs.declared.Rotation.{Rotation}
 use Rattle.model64.specs.declared.Pose.{Pose}
 use Rattle.model64.specs.declared.Sweep.{Sweep}
 use Rattle.model.specs.declared.SimplexCache.{SimplexCache}
-use Rattle.model.specs.declared.Checked.{Checked}
-use Rattle.model.specs.declared.Checked.TheVariants.{Passed, Refused}
-use Rattle.model64.specs.declared.CheckedPose.{CheckedPose}
-use Rattle.model64.specs.declared.CheckedPose.TheVariants as CheckedPose
+use Rattle.model.specs.declared.Refusal.{Refusal}
 use Rattle.model.specs.Ground.{constant, abs}
 use Rattle.model64.specs.Ground.{one}
 use Rattle.model64.specs.Ground as Ground
@@ -19,6 +16,7 @@ pub use Rattle.model.specs.Domain.{bad_outline}
 pub use Rattle.model.specs.Domain.{of_other_pair}
 pub use Rattle.model.specs.Domain.{cache_refusal}
 pub use Rattle.model.specs.Domain.{or_else}
+pub use Rattle.model.specs.Domain.{numbered}
 unfoldable pub use Rattle.model.specs.Domain.{checked}
 pub use Rattle.model.specs.Domain.{refusal}
 
@@ -87,11 +85,11 @@ module _ (f : Format) where
   slop_refusal x = cond (lt (Ground.zero f) x && le x limit) 0 8
 
 -- the answer, with the pose that passed
-unfoldable pub checked_pose : Checked → Pose → CheckedPose
-checked_pose Passed p = CheckedPose.Good p
-checked_pose (Refused n) p = CheckedPose.Refused n
+unfoldable pub checked_pose : Result ⊤ Refusal → Pose → Result Pose Refusal
+checked_pose (Ok tt) p = Ok p
+checked_pose (Err r) p = Err r
 
 -- a pose's number again
-abbrev pub refusal_of_pose : CheckedPose → ℕ
-refusal_of_pose (CheckedPose.Good p) = 0
-refusal_of_pose (CheckedPose.Refused n) = n
+abbrev pub refusal_of_pose : Result Pose Refusal → ℕ
+refusal_of_pose (Ok p) = 0
+refusal_of_pose (Err r) = r.number

@@ -1,14 +1,14 @@
 -- Written by tests/written/wide.py from model, in f64.
 -- The second index of `support`: the highest one whose value equals the winning value. Beside the first, which stays what it is.
-use Rattle.std.specs.Prelude.{◌≡◌, ℕ, zero, suc, ◌+◌, ◌%◌, ◌^◌, ◌≤◌, ◌<◌, true, false, cond, List, [], ◌∷◌, eqb, drop, Float}
+use Rattle.std.specs.Prelude.{◌≡◌, ℕ, zero, suc, ◌+◌, ◌%◌, ◌^◌, ◌≤◌, ◌<◌, true, false, cond, List, [], ◌∷◌, eqb, drop, Float, Result, Ok, Err}
 use Rattle.std.specs.Float.{Format}
 use Rattle.std.specs.Float.Ieee.{lt, eq}
 use Rattle.model64.specs.declared.Vector.{Vector}
 use Rattle.model.specs.declared.SupportPair.{SupportPair}
-use Rattle.model.specs.declared.SupportAnswer.{SupportAnswer}
-use Rattle.model.specs.declared.SupportAnswer.TheVariants.{At, Refused}
+use Rattle.model.specs.declared.Refusal.{Refusal}
 use Rattle.model64.specs.Ground.{vector, minus, dot}
 use Rattle.model64.specs.Ground as Ground
+use Rattle.model.specs.Domain.{numbered}
 use Rattle.model64.specs.Domain.{outline_refusal}
 use Rattle.model64.specs.Support.{point, support}
 pub use Rattle.model.specs.Second.{support_by}
@@ -33,7 +33,7 @@ abbrev pub support_pair : Format → List Float → Vector → SupportPair
 support_pair f s d = pair (support f s d) (second f s d)
 
 -- the public answer, for every list and any direction
-unfoldable pub support_answer : Format → List Float → Vector → SupportAnswer
+unfoldable pub support_answer : Format → List Float → Vector → Result SupportPair Refusal
 support_answer f s d = support_by (outline_refusal f s) (support_pair f s d)
 
 -- ---- the values: point 0's counts as 0

@@ -1,19 +1,17 @@
 -- Written by tests/written/wide.py from model, in f64.
 -- The printed sheet. A file's answers are one for each of its blocks; its lines and its totals are folds of that list, and the text is both.
-use Rattle.std.specs.Prelude.{ℕ, ◌+◌, Bool, cond, List, [], ◌∷◌, ◌++◌, map, eqb, length}
+use Rattle.std.specs.Prelude.{ℕ, ◌+◌, Bool, cond, List, [], ◌∷◌, ◌++◌, map, eqb, length, Ok, Err}
 use Rattle.std.specs.Float.{Format}
 use Rattle.model.specs.declared.Status.{Status}
 use Rattle.model.specs.declared.Status.TheVariants.{Overlapped, Hit, Separated, Failed}
 use Rattle.model.specs.declared.Corners.{Corners}
 use Rattle.model64.specs.declared.Verdict.{Verdict}
-use Rattle.model64.specs.declared.BlockAnswer.{BlockAnswer}
-use Rattle.model64.specs.declared.BlockAnswer.TheVariants.{Worked, Refused}
 use Rattle.model.specs.declared.Totals.{Totals}
 use Rattle.model.specs.Text.{decimal, hex_float, line}
 use Rattle.model.specs.Separation.{no_index}
-use Rattle.model.specs.Block.{block_size}
+use Rattle.model.specs.Block.{block_size, refused}
 use Rattle.model.specs.Blocks.{whole_blocks, blocks}
-use Rattle.model64.specs.Work.{block_answer}
+use Rattle.model64.specs.Work.{block_answer, BlockAnswer}
 pub use Rattle.model.specs.Sheet.{letter_of}
 unfoldable pub use Rattle.model.specs.Sheet.{refused_line}
 pub use Rattle.model.specs.Sheet.{corner_text}
@@ -30,7 +28,7 @@ unfoldable pub use Rattle.model.specs.Sheet.{total_line}
 -- ---- the answers of a file
 -- of a block, by its own bytes alone; one that is short is refused by 9
 abbrev pub answer_of : Format → List ℕ → BlockAnswer
-answer_of f x = cond (eqb (length x) block_size) (block_answer f x) (Refused 0 9)
+answer_of f x = cond (eqb (length x) block_size) (block_answer f x) (refused 0 9)
 
 unfoldable pub answers : Format → List ℕ → List BlockAnswer
 answers f b = map (answer_of f) (blocks b)
@@ -40,7 +38,7 @@ abbrev pub whole_answers : Format → ℕ → List ℕ → List BlockAnswer
 whole_answers f k b = map (block_answer f) (whole_blocks k b)
 
 abbrev pub rest_answer : ℕ → List BlockAnswer
-rest_answer rest = cond (eqb rest 0) [] (Refused 0 9 ∷ [])
+rest_answer rest = cond (eqb rest 0) [] (refused 0 9 ∷ [])
 
 -- what a worked block printed before it told corners
 abbrev pub worked_fields : Format → ℕ → ℕ → Verdict → List (List ℕ)
@@ -56,8 +54,8 @@ worked_line f n job v = line (worked_fields f n job v ++ corner_fields v.corners
 
 -- the line of block n
 abbrev pub answer_line : Format → ℕ → BlockAnswer → List ℕ
-answer_line f n (Worked job v) = worked_line f n job v
-answer_line f n (Refused job number) = refused_line n job number
+answer_line f n (Ok w) = worked_line f n w.job w.verdict
+answer_line f n (Err r) = refused_line n r.job r.number
 
 -- the lines of answers that follow n others
 unfoldable pub lines_from : Format → ℕ → List BlockAnswer → List ℕ
@@ -65,8 +63,8 @@ lines_from f n [] = []
 lines_from f n (x ∷ xs) = answer_line f (n + 1) x ++ lines_from f (n + 1) xs
 
 abbrev pub counted : Totals → BlockAnswer → Totals
-counted t (Worked job v) = one_worked t v.status
-counted t (Refused job number) = one_refused t
+counted t (Ok w) = one_worked t w.verdict.status
+counted t (Err r) = one_refused t
 
 -- the totals of answers, from given ones on
 unfoldable pub totals_from : Totals → List BlockAnswer → Totals

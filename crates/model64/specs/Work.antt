@@ -1,6 +1,6 @@
 -- Written by tests/written/wide.py from model, in f64.
 -- From a block to its answer: its floats, the sweep that they ask for, and what the sweep's answer comes to.
-use Rattle.std.specs.Prelude.{ℕ, zero, suc, ◌+◌, ◌*◌, List, [], ◌∷◌, Float}
+use Rattle.std.specs.Prelude.{ℕ, zero, suc, ◌+◌, ◌*◌, List, [], ◌∷◌, Float, Result, Ok, Err}
 use Rattle.std.specs.Float.{Format, binary32}
 use Rattle.std.specs.Float.Ieee.{of_bits}
 use Rattle.model64.specs.declared.Vector.{Vector}
@@ -13,23 +13,19 @@ use Rattle.model64.specs.declared.SweepAnswer.{SweepAnswer}
 use Rattle.model64.specs.declared.SweepAnswer.TheVariants as Answered
 use Rattle.model64.specs.declared.Swept.{Swept}
 use Rattle.model.specs.declared.Block.{Block}
-use Rattle.model.specs.declared.CheckedBlock.{CheckedBlock}
-use Rattle.model.specs.declared.CheckedBlock.TheVariants as Checked
+use Rattle.model.specs.declared.BlockRefusal.{BlockRefusal}
 use Rattle.model.specs.declared.Status.{Status}
 use Rattle.model.specs.declared.Status.TheVariants.{Overlapped, Hit, Separated, Failed}
 use Rattle.model64.specs.declared.Verdict.{Verdict}
-use Rattle.model64.specs.declared.Outcome.{Outcome}
-use Rattle.model64.specs.declared.Outcome.TheVariants.{Found}
-use Rattle.model64.specs.declared.Outcome.TheVariants as Told
-use Rattle.model64.specs.declared.BlockAnswer.{BlockAnswer}
-use Rattle.model64.specs.declared.BlockAnswer.TheVariants.{Worked, Refused}
+use Rattle.model.specs.declared.Refusal.{Refusal}
+use Rattle.model64.specs.declared.Worked.{Worked}
 use Rattle.model64.specs.Ground.{rotation, origin}
 use Rattle.model64.specs.Ground as Ground
 use Rattle.model.specs.Wire.{word}
 use Rattle.model64.specs.Support.{point}
 use Rattle.model64.specs.SweepToi.{contact}
 use Rattle.model64.specs.Corners.{sweep}
-use Rattle.model.specs.Block.{checked_block}
+use Rattle.model.specs.Block.{checked_block, refused}
 unfoldable pub use Rattle.model.specs.Work.{floats_at}
 pub use Rattle.model.specs.Work.{numbers_of}
 pub use Rattle.model.specs.Work.{points_a}
@@ -62,25 +58,32 @@ abbrev pub verdict : Status → Contact → Counts → Corners → Verdict
 verdict s c n k = record { status = s; contact = c; counts = n; corners = k }
 
 -- each case of the sweep's answer: its status and values, or its number. An overlap has fraction 0, whatever t1 was, and zeros
-abbrev pub told_by : Format → Corners → SweepAnswer → Outcome
-told_by f k (Answered.Overlapped n) = Found (verdict Overlapped (contact (Ground.zero f) (origin f) (origin f)) n k)
-told_by f k (Answered.Hit c n) = Found (verdict Hit c n k)
-told_by f k (Answered.Separated c n) = Found (verdict Separated c n k)
-told_by f k (Answered.Failed c n) = Found (verdict Failed c n k)
-told_by f k (Answered.Refused number) = Told.Refused number
+abbrev pub told_by : Format → Corners → SweepAnswer → Result Verdict Refusal
+told_by f k (Answered.Overlapped n) = Ok (verdict Overlapped (contact (Ground.zero f) (origin f) (origin f)) n k)
+told_by f k (Answered.Hit c n) = Ok (verdict Hit c n k)
+told_by f k (Answered.Separated c n) = Ok (verdict Separated c n k)
+told_by f k (Answered.Failed c n) = Ok (verdict Failed c n k)
+told_by f k (Answered.Refused number) = Err (record { number = number })
 
 -- with the corners of its last search
-abbrev pub told : Format → Swept → Outcome
+abbrev pub told : Format → Swept → Result Verdict Refusal
 told f x = told_by f x.corners x.answer
 
--- the same as the answer of a block
-abbrev pub of_job : ℕ → Outcome → BlockAnswer
-of_job job (Found v) = Worked job v
-of_job job (Told.Refused number) = Refused job number
+-- of a block: its job with the verdict; or the job and the number of a refusal, whichever of 3 to 11 or 13 it is
+abbrev pub BlockAnswer : Type 0
+BlockAnswer = Result Worked BlockRefusal
 
-abbrev pub answer_by : Format → List ℕ → CheckedBlock → BlockAnswer
-answer_by f b (Checked.Good k) = of_job k.job (told f (sweep_of f b k))
-answer_by f b (Checked.Refused job number) = Refused job number
+abbrev pub worked : ℕ → Verdict → BlockAnswer
+worked job v = Ok (record { job = job; verdict = v })
+
+-- the same as the answer of a block
+abbrev pub of_job : ℕ → Result Verdict Refusal → BlockAnswer
+of_job job (Ok v) = worked job v
+of_job job (Err r) = refused job r.number
+
+abbrev pub answer_by : Format → List ℕ → Result Block BlockRefusal → BlockAnswer
+answer_by f b (Ok k) = of_job k.job (told f (sweep_of f b k))
+answer_by f b (Err r) = Err r
 
 -- by its 512 bytes alone
 unfoldable pub block_answer : Format → List ℕ → BlockAnswer

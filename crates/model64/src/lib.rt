@@ -1,6 +1,8 @@
 // Written by tests/written/wide.py from model, in f64.
 // The records of model that hold floats, in f64. The others are model's.
-use model::{Corners, Counts, Ending, SeparationType, SimplexCache, Status};
+#![tactic(auto)]
+
+use model::{BlockRefusal, Corners, Counts, Ending, Refusal, SeparationType, SimplexCache, Status};
 
 // A point or a direction of the plane.
 #[derive(Clone, Copy)]
@@ -31,13 +33,6 @@ pub struct Sweep {
     pub c2: Vector,
     pub q1: Rotation,
     pub q2: Rotation,
-}
-
-// A pose that passed its check, or the number of its refusal.
-#[derive(Clone, Copy)]
-pub enum CheckedPose {
-    Good(Pose),
-    Refused(u32),
 }
 
 // One corner pair of a simplex: the corner of A, the posed corner of B, their difference, its weight and the two indices.
@@ -94,16 +89,10 @@ pub struct Measurement {
     pub cache: SimplexCache,
 }
 
-#[derive(Clone, Copy)]
-pub enum DistanceAnswer {
-    Measured(ProxyDistanceOutput),
-    Refused(u32),
-}
-
 // A distance call's answer, and the cache as it leaves it.
 #[derive(Clone, Copy)]
 pub struct Distance {
-    pub answer: DistanceAnswer,
+    pub answer: Result<ProxyDistanceOutput, Refusal>,
     pub cache: SimplexCache,
 }
 
@@ -168,7 +157,7 @@ pub struct Contact {
     pub normal: Vector,
 }
 
-// How a sweep ends.
+// How a sweep ends. No Result: a sweep has four endings, each with its own floats, beside the number of a refusal.
 #[derive(Clone, Copy)]
 pub enum SweepAnswer {
     Overlapped(Counts),
@@ -194,16 +183,12 @@ pub struct Verdict {
     pub corners: Corners,
 }
 
-// What a sweep's answer comes to: a verdict, or the number of its refusal.
+// A worked block: its job, and what it tells.
 #[derive(Clone, Copy)]
-pub enum Outcome {
-    Found(Verdict),
-    Refused(u32),
+pub struct Worked {
+    pub job: u32,
+    pub verdict: Verdict,
 }
 
 // What a block comes to: its job with the verdict; or the job and the number of a refusal, whichever of 3 to 11 or 13 it is.
-#[derive(Clone, Copy)]
-pub enum BlockAnswer {
-    Worked(u32, Verdict),
-    Refused(u32, u32),
-}
+pub type BlockAnswer = Result<Worked, BlockRefusal>;

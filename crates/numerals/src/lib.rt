@@ -1,1 +1,2 @@
 // Digits as a person reads them, and that they are those that are printed: definitions and theorems, no code.
+#![tactic(auto)]

@@ -8,7 +8,7 @@ ghost use Rattle.model64.specs.Support as Support;
 ghost use Rattle.model64.specs.Second as Second;
 
 use domain64::{check_outline, refusal};
-use model::{Checked, SupportAnswer, SupportPair};
+use model::{Refusal, SupportPair};
 use model64::Vector;
 
 // Number k of the list; NaN where there is none.
@@ -96,14 +96,7 @@ pub fn support_pair(points: &[f64], direction: Vector) -> SupportPair
         second: 0,
         value: 0.0,
     };
-    let mut i: usize = 1;
-    // two corners a round, and the one that may be left behind them
-    while i + 1 < count {
-        let one = taken(points, direction, origin, best, i);
-        best = taken(points, direction, origin, one, i + 1);
-        i += 2;
-    }
-    if i < count {
+    for i in 1..count {
         best = taken(points, direction, origin, best, i);
     }
     SupportPair {
@@ -121,12 +114,13 @@ pub fn support_index(points: &[f64], direction: Vector) -> u32
 }
 
 // Both of a checked outline, or the number of its refusal.
-pub fn support(points: &[f64], direction: Vector) -> SupportAnswer
+pub fn support(points: &[f64], direction: Vector) -> Result<SupportPair, Refusal>
     ensures { result ≡ Second.support_answer binary64 points.now direction }
 {
     let outline = check_outline(points);
-    let Checked::Passed = outline else {
-        return SupportAnswer::Refused(refusal(outline));
+    let Ok(()) = outline else {
+        let number = refusal(outline);
+        return Err(Refusal { number });
     };
-    SupportAnswer::At(support_pair(points, direction))
+    Ok(support_pair(points, direction))
 }

@@ -4,6 +4,7 @@ use mathlib.Core.Bool.{Bool, true, false, cond}
 use mathlib.Core.List.{List, [], ◌∷◌, ◌++◌, append-nil, append_assoc}
 use Prim.Native.Nat.{ℕ, ◌+◌, ◌/◌, ◌≤◌, ◌<◌}
 use native.Mathlib.Omega.{arith}
+use Rattle.std.proofs.Math.Nat.{min-eq_left}
 use borrow.Author.Tests.{lt-ltb, le-ltb}
 use lib.Dec.{eqb}
 use lib.ListN.{length, take, drop, replicate, length-append}
@@ -123,7 +124,7 @@ module _ (size room err_room : ℕ) (blocks : size ≤ room / 512) (refusals : s
     all-used =
         let most : length p ≤ room / 512 = omega (arith, inside, blocks) in
         let told : length p ≤ err_room / refusal_room = omega (arith, inside, refusals) in
-        rw (lt-ltb h.lines count_limit small, le-ltb (room / 512) (length p) most, le-ltb (err_room / refusal_room) (length p) told)
+        rw (lt-ltb h.lines count_limit small, min-eq_left most, min-eq_left told)
 
     run_is : run_in h p room err_room ≡ run_over (fresh h) p
     run_is = ap (λ (n : ℕ). run_over (fresh h) (take n p)) all-used ∙ ap (run_over (fresh h)) (take-length p)

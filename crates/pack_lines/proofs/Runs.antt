@@ -13,7 +13,7 @@ use Rattle.text.specs.Put.{Put}
 use Rattle.text.proofs.Pasted.{put_then, put-nothing}
 use Rattle.pack_lines.specs.declared.Held.{Held}
 use Rattle.job_text.specs.Job.{block_for, is_job}
-use Rattle.job_text.specs.Room.{refusal, refusal_room, least}
+use Rattle.job_text.specs.Room.{refusal, refusal_room}
 use Rattle.pack_lines.specs.Pack.{Run, longer, line_ended, line_on, byte_more, run_over, used_bytes, run_in, Ends}
 use Rattle.job_text.proofs.BlockBuilt.{length-block-for}
 use Rattle.job_text.proofs.Fitting.{length-refusal}
@@ -116,16 +116,6 @@ goes_further {x} {l} {lines} {out} {at} {out'} {at'} {err} {told} {err'} {told'}
     most-ended false = omega arith
 
 -- ---- the whole part
-pub take-least : (n : ℕ) (l : List ℕ) (m : ℕ) → length l ≡ m → take (least n m) l ≡ take n l
-take-least n l m size = go (ltb m n) refl
-  where
-    go : (t : Bool) → ltb m n ≡ t → take (cond t m n) l ≡ take n l
-    go true e =
-        let all : length l ≤ m = omega arith in
-        let more : length l ≤ n = omega (arith, ltb-true m n e) in
-        take_all m l all ∙ sym (take_all n l more)
-    go false e = refl
-
 pub run-in-is : (h : Held) (part : List ℕ) (room err_room : ℕ) (l : List ℕ) {n i : ℕ} → i ≡ n → n ≡ used_bytes h part room err_room
     → l ≡ take h.size h.line → run_over (starting l h.lines) (take i part) ≡ run_in h part room err_room
 run-in-is h part room err_room l done used same = rw (done, used, same)

@@ -7,7 +7,7 @@ ghost use Rattle.job_text.specs.Job.{longest_line};
 ghost use Rattle.job_text.specs.Room.{refusal_room};
 ghost use Rattle.pack_lines.specs.Pack.{longer, held_of, held_after, run_in, last_for, Ends};
 
-// What is kept of the line that a part ended in, and how many lines ended before it.
+// What is kept of the line that a part ended in, and how many lines ended before it. There is no heap, so the line stands in an array with its size beside.
 #[derive(Clone, Copy)]
 pub struct Held {
     pub line: [u8; 855],
@@ -56,44 +56,36 @@ fn hold(line: &mut [u8], size: usize, x: u8) -> usize
 }
 
 // What a line that has got this byte comes to, where that ends it.
-fn end_line(
-    x: u8,
-    line: &[u8],
-    lines: u64,
-    out: &mut [u8],
-    at: usize,
-    err: &mut [u8],
-    told: usize,
-) -> Ended
-    requires { (at + 512 ≤ length out.old) × (told + refusal_room ≤ length err.old) × (lines < 0xffff_ffff_ffff_ffff) }
-    ensures { Ends x line.now lines out.old at out.new result.at
-        err.old told err.new result.told result.size result.lines }
+fn end_line(x: u8, line: &[u8], out: &mut [u8], err: &mut [u8], so_far: Ended) -> Ended
+    requires { (so_far.at + 512 ≤ length out.old) × (so_far.told + refusal_room ≤ length err.old) × (so_far.lines < 0xffff_ffff_ffff_ffff) }
+    ensures { Ends x line.now so_far.lines out.old so_far.at out.new result.at
+        err.old so_far.told err.new result.told result.size result.lines }
 {
     if x != b'\n' {
         return Ended {
-            at,
-            told,
+            at: so_far.at,
+            told: so_far.told,
             size: line.len(),
-            lines,
+            lines: so_far.lines,
         };
     }
     let built = job_text::job_block(line);
     if built.job {
         let block = built.block;
-        let end = text::put_text(out, at, &block);
+        let end = text::put_text(out, so_far.at, &block);
         return Ended {
             at: end,
-            told,
+            told: so_far.told,
             size: 0,
-            lines: lines + 1,
+            lines: so_far.lines + 1,
         };
     }
-    let end = job_text::put_refusal(err, told, lines + 1, 14);
+    let end = job_text::put_refusal(err, so_far.told, so_far.lines + 1, 14);
     Ended {
-        at,
+        at: so_far.at,
         told: end,
         size: 0,
-        lines: lines + 1,
+        lines: so_far.lines + 1,
     }
 }
 
@@ -102,7 +94,7 @@ fn lay(old: [u8; 855], size: usize, line: &mut [u8]) -> usize
     requires { length line.old ≡ longest_line }
     ensures { (take result line.new ≡ take size old) × (result ≤ longest_line) }
 {
-    let n = job_text::least(size, 855);
+    let n = size.min(855);
     text::put_text(line, 0, &old[..n])
 }
 
@@ -131,26 +123,22 @@ pub fn pack_part(part: &[u8], held: Held, out: &mut [u8], err: &mut [u8]) -> Pac
     let n = job_text::used_of(part.len(), out.len() / 512, err.len(), held.lines);
     let old = held.line;
     let mut line = [0u8; 855];
-    let mut size = lay(old, held.size, &mut line);
-    let mut lines = held.lines;
-    let mut at: usize = 0;
-    let mut told: usize = 0;
-    let mut i: usize = 0;
-    while i < n {
-        let x = part[i];
-        let now = hold(&mut line, size, x);
-        let ended = end_line(x, &line[..now], lines, out, at, err, told);
-        at = ended.at;
-        told = ended.told;
-        size = ended.size;
-        lines = ended.lines;
-        i += 1;
+    let size = lay(old, held.size, &mut line);
+    let mut ended = Ended {
+        at: 0,
+        told: 0,
+        size,
+        lines: held.lines,
+    };
+    for x in &part[..n] {
+        let now = hold(&mut line, ended.size, *x);
+        ended = end_line(*x, &line[..now], out, err, ended);
     }
-    let after = kept(&line[..size], lines);
+    let after = kept(&line[..ended.size], ended.lines);
     Packed {
         held: after,
-        at,
-        told,
+        at: ended.at,
+        told: ended.told,
     }
 }
 

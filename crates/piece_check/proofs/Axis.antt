@@ -1,5 +1,5 @@
 -- An axis by its squared length. Assumes nothing.
-use Prim.Native.Nat.{ℕ, ◌+◌, ◌≤◌}
+use Prim.Native.Nat.{◌+◌, ◌≤◌}
 use native.Mathlib.Omega.{arith}
 use Rattle.integers.specs.Signed.{of_nat, ◌⊠◌, ◌≼◌, ◌≃◌}
 use Rattle.plane.specs.Plane.{dot}

@@ -1,21 +1,20 @@
 -- From rounded axes to the forms themselves. Assumes nothing.
 use mathlib.Core.List.{List, [], ◌∷◌}
-use Prim.Native.Nat.{ℕ, ◌+◌, ◌*◌, ◌≤◌, ◌<◌}
+use Prim.Native.Nat.{ℕ, ◌+◌, ◌*◌, ◌≤◌}
 use native.Mathlib.Omega.{arith}
-use lib.ListN.{length}
-use Rattle.integers.specs.Signed.{Int, 0Int, of_nat, ◌⊞◌, ◌⊟◌, ◌⊠◌, ◌≼◌, ◌≺◌, ◌≃◌}
+use Rattle.integers.specs.Signed.{Int, 0Int, of_nat, ◌⊞◌, ◌⊟◌, ◌⊠◌, ◌≃◌}
 use Rattle.integers.specs.Whole.{Within}
 use Rattle.integers.specs.Polynomial.{var, lit, ◌:+◌, ◌:-◌, ◌:*◌}
 use Rattle.integers.proofs.Ring.{ring}
 use Rattle.integers.proofs.Sized.{within-product}
-use Rattle.plane.specs.Plane.{Point, sum, scaled, dot, turned_back}
+use Rattle.plane.specs.Plane.{Point, sum, scaled, dot}
 use Rattle.whole_move.specs.Blend.{twice}
 use Rattle.whole_move.specs.Piece.{turned_by}
 use Rattle.board.specs.declared.Pair.{Pair}
 use Rattle.board.specs.declared.Vector.{Vector}
 use Rattle.board.specs.Pairs.{int_of, point_of, Is, Sized}
-use Rattle.board.specs.Corners.{place, corner_of, Corners, Beyond}
-use Rattle.standing.specs.Form.{times30, Rounds, Leaned, seen, turn_form, FormApart, doubled, origin, AllAway, Turns, Bounds, ArcSmall, FourBounds}
+use Rattle.board.specs.Corners.{corner_of, Corners, Beyond}
+use Rattle.standing.specs.Form.{times30, Rounds, Leaned, seen, turn_form, FormApart, doubled, origin, AllAway, Bounds, FourBounds}
 use Rattle.board.specs.declared.Arc.{Arc}
 
 -- a corner sees the axis as the axis sees the turned corner

@@ -1,25 +1,13 @@
 -- From the five dot products of an arc to the length of the turn in 2^31-ths. Assumes nothing.
-use mathlib.Core.Bool.{Bool, true, false, ◌&&◌}
-use mathlib.Core.Path.{◌≡◌, refl}
-use Prim.Native.Nat.{ℕ, ◌+◌, ◌*◌, ◌≤◌, ◌<◌}
+use Prim.Native.Nat.{ℕ, ◌≤◌, ◌<◌}
 use native.Mathlib.Omega.{arith}
-use Rattle.integers.specs.Signed.{Int, of_nat, ◌⊞◌, ◌⊟◌, ◌⊠◌, ◌≼◌, ◌≃◌}
+use Rattle.integers.specs.Signed.{of_nat, ◌⊞◌, ◌⊠◌, ◌≃◌}
 use Rattle.plane.specs.Plane.{Point, dot}
 use Rattle.whole_move.specs.Blend.{twice}
-use Rattle.whole_move.specs.Piece.{LongAtLeast, LongAtMost}
 use Rattle.board.specs.Pairs.{point_of}
 use Rattle.board.specs.declared.Arc.{Arc}
 use Rattle.standing.specs.Form.{doubled}
-use Rattle.standing.specs.Window.{Off, turn_of, Steady}
-
-pub and_first : (s t : Bool) → (s && t) ≡ true → s ≡ true
-and_first true t h = refl
-and_first false t h = h
-
-pub and_second : (s t : Bool) → (s && t) ≡ true → t ≡ true
-and_second true t h = h
-and_second false true h = refl
-and_second false false h = h
+use Rattle.standing.specs.Window.{Off, Steady}
 
 square : of_nat 2147483648 ⊠ of_nat 2147483648 ≃ of_nat 4611686018427387904
 unfolding ◌⊠◌

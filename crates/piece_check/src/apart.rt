@@ -7,7 +7,7 @@ ghost use Rattle.standing.specs.Form.{seen, Leaned, Turns, Bounds, FormApart, Fo
 
 use crate::corners::beyond;
 use crate::pairs::{add, add_both, back, down30_both, inner};
-use board::{Arc, Pair, Vector};
+use board::{Arc, Outlines, Pair, Vector};
 
 // the axis that a body's corners are measured along, for one form
 pub fn lean(m: Vector, n: Vector, c0: Vector, c1: Vector) -> Vector
@@ -30,6 +30,7 @@ pub fn across(m: Vector, n: Vector, d0: Vector, d1: Vector) -> Pair
     )
 }
 
+// One form. Its vectors come one by one, as `Bounds` and `FormApart` name them: each form has all eight anew.
 pub fn form_apart(
     m: Vector,
     n: Vector,
@@ -40,21 +41,19 @@ pub fn form_apart(
     d0: Vector,
     d1: Vector,
     k: u64,
-    axs: &[u64],
-    ays: &[u64],
-    bxs: &[u64],
-    bys: &[u64],
+    on: Outlines<'_>,
 ) -> bool
-    requires { Bounds m n a0 a1 b0 b1 d0 d1 k axs.now ays.now bxs.now bys.now }
-    ensures { result ≡ true → FormApart (point_of m) (point_of n) (point_of a0) (point_of a1) (point_of b0) (point_of b1) (point_of d0) (point_of d1) k axs.now ays.now bxs.now bys.now }
+    requires { Bounds m n a0 a1 b0 b1 d0 d1 k on.a.xs.now on.a.ys.now on.b.xs.now on.b.ys.now }
+    ensures { result ≡ true → FormApart (point_of m) (point_of n) (point_of a0) (point_of a1) (point_of b0) (point_of b1) (point_of d0) (point_of d1) k on.entry.a.xs.now on.entry.a.ys.now on.entry.b.xs.now on.entry.b.ys.now }
 {
     let wa = lean(m, n, a0, a1);
     let wb = lean(m, n, b0, b1);
     let c = across(m, n, d0, d1);
-    beyond(wa, wb, c, k, axs, ays, bxs, bys)
+    beyond(wa, wb, c, k, on)
 }
 
 // every corner of b beyond every corner of a, at every moment of the piece
+#[inline(always)]
 pub fn four_apart(
     n0: Vector,
     n1: Vector,
@@ -63,13 +62,10 @@ pub fn four_apart(
     d0: Vector,
     d2: Vector,
     k: u64,
-    axs: &[u64],
-    ays: &[u64],
-    bxs: &[u64],
-    bys: &[u64],
+    on: Outlines<'_>,
 ) -> bool
-    requires { FourBounds n0 n1 a b d0 d2 k axs.now ays.now bxs.now bys.now }
-    ensures { result ≡ true → AllAway n0 n1 a b d0 d2 k axs.now ays.now bxs.now bys.now }
+    requires { FourBounds n0 n1 a b d0 d2 k on.a.xs.now on.a.ys.now on.b.xs.now on.b.ys.now }
+    ensures { result ≡ true → AllAway n0 n1 a b d0 d2 k on.entry.a.xs.now on.entry.a.ys.now on.entry.b.xs.now on.entry.b.ys.now }
 {
     let none = Vector {
         x: Pair { p: 0, m: 0 },
@@ -89,26 +85,9 @@ pub fn four_apart(
             m: y0.m + y2.m,
         },
     };
-    let f0 = form_apart(
-        n0, none, a.p0, none, b.p0, none, d0, none, k, axs, ays, bxs, bys,
-    );
-    if !f0 {
-        return false;
-    }
     let triple = 3 * k;
-    let f1 = form_apart(
-        n1, n0, a.p0, a.t, b.p0, b.t, d0, d1, triple, axs, ays, bxs, bys,
-    );
-    if !f1 {
-        return false;
-    }
-    let f2 = form_apart(
-        n0, n1, a.p2, a.t, b.p2, b.t, d2, d1, triple, axs, ays, bxs, bys,
-    );
-    if !f2 {
-        return false;
-    }
-    form_apart(
-        n1, none, a.p2, none, b.p2, none, d2, none, k, axs, ays, bxs, bys,
-    )
+    form_apart(n0, none, a.p0, none, b.p0, none, d0, none, k, on)
+        && form_apart(n1, n0, a.p0, a.t, b.p0, b.t, d0, d1, triple, on)
+        && form_apart(n0, n1, a.p2, a.t, b.p2, b.t, d2, d1, triple, on)
+        && form_apart(n1, none, a.p2, none, b.p2, none, d2, none, k, on)
 }

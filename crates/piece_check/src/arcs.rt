@@ -37,6 +37,7 @@ fn mid(a: Pair, b: Pair, k: u64) -> Pair
     ))
 }
 
+#[inline(always)]
 pub fn heading(a: Vector, b: Vector, k: u64) -> Vector
     requires { Sized 1073741824 a × Sized 1073741824 b × (k ≤ 16777216) }
     ensures { MidVector k a b result }

@@ -1,27 +1,23 @@
-// The least and the largest of a body's corners along an axis. Two lists of u64 hold a body's corners, each part 2^29 above what it stands for.
+// The least and the largest of a body's corners along an axis.
 ghost use Rattle.std.specs.Prelude.{true, ◌≡◌, ◌+◌, ◌*◌, ◌≤◌, ◌<◌, length};
 ghost use Rattle.board.specs.Pairs.{Sized};
 ghost use Rattle.board.specs.Corners.{axis_size, Corners, Along, Most, Least, Bounded, Beyond};
 
 use crate::pairs::inner;
-use board::{Pair, Vector};
+use board::{Outline, Outlines, Pair, Vector};
 
 // whether the lists hold corners at all
-pub fn are_corners(xs: &[u64], ys: &[u64]) -> bool
-    ensures { result ≡ true → Corners xs.now ys.now }
+#[inline(always)]
+pub fn are_corners(outline: Outline<'_>) -> bool
+    ensures { result ≡ true → Corners outline.entry.xs.now outline.entry.ys.now }
 {
-    if xs.len() != ys.len() {
+    if outline.xs.len() != outline.ys.len() {
         return false;
     }
-    let mut i = 0;
-    while i < xs.len() {
-        if xs[i] > 1073741824 {
+    for (i, x) in outline.xs.iter().enumerate() {
+        if *x > 1073741824 || outline.ys[i] > 1073741824 {
             return false;
         }
-        if ys[i] > 1073741824 {
-            return false;
-        }
-        i += 1;
     }
     true
 }
@@ -38,26 +34,21 @@ pub fn along(w: Vector, x: u64, y: u64) -> u64
     6917529027641081856 + d.p - d.m
 }
 
-pub fn most_along(w: Vector, xs: &[u64], ys: &[u64]) -> u64
-    requires { Sized axis_size w × Corners xs.now ys.now }
-    ensures { Most w xs.now ys.now (length xs.now) result }
+pub fn most_along(w: Vector, outline: Outline<'_>) -> u64
+    requires { Sized axis_size w × Corners outline.xs.now outline.ys.now }
+    ensures { Most w outline.entry.xs.now outline.entry.ys.now (length outline.entry.xs.now) result }
 {
     let mut best: u64 = 0;
-    let mut i = 0;
-    while i < xs.len() {
-        let d = along(w, xs[i], ys[i]);
-        if best < d {
-            best = d;
-        }
-        i += 1;
+    for (i, x) in outline.xs.iter().enumerate() {
+        best = best.max(along(w, *x, outline.ys[i]));
     }
     best
 }
 
 // the largest the other way
-pub fn least_along(w: Vector, xs: &[u64], ys: &[u64]) -> u64
-    requires { Sized axis_size w × Corners xs.now ys.now }
-    ensures { Least w xs.now ys.now result }
+pub fn least_along(w: Vector, outline: Outline<'_>) -> u64
+    requires { Sized axis_size w × Corners outline.xs.now outline.ys.now }
+    ensures { Least w outline.entry.xs.now outline.entry.ys.now result }
 {
     let wx = w.x;
     let wy = w.y;
@@ -65,24 +56,15 @@ pub fn least_along(w: Vector, xs: &[u64], ys: &[u64]) -> u64
         x: Pair { p: wx.m, m: wx.p },
         y: Pair { p: wy.m, m: wy.p },
     };
-    let most = most_along(against, xs, ys);
+    let most = most_along(against, outline);
     13835058055282163712 - most
 }
 
-pub fn beyond(
-    wa: Vector,
-    wb: Vector,
-    c: Pair,
-    k: u64,
-    axs: &[u64],
-    ays: &[u64],
-    bxs: &[u64],
-    bys: &[u64],
-) -> bool
-    requires { Bounded wa wb c k axs.now ays.now bxs.now bys.now }
-    ensures { result ≡ true → Beyond wa wb c k axs.now ays.now bxs.now bys.now }
+pub fn beyond(wa: Vector, wb: Vector, c: Pair, k: u64, on: Outlines<'_>) -> bool
+    requires { Bounded wa wb c k on.a.xs.now on.a.ys.now on.b.xs.now on.b.ys.now }
+    ensures { result ≡ true → Beyond wa wb c k on.entry.a.xs.now on.entry.a.ys.now on.entry.b.xs.now on.entry.b.ys.now }
 {
-    let most = most_along(wa, axs, ays);
-    let least = least_along(wb, bxs, bys);
+    let most = most_along(wa, on.a);
+    let least = least_along(wb, on.b);
     most + k + c.m < least + c.p
 }

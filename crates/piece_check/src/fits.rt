@@ -7,8 +7,7 @@ ghost use Rattle.board.specs.Board.{Inside, BodyFits, Fits};
 
 use crate::corners::are_corners;
 use crate::pairs::{inner, mul};
-use crate::turns::both_within;
-use board::{GridBody, GridJob, Pair, Vector};
+use board::{GridBody, GridJob, Outline, Outlines, Pair, Vector, both_within};
 
 fn corner_inside(x: u64, y: u64, reach: u64) -> bool
     requires { (x ≤ 1073741824) × (y ≤ 1073741824) × (reach ≤ 805306368) }
@@ -29,51 +28,34 @@ fn corner_inside(x: u64, y: u64, reach: u64) -> bool
 }
 
 // The corners lie within `reach` of the centre.
-fn all_inside(reach: u64, xs: &[u64], ys: &[u64]) -> bool
-    requires { (reach ≤ 805306368) × Corners xs.now ys.now }
-    ensures { result ≡ true → Inside reach xs.now ys.now (length xs.now) }
+fn all_inside(reach: u64, outline: Outline<'_>) -> bool
+    requires { (reach ≤ 805306368) × Corners outline.xs.now outline.ys.now }
+    ensures { result ≡ true → Inside reach outline.entry.xs.now outline.entry.ys.now (length outline.entry.xs.now) }
 {
-    let mut i = 0;
-    while i < xs.len() {
-        let t = corner_inside(xs[i], ys[i], reach);
-        if !t {
+    for (i, x) in outline.xs.iter().enumerate() {
+        if !corner_inside(*x, outline.ys[i], reach) {
             return false;
         }
-        i += 1;
     }
     true
 }
 
-fn body_fits(o: GridBody, xs: &[u64], ys: &[u64]) -> bool
-    ensures { result ≡ true → BodyFits o xs.now ys.now }
+fn body_fits(o: GridBody, outline: Outline<'_>) -> bool
+    ensures { result ≡ true → BodyFits o outline.entry.xs.now outline.entry.ys.now }
 {
-    let headings = both_within(o.q1, 1073741824) & both_within(o.q2, 1073741824);
-    if !headings {
-        return false;
-    }
-    if o.reach > 805306368 {
-        return false;
-    }
-    let corners = are_corners(xs, ys);
-    if !corners {
-        return false;
-    }
-    all_inside(o.reach, xs, ys)
+    both_within(o.q1, 1073741824)
+        && both_within(o.q2, 1073741824)
+        && o.reach <= 805306368
+        && are_corners(outline)
+        && all_inside(o.reach, outline)
 }
 
-pub fn job_fits(job: GridJob, axs: &[u64], ays: &[u64], bxs: &[u64], bys: &[u64]) -> bool
-    ensures { result ≡ true → Fits job axs.now ays.now bxs.now bys.now }
+pub fn job_fits(job: GridJob, on: Outlines<'_>) -> bool
+    ensures { result ≡ true → Fits job on.entry.a.xs.now on.entry.a.ys.now on.entry.b.xs.now on.entry.b.ys.now }
 {
-    let centres = both_within(job.d1, 536870912) & both_within(job.d2, 536870912);
-    if !centres {
-        return false;
-    }
-    if job.up > 1073741824 {
-        return false;
-    }
-    let a = body_fits(job.a, axs, ays);
-    if !a {
-        return false;
-    }
-    body_fits(job.b, bxs, bys)
+    both_within(job.d1, 536870912)
+        && both_within(job.d2, 536870912)
+        && job.up <= 1073741824
+        && body_fits(job.a, on.a)
+        && body_fits(job.b, on.b)
 }

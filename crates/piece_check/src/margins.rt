@@ -1,33 +1,23 @@
 // What the check of a piece looks at before it compares corners: the proposal's axes, each body's turn over the piece, and how far that turn may be off.
-ghost use Rattle.std.specs.Prelude.{true, ◌≡◌, ◌+◌, ◌*◌, ◌≤◌, ◌<◌};
+ghost use Rattle.std.specs.Prelude.{true, ◌≡◌, ◌+◌, ◌*◌, ◌≤◌, ◌<◌, IfSome};
 ghost use Rattle.standing.specs.Form.{ArcSmall};
 ghost use Rattle.standing.specs.Seen.{LengthsFit, AxisFits, BodyReady, ArcAt, Blurred, Reach, Turning, Seen};
 
 use crate::arcs::{arc_of, heading};
 use crate::pairs::{inner, mul};
-use crate::turns::{arc_within, both_within, turn_gap};
-use board::{Arc, GridBody, Pair, Proposal, Vector};
+use crate::turns::{arc_within, turn_gap};
+use board::{Arc, GridBody, Pair, Proposal, Vector, both_within};
 
 pub fn lengths_fit(p: Proposal) -> bool
     ensures { result ≡ true → LengthsFit p }
 {
-    if p.a0 > 4294967296 {
-        return false;
-    }
-    if p.a1 > 4294967296 {
-        return false;
-    }
-    if p.b0 > 4294967296 {
-        return false;
-    }
-    p.b1 <= 4294967296
+    p.a0 <= 4294967296 && p.a1 <= 4294967296 && p.b0 <= 4294967296 && p.b1 <= 4294967296
 }
 
 pub fn axis_fits(n: Vector) -> bool
     ensures { result ≡ true → AxisFits n }
 {
-    let t = both_within(n, 268435456);
-    if !t {
+    if !both_within(n, 268435456) {
         return false;
     }
     let d = inner(n, n, 268435456, 268435456);
@@ -47,11 +37,7 @@ fn blur(l0: u64, l1: u64) -> u64
     requires { (l0 ≤ 4294967296) × (l1 ≤ 4294967296) }
     ensures { Blurred l0 l1 result }
 {
-    if l0 < l1 {
-        l1 / 33554432 + 2
-    } else {
-        l0 / 33554432 + 2
-    }
+    l0.max(l1) / 33554432 + 2
 }
 
 fn reach(big: u64, y: u64) -> u64
@@ -67,36 +53,33 @@ fn reach(big: u64, y: u64) -> u64
     5 * t.p / 8589934592 + 1
 }
 
-// how far a turn that is not 0 anywhere may carry corners astray; 2^32 where it is refused
-fn turning(a: Arc, l0: u64, l1: u64, big: u64) -> u64
+// how far a turn that is not 0 anywhere may carry corners astray
+#[inline(always)]
+fn turning(a: Arc, l0: u64, l1: u64, big: u64) -> Option<u64>
     requires { ArcSmall a × (l0 ≤ 4294967296) × (l1 ≤ 4294967296) × (big ≤ 805306368) }
-    ensures { result < 4294967296 → Turning a l0 l1 big result }
+    ensures { IfSome result (λ e. Turning a l0 l1 big e) }
 {
-    if l0 == 0 {
-        return 4294967296;
+    if l0 == 0 || l1 == 0 {
+        return None;
     }
-    if l1 == 0 {
-        return 4294967296;
-    }
-    let y = turn_gap(a);
+    let y = turn_gap(a)?;
     if y >= 134216000 {
-        return 4294967296;
+        return None;
     }
     let r = blur(l0, l1);
-    reach(big + 3, y + 10 * r)
+    Some(reach(big + 3, y + 10 * r))
 }
 
 // the same of every body: one that is not lengthened at all counts as a disc
-pub fn margin_of(a: Arc, l0: u64, l1: u64, big: u64) -> u64
+pub fn margin_of(a: Arc, l0: u64, l1: u64, big: u64) -> Option<u64>
     requires { (l0 ≤ 4294967296) × (l1 ≤ 4294967296) × (big ≤ 805306368) }
-    ensures { result < 4294967296 → Seen a l0 l1 big result }
+    ensures { IfSome result (λ e. Seen a l0 l1 big e) }
 {
-    let t = arc_within(a);
-    if !t {
-        return 4294967296;
+    if !arc_within(a) {
+        return None;
     }
-    if l0 + l1 == 0 {
-        return big + 4;
+    if l0 == 0 && l1 == 0 {
+        return Some(big + 4);
     }
     turning(a, l0, l1, big)
 }

@@ -1,6 +1,6 @@
 // The check of a touch: weights on three corners of each outline, and what lengthens the headings, are proposed; yes means that the two points come within
 // the distance to keep, for every turn in the window. It asks nothing of what is proposed.
-ghost use Rattle.std.specs.Prelude.{true, ◌≡◌, ◌+◌, ◌*◌, ◌≤◌, ◌<◌, length};
+ghost use Rattle.std.specs.Prelude.{true, ◌≡◌, ◌+◌, ◌*◌, ◌≤◌, ◌<◌, length, IfSome};
 ghost use Rattle.board.specs.Pairs.{size_of, point_of, int_of, Sized};
 ghost use Rattle.integers.specs.Signed.{of_nat, ◌⊞◌, ◌⊠◌};
 ghost use Rattle.plane.specs.Plane.{dot};
@@ -12,44 +12,33 @@ use crate::arcs::heading;
 use crate::fits::job_fits;
 use crate::margins::{arc_at, margin_of};
 use crate::pairs::{add, down30, inner, minus, mul};
-use board::{GridBody, GridJob, Grip, Hold, Pair, Vector, norm};
+use board::{GridBody, GridJob, Grip, Hold, Outline, Outlines, Pair, Vector, norm};
+
+// A grip's part on one body: three corners, their weights, and what lengthens the heading.
+#[derive(Clone, Copy)]
+struct Side {
+    i0: usize,
+    i1: usize,
+    i2: usize,
+    w0: u64,
+    w1: u64,
+    w2: u64,
+    l: u64,
+}
 
 // Whether the grip names corners, and its weights come to 2^28.
 fn names(g: Grip, na: usize, nb: usize) -> bool
     ensures { result ≡ true → Names g na nb }
 {
-    if g.w0 > 268435456 {
-        return false;
-    }
-    if g.w1 > 268435456 - g.w0 {
-        return false;
-    }
-    let rest = 268435456 - g.w0 - g.w1;
-    if g.w2 > rest {
-        return false;
-    }
-    if g.w2 < rest {
-        return false;
-    }
-    if g.i0 >= na {
-        return false;
-    }
-    if g.i1 >= na {
-        return false;
-    }
-    if g.i2 >= na {
-        return false;
-    }
-    if g.j0 >= nb {
-        return false;
-    }
-    if g.j1 >= nb {
-        return false;
-    }
-    if g.j2 >= nb {
-        return false;
-    }
-    true
+    g.w0 <= 268435456
+        && g.w1 <= 268435456 - g.w0
+        && g.w2 == 268435456 - g.w0 - g.w1
+        && g.i0 < na
+        && g.i1 < na
+        && g.i2 < na
+        && g.j0 < nb
+        && g.j1 < nb
+        && g.j2 < nb
 }
 
 fn share(w: u64, x: u64) -> u64
@@ -79,22 +68,15 @@ fn weighted_part(x0: u64, x1: u64, x2: u64, w0: u64, w1: u64, w2: u64) -> Pair
     }
 }
 
-fn weighted(
-    xs: &[u64],
-    ys: &[u64],
-    i0: usize,
-    i1: usize,
-    i2: usize,
-    w0: u64,
-    w1: u64,
-    w2: u64,
-) -> Vector
-    requires { Corners xs.now ys.now × (i0 < length xs.now) × (i1 < length xs.now) × (i2 < length xs.now) × (w0 + w1 + w2 ≡ 268435456) }
-    ensures { Weighted xs.now ys.now i0 i1 i2 w0 w1 w2 result }
+fn weighted(outline: Outline<'_>, s: Side) -> Vector
+    requires { Corners outline.xs.now outline.ys.now × (s.i0 < length outline.xs.now) × (s.i1 < length outline.xs.now) × (s.i2 < length outline.xs.now) × (s.w0 + s.w1 + s.w2 ≡ 268435456) }
+    ensures { Weighted outline.entry.xs.now outline.entry.ys.now s.i0 s.i1 s.i2 s.w0 s.w1 s.w2 result }
 {
+    let xs = outline.xs;
+    let ys = outline.ys;
     Vector {
-        x: weighted_part(xs[i0], xs[i1], xs[i2], w0, w1, w2),
-        y: weighted_part(ys[i0], ys[i1], ys[i2], w0, w1, w2),
+        x: weighted_part(xs[s.i0], xs[s.i1], xs[s.i2], s.w0, s.w1, s.w2),
+        y: weighted_part(ys[s.i0], ys[s.i1], ys[s.i2], s.w0, s.w1, s.w2),
     }
 }
 
@@ -144,74 +126,31 @@ fn reached(x: Vector, room: u64) -> bool
     requires { Sized 4294967296 x × (room ≤ 1073741824) }
     ensures { result ≡ true → Reached x room }
 {
-    if x.x.p + x.x.m > 1073741824 {
-        return false;
-    }
-    if x.y.p + x.y.m > 1073741824 {
+    if x.x.p + x.x.m > 1073741824 || x.y.p + x.y.m > 1073741824 {
         return false;
     }
     let d = inner(x, x, 1073741824, 1073741824);
-    let s = mul(
-        Pair { p: room, m: 0 },
-        Pair { p: room, m: 0 },
-        1073741824,
-        1073741824,
-    );
-    if d.p + s.m > s.p + d.m {
-        return false;
-    }
-    true
+    let side = Pair { p: room, m: 0 };
+    let s = mul(side, side, 1073741824, 1073741824);
+    d.p + s.m <= s.p + d.m
 }
 
-fn refused() -> Hold
-    ensures { Loose result × (result.margin ≡ 4294967296) }
+fn held_at(o: GridBody, k: u64, s: Side, outline: Outline<'_>) -> Option<Hold>
+    requires { Ready o k outline.xs.now outline.ys.now s.i0 s.i1 s.i2 s.w0 s.w1 s.w2 }
+    ensures { IfSome result (λ h. Loose h × (h.margin < 4294967296) × HeldAt o outline.entry.xs.now outline.entry.ys.now k s.l s.i0 s.i1 s.i2 s.w0 s.w1 s.w2 h) }
 {
-    Hold {
-        place: Vector {
-            x: Pair { p: 0, m: 0 },
-            y: Pair { p: 0, m: 0 },
-        },
-        margin: 4294967296,
-        blur: 0,
-    }
-}
-
-fn held_at(
-    o: GridBody,
-    k: u64,
-    l: u64,
-    xs: &[u64],
-    ys: &[u64],
-    i0: usize,
-    i1: usize,
-    i2: usize,
-    w0: u64,
-    w1: u64,
-    w2: u64,
-) -> Hold
-    requires { Ready o k xs.now ys.now i0 i1 i2 w0 w1 w2 }
-    ensures { Loose result × (result.margin < 4294967296 → HeldAt o xs.now ys.now k l i0 i1 i2 w0 w1 w2 result) }
-{
-    if l < 1 {
-        return refused();
-    }
-    if l > 4294967296 {
-        return refused();
+    let l = s.l;
+    if l < 1 || l > 4294967296 {
+        return None;
     }
     let arc = arc_at(o, l, l, k, k);
-    let margin = margin_of(arc, l, l, o.reach);
-    if margin >= 4294967296 {
-        return refused();
-    }
-    let turn = arc.p0;
-    let point = weighted(xs, ys, i0, i1, i2, w0, w1, w2);
-    let place = turned_down(turn, point);
-    let blurred = blur(l);
-    Hold {
-        place,
+    let margin = margin_of(arc, l, l, o.reach)?;
+    let point = weighted(outline, s);
+    Some(Hold {
+        place: turned_down(arc.p0, point),
         margin,
-        blur: blurred,
-    }
+        blur: blur(l),
+    })
 }
 
 // Whether the two points are near enough for the distance to keep.
@@ -232,51 +171,53 @@ fn decided(job: GridJob, k: u64, a: Hold, b: Hold) -> bool
     reached(way, room)
 }
 
-fn near_enough(
-    job: GridJob,
-    k: u64,
-    g: Grip,
-    axs: &[u64],
-    ays: &[u64],
-    bxs: &[u64],
-    bys: &[u64],
-) -> bool
-    requires { Fits job axs.now ays.now bxs.now bys.now }
-    ensures { result ≡ true → TouchesAt job k axs.now ays.now bxs.now bys.now }
+fn side_a(g: Grip) -> Side
+    ensures { result ≡ record { i0 = g.i0; i1 = g.i1; i2 = g.i2; w0 = g.w0; w1 = g.w1; w2 = g.w2; l = g.la } }
 {
-    if k > 16777216 {
+    Side {
+        i0: g.i0,
+        i1: g.i1,
+        i2: g.i2,
+        w0: g.w0,
+        w1: g.w1,
+        w2: g.w2,
+        l: g.la,
+    }
+}
+
+fn side_b(g: Grip) -> Side
+    ensures { result ≡ record { i0 = g.j0; i1 = g.j1; i2 = g.j2; w0 = g.w0; w1 = g.w1; w2 = g.w2; l = g.lb } }
+{
+    Side {
+        i0: g.j0,
+        i1: g.j1,
+        i2: g.j2,
+        w0: g.w0,
+        w1: g.w1,
+        w2: g.w2,
+        l: g.lb,
+    }
+}
+
+fn near_enough(job: GridJob, k: u64, g: Grip, on: Outlines<'_>) -> bool
+    requires { Fits job on.a.xs.now on.a.ys.now on.b.xs.now on.b.ys.now }
+    ensures { result ≡ true → TouchesAt job k on.entry.a.xs.now on.entry.a.ys.now on.entry.b.xs.now on.entry.b.ys.now }
+{
+    if k > 16777216 || !names(g, on.a.xs.len(), on.b.xs.len()) {
         return false;
     }
-    let named = names(g, axs.len(), bxs.len());
-    if !named {
+    let Some(a) = held_at(job.a, k, side_a(g), on.a) else {
         return false;
-    }
-    let a = held_at(job.a, k, g.la, axs, ays, g.i0, g.i1, g.i2, g.w0, g.w1, g.w2);
-    if a.margin >= 4294967296 {
+    };
+    let Some(b) = held_at(job.b, k, side_b(g), on.b) else {
         return false;
-    }
-    let b = held_at(job.b, k, g.lb, bxs, bys, g.j0, g.j1, g.j2, g.w0, g.w1, g.w2);
-    if b.margin >= 4294967296 {
-        return false;
-    }
+    };
     decided(job, k, a, b)
 }
 
 // The check, at k / 2^24 of the way.
-pub fn touches(
-    job: GridJob,
-    k: u64,
-    g: Grip,
-    axs: &[u64],
-    ays: &[u64],
-    bxs: &[u64],
-    bys: &[u64],
-) -> bool
-    ensures { result ≡ true → TouchesAt job k axs.now ays.now bxs.now bys.now }
+pub fn touches(job: GridJob, k: u64, g: Grip, on: Outlines<'_>) -> bool
+    ensures { result ≡ true → TouchesAt job k on.entry.a.xs.now on.entry.a.ys.now on.entry.b.xs.now on.entry.b.ys.now }
 {
-    let fits = job_fits(job, axs, ays, bxs, bys);
-    if !fits {
-        return false;
-    }
-    near_enough(job, k, g, axs, ays, bxs, bys)
+    job_fits(job, on) && near_enough(job, k, g, on)
 }

@@ -10,13 +10,12 @@ fn pattern(k: u32) -> u32
     ensures { result ≡ pattern_from 23 k }
 {
     let mut m = k;
-    let mut left: u32 = 23;
-    while left > 0 {
+    for doubled in 0..23 {
+        let left = 23 - doubled;
         if m >= 8388608 {
             return (102 + left) * 8388608 + m;
         }
         m = 2 * m;
-        left -= 1;
     }
     102 * 8388608 + m
 }

@@ -583,6 +583,41 @@ module _ {M : Type 1} {𝓤 : Ura M} (𝓛 : Logic 𝓤) (mem : Memory → SProp
   }
 
   -- ---- text
+  pub text-Draft-lacks : OneResult 𝓛 text.Draft.lacks.ended (text.Draft.lacks.spec 𝓛 mem run)
+  text-Draft-lacks = record {
+    clauses = text.Draft.lacks.clauses 𝓛 mem run;
+    of-contract = refl;
+    once = λ κs a g r r' v v'. told 𝓤 (λ p q. (search same-value, refl));
+  }
+
+  pub text-Draft-put : OneResult 𝓛 text.Draft.put.ended (text.Draft.put.spec 𝓛 mem run)
+  text-Draft-put = record {
+    clauses = text.Draft.put.clauses 𝓛 mem run;
+    of-contract = refl;
+    once = λ κs a g r r' v v'. told 𝓤 (λ p q. (search same-value, each-list text.Draft.put.ended κs a v v' (search same-value depth 12)));
+  }
+
+  pub text-Draft-put-hex : OneResult 𝓛 text.Draft.put_hex.ended (text.Draft.put_hex.spec 𝓛 mem run)
+  text-Draft-put-hex = record {
+    clauses = text.Draft.put_hex.clauses 𝓛 mem run;
+    of-contract = refl;
+    once = λ κs a g r r' v v'. told 𝓤 (λ p q. (search same-value, each-list text.Draft.put_hex.ended κs a v v' (search same-value depth 12)));
+  }
+
+  pub text-Draft-put-number : OneResult 𝓛 text.Draft.put_number.ended (text.Draft.put_number.spec 𝓛 mem run)
+  text-Draft-put-number = record {
+    clauses = text.Draft.put_number.clauses 𝓛 mem run;
+    of-contract = refl;
+    once = λ κs a g r r' v v'. told 𝓤 (λ p q. (search same-value, each-list text.Draft.put_number.ended κs a v v' (search same-value depth 12)));
+  }
+
+  pub text-Draft-put-wide-hex : OneResult 𝓛 text.Draft.put_wide_hex.ended (text.Draft.put_wide_hex.spec 𝓛 mem run)
+  text-Draft-put-wide-hex = record {
+    clauses = text.Draft.put_wide_hex.clauses 𝓛 mem run;
+    of-contract = refl;
+    once = λ κs a g r r' v v'. told 𝓤 (λ p q. (search same-value, each-list text.Draft.put_wide_hex.ended κs a v v' (search same-value depth 12)));
+  }
+
   pub text-hex-digit : OneResult 𝓛 text.hex_digit.ended (text.hex_digit.spec 𝓛 mem run)
   text-hex-digit = record {
     clauses = text.hex_digit.clauses 𝓛 mem run;
@@ -684,6 +719,13 @@ module _ {M : Type 1} {𝓤 : Ura M} (𝓛 : Logic 𝓤) (mem : Memory → SProp
   }
 
   -- ---- sweep_numbers
+  pub sweep-numbers-move-at : OneResult 𝓛 sweep_numbers.move_at.ended (sweep_numbers.move_at.spec 𝓛 mem run)
+  sweep-numbers-move-at = record {
+    clauses = sweep_numbers.move_at.clauses 𝓛 mem run;
+    of-contract = refl;
+    once = λ κs a g r r' v v'. told 𝓤 (λ p q. (search same-value, refl));
+  }
+
   pub sweep-numbers-move-of : OneResult 𝓛 sweep_numbers.move_of.ended (sweep_numbers.move_of.spec 𝓛 mem run)
   sweep-numbers-move-of = record {
     clauses = sweep_numbers.move_of.clauses 𝓛 mem run;
@@ -735,11 +777,11 @@ module _ {M : Type 1} {𝓤 : Ura M} (𝓛 : Logic 𝓤) (mem : Memory → SProp
     once = λ κs a g r r' v v'. told 𝓤 (λ p q. (search same-value, refl));
   }
 
-  pub fields-write-contact : OneResult 𝓛 fields.write_contact.ended (fields.write_contact.spec 𝓛 mem run)
-  fields-write-contact = record {
-    clauses = fields.write_contact.clauses 𝓛 mem run;
+  pub fields-put-contact : OneResult 𝓛 fields.put_contact.ended (fields.put_contact.spec 𝓛 mem run)
+  fields-put-contact = record {
+    clauses = fields.put_contact.clauses 𝓛 mem run;
     of-contract = refl;
-    once = λ κs a g r r' v v'. told 𝓤 (λ p q. (search same-value, each-list fields.write_contact.ended κs a v v' (search same-value depth 12)));
+    once = λ κs a g r r' v v'. told 𝓤 (λ p q. (search same-value, each-list fields.put_contact.ended κs a v v' (search same-value depth 12)));
   }
 
   -- ---- sheet_lines
@@ -823,13 +865,6 @@ module _ {M : Type 1} {𝓤 : Ura M} (𝓛 : Logic 𝓤) (mem : Memory → SProp
     clauses = job_text.job_block.clauses 𝓛 mem run;
     of-contract = refl;
     once = λ κs a g r r' v v'. told 𝓤 (λ p q. (search (same-value, built-by-parts), refl));
-  }
-
-  pub job-text-least : OneResult 𝓛 job_text.least.ended (job_text.least.spec 𝓛 mem run)
-  job-text-least = record {
-    clauses = job_text.least.clauses 𝓛 mem run;
-    of-contract = refl;
-    once = λ κs a g r r' v v'. told 𝓤 (λ p q. (search same-value, refl));
   }
 
   pub job-text-put-job : OneResult 𝓛 job_text.put_job.ended (job_text.put_job.spec 𝓛 mem run)
@@ -995,6 +1030,13 @@ module _ {M : Type 1} {𝓤 : Ura M} (𝓛 : Logic 𝓤) (mem : Memory → SProp
   }
 
   -- ---- route_text
+  pub route-text-cuts-of : OneResult 𝓛 route_text.cuts_of.ended (route_text.cuts_of.spec 𝓛 mem run)
+  route-text-cuts-of = record {
+    clauses = route_text.cuts_of.clauses 𝓛 mem run;
+    of-contract = refl;
+    once = λ κs a g r r' v v'. told 𝓤 (λ p q. (search same-value, refl));
+  }
+
   pub route-text-write-answer : OneResult 𝓛 route_text.write_answer.ended (route_text.write_answer.spec 𝓛 mem run)
   route-text-write-answer = record {
     clauses = route_text.write_answer.clauses 𝓛 mem run;
@@ -1564,6 +1606,13 @@ module _ {M : Type 1} {𝓤 : Ura M} (𝓛 : Logic 𝓤) (mem : Memory → SProp
   }
 
   -- ---- sweep_numbers64
+  pub sweep-numbers64-move-at : OneResult 𝓛 sweep_numbers64.move_at.ended (sweep_numbers64.move_at.spec 𝓛 mem run)
+  sweep-numbers64-move-at = record {
+    clauses = sweep_numbers64.move_at.clauses 𝓛 mem run;
+    of-contract = refl;
+    once = λ κs a g r r' v v'. told 𝓤 (λ p q. (search same-value, refl));
+  }
+
   pub sweep-numbers64-move-of : OneResult 𝓛 sweep_numbers64.move_of.ended (sweep_numbers64.move_of.spec 𝓛 mem run)
   sweep-numbers64-move-of = record {
     clauses = sweep_numbers64.move_of.clauses 𝓛 mem run;
@@ -1615,11 +1664,11 @@ module _ {M : Type 1} {𝓤 : Ura M} (𝓛 : Logic 𝓤) (mem : Memory → SProp
     once = λ κs a g r r' v v'. told 𝓤 (λ p q. (search same-value, refl));
   }
 
-  pub fields64-write-contact : OneResult 𝓛 fields64.write_contact.ended (fields64.write_contact.spec 𝓛 mem run)
-  fields64-write-contact = record {
-    clauses = fields64.write_contact.clauses 𝓛 mem run;
+  pub fields64-put-contact : OneResult 𝓛 fields64.put_contact.ended (fields64.put_contact.spec 𝓛 mem run)
+  fields64-put-contact = record {
+    clauses = fields64.put_contact.clauses 𝓛 mem run;
     of-contract = refl;
-    once = λ κs a g r r' v v'. told 𝓤 (λ p q. (search same-value, each-list fields64.write_contact.ended κs a v v' (search same-value depth 12)));
+    once = λ κs a g r r' v v'. told 𝓤 (λ p q. (search same-value, each-list fields64.put_contact.ended κs a v v' (search same-value depth 12)));
   }
 
   -- ---- sheet_lines64

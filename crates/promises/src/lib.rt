@@ -1,1 +1,2 @@
 // What is promised of the public functions all together; no code.
+#![tactic(auto)]

@@ -16,26 +16,14 @@ const FRACTIONS: usize = 2368;
 
 const SLOPS: usize = 2384;
 
-// All words as floats.
-pub type Numbers = [f32; 16380];
+// The numbers of all words.
+const NUMBERS: usize = 16380;
 
-// Word i.
-fn word(pool: &[u8], i: usize) -> u32
-    requires { i < 4294967296 }
-{
-    wire::word(pool, 16 + 4 * i)
-}
-
-pub fn numbers(pool: &[u8]) -> Numbers {
-    let mut numbers = [0.0f32; 16380];
-    for i in 0usize..16380usize {
-        numbers[i] = ground::from_bits(word(pool, i));
-    }
-    numbers
-}
-
-fn number(numbers: &[f32], i: usize) -> f32 {
-    if i < numbers.len() { numbers[i] } else { 0.0 }
+// What rows refer to: the bytes of the pool, and all its words as floats.
+#[derive(Drop)]
+pub struct Pool {
+    bytes: [u8; 65536],
+    numbers: [f32; NUMBERS],
 }
 
 // Byte i of a row, by which it refers to a part of the pool.
@@ -51,79 +39,106 @@ fn wide(x: u32) -> usize
     x as usize
 }
 
-pub fn outline<'a>(numbers: &'a [f32], pool: &[u8], i: usize) -> &'a [f32]
-    requires { i < 256 }
-{
-    let start = wide(word(pool, 2 * i));
-    let end = start + wide(word(pool, 2 * i + 1));
-    if end <= numbers.len() {
-        &numbers[start..end]
-    } else {
-        &numbers[0..0]
+impl Pool {
+    pub fn empty() -> Pool {
+        Pool {
+            bytes: io::large_buffer(),
+            numbers: [0.0f32; NUMBERS],
+        }
     }
-}
 
-pub fn pose(numbers: &[f32], i: usize) -> Pose
-    requires { i < 256 }
-{
-    let at = POSES + 4 * i;
-    let rotation = Rotation {
-        c: number(numbers, at),
-        s: number(numbers, at + 1),
-    };
-    let translation = Vector {
-        x: number(numbers, at + 2),
-        y: number(numbers, at + 3),
-    };
-    Pose {
-        rotation,
-        translation,
+    // Takes over a part, and zeros behind its end.
+    pub fn fill(&mut self, part: &[u8]) {
+        let n = part.len().min(65536);
+        self.bytes = io::large_buffer();
+        self.bytes[..n].copy_from_slice(&part[..n]);
+        for i in 0..NUMBERS {
+            self.numbers[i] = ground::from_bits(self.word(i));
+        }
     }
-}
 
-pub fn cache(pool: &[u8], i: usize) -> SimplexCache
-    requires { i < 256 }
-{
-    let at = CACHES + 8 * i;
-    let index_a = [word(pool, at + 2), word(pool, at + 3), word(pool, at + 4)];
-    let index_b = [word(pool, at + 5), word(pool, at + 6), word(pool, at + 7)];
-    SimplexCache {
-        pair: word(pool, at),
-        count: (word(pool, at + 1) % 256) as u8,
-        index_a,
-        index_b,
+    // Word i.
+    fn word(&self, i: usize) -> u32
+        requires { i < 4294967296 }
+    {
+        wire::word(&self.bytes, 16 + 4 * i)
     }
-}
 
-// Both radii, A's as x.
-pub fn radii(numbers: &[f32], i: usize) -> Vector
-    requires { i < 256 }
-{
-    let at = RADII + 2 * i;
-    Vector {
-        x: number(numbers, at),
-        y: number(numbers, at + 1),
+    fn number(&self, i: usize) -> f32 {
+        if i < NUMBERS { self.numbers[i] } else { 0.0 }
     }
-}
 
-// Puts n numbers of the pool into a list.
-fn copy(numbers: &[f32], from: usize, n: usize, list: &mut [f32; 24], to: usize)
-    requires { (from < 65536) × (to + n ≤ 24) }
-{
-    let mut i: usize = 0;
-    while i < n {
-        list[to + i] = number(numbers, from + i);
-        i += 1;
+    pub fn outline(&self, i: usize) -> &[f32]
+        requires { i < 256 }
+    {
+        let start = wide(self.word(2 * i));
+        let end = start + wide(self.word(2 * i + 1));
+        match self.numbers.get(start..end) {
+            Some(outline) => outline,
+            None => &[],
+        }
     }
-}
 
-// The 24 numbers that ask for the sweep of a row, whose bytes 2 to 6 are move A, move B, radii, max fraction and slop.
-pub fn request(row: &[u8], numbers: &[f32]) -> [f32; 24] {
-    let mut list = [0.0f32; 24];
-    copy(numbers, RADII + 2 * index(row, 4), 2, &mut list, 0);
-    copy(numbers, FRACTIONS + index(row, 5), 1, &mut list, 2);
-    copy(numbers, SLOPS + index(row, 6), 1, &mut list, 3);
-    copy(numbers, MOVES + 10 * index(row, 2), 10, &mut list, 4);
-    copy(numbers, MOVES + 10 * index(row, 3), 10, &mut list, 14);
-    list
+    pub fn pose(&self, i: usize) -> Pose
+        requires { i < 256 }
+    {
+        let at = POSES + 4 * i;
+        let rotation = Rotation {
+            c: self.number(at),
+            s: self.number(at + 1),
+        };
+        let translation = Vector {
+            x: self.number(at + 2),
+            y: self.number(at + 3),
+        };
+        Pose {
+            rotation,
+            translation,
+        }
+    }
+
+    pub fn cache(&self, i: usize) -> SimplexCache
+        requires { i < 256 }
+    {
+        let at = CACHES + 8 * i;
+        let index_a = [self.word(at + 2), self.word(at + 3), self.word(at + 4)];
+        let index_b = [self.word(at + 5), self.word(at + 6), self.word(at + 7)];
+        SimplexCache {
+            pair: self.word(at),
+            count: (self.word(at + 1) % 256) as u8,
+            index_a,
+            index_b,
+        }
+    }
+
+    // Both radii, A's as x.
+    pub fn radii(&self, i: usize) -> Vector
+        requires { i < 256 }
+    {
+        let at = RADII + 2 * i;
+        Vector {
+            x: self.number(at),
+            y: self.number(at + 1),
+        }
+    }
+
+    // Puts n numbers into a list.
+    fn copy(&self, from: usize, n: usize, list: &mut [f32; 24], to: usize)
+        requires { (from < 65536) × (to + n ≤ 24) }
+    {
+        for i in 0..n {
+            list[to + i] = self.number(from + i);
+        }
+    }
+
+    // The 24 numbers that ask for the sweep of a row, whose bytes 2 to 6 are move A, move B, radii, max fraction and slop.
+    pub fn request(&self, row: &[u8]) -> [f32; 24] {
+        let mut list = [0.0f32; 24];
+        self.copy(RADII + 2 * index(row, 4), 2, &mut list, 0);
+        self.copy(FRACTIONS + index(row, 5), 1, &mut list, 2);
+        self.copy(SLOPS + index(row, 6), 1, &mut list, 3);
+        self.copy(MOVES + 10 * index(row, 2), 10, &mut list, 4);
+        self.copy(MOVES + 10 * index(row, 3), 10, &mut list, 14);
+        list
+    }
 }

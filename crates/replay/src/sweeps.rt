@@ -2,18 +2,18 @@
 // on is the kind (the number of refusal, or 16 O, 17 H, 18 S, 19 F), fraction, point, normal, the three counts, and the first and second corner of A
 // and of B.
 use crate::floats::{put_float, put_vector};
-use crate::pool::{index, outline, request};
-use model::{Outcome, Verdict};
+use crate::pool::{Pool, index};
+use model::{Refusal, Verdict};
 use replay_rows::{Words, put, status_number};
 
 // The kind of a row that has this answer.
-fn kind(answer: Outcome) -> u32 {
+fn kind(answer: Result<Verdict, Refusal>) -> u32 {
     match answer {
-        Outcome::Found(v) => {
+        Ok(v) => {
             let status = v.status;
             status_number(status)
         }
-        Outcome::Refused(number) => number,
+        Err(refusal) => refusal.number,
     }
 }
 
@@ -30,14 +30,14 @@ fn put_verdict(words: &mut Words, v: Verdict) {
     put(words, 12, v.corners.b.second);
 }
 
-pub fn answer(row: &[u8], pool: &[u8], numbers: &[f32], words: &mut Words) {
-    let a = outline(numbers, pool, index(row, 0));
-    let b = outline(numbers, pool, index(row, 1));
-    let request = request(row, numbers);
+pub fn answer(row: &[u8], pool: &Pool, words: &mut Words) {
+    let a = pool.outline(index(row, 0));
+    let b = pool.outline(index(row, 1));
+    let request = pool.request(row);
     let answer = sweep_numbers::told(sweep_numbers::sweep_of(a, b, &request));
     put(words, 0, kind(answer));
     match answer {
-        Outcome::Found(v) => put_verdict(words, v),
-        Outcome::Refused(_) => {}
+        Ok(v) => put_verdict(words, v),
+        Err(_) => {}
     }
 }

@@ -3,18 +3,18 @@
 // the caller's number of the pair; the answer from word 3 on is the kind (the number of refusal, or 16 touching, 17 settled, 18 round limit), the
 // rounds, seven floats, and the cache.
 use crate::floats::{put_float, put_vector};
-use crate::pool::{cache, index, outline, pose, radii};
+use crate::pool::{Pool, index};
 use distance64::proxy_distance::proxy_distance;
 use model::{Ending, SimplexCache};
-use model64::{Distance, DistanceAnswer, ProxyDistanceOutput};
+use model64::{Distance, ProxyDistanceOutput};
 use replay_rows::{Words, put};
 
-fn call(row: &[u8], pool: &[u8], numbers: &[f64]) -> Distance {
-    let a = outline(numbers, pool, index(row, 0));
-    let b = outline(numbers, pool, index(row, 1));
-    let p = pose(numbers, index(row, 2));
-    let c = cache(pool, index(row, 3));
-    let radii = radii(numbers, index(row, 8));
+fn call(row: &[u8], pool: &Pool) -> Distance {
+    let a = pool.outline(index(row, 0));
+    let b = pool.outline(index(row, 1));
+    let p = pool.pose(index(row, 2));
+    let c = pool.cache(index(row, 3));
+    let radii = pool.radii(index(row, 8));
     let use_radii = index(row, 9) == 1;
     let pair = wire::word(row, 16);
     proxy_distance(p, a, radii.x, b, radii.y, use_radii, pair, c)
@@ -51,13 +51,13 @@ fn put_cache(words: &mut Words, c: SimplexCache) {
     put(words, 16, b[2]);
 }
 
-pub fn answer(row: &[u8], pool: &[u8], numbers: &[f64], words: &mut Words) {
-    let d = call(row, pool, numbers);
+pub fn answer(row: &[u8], pool: &Pool, words: &mut Words) {
+    let d = call(row, pool);
     let answer = d.answer;
     let cache = d.cache;
     match answer {
-        DistanceAnswer::Refused(n) => put(words, 0, n),
-        DistanceAnswer::Measured(o) => put_output(words, o),
+        Err(refused) => put(words, 0, refused.number),
+        Ok(o) => put_output(words, o),
     }
     put_cache(words, cache);
 }

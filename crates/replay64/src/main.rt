@@ -8,34 +8,30 @@ mod pool;
 mod sweeps;
 mod table;
 
+use pool::Pool;
 use replay_rows::Counts;
 use std::io::{Read, Result};
+use std::ops::ControlFlow;
 
 // The table whose parts are pools.
 const POOL: u32 = 0;
 
-// A proved loop has to end, and nothing says that the input does: so the reads are counted, to a number that no run reaches.
 fn run<R: Read>(input: &mut R) -> Result<Counts> {
-    let mut pool = io::large_buffer();
-    let mut numbers = pool::numbers(&pool);
+    let mut pool = Pool::empty();
     let mut counts = replay_rows::nothing();
-    for reads in 0..u64::MAX {
-        let mut part = io::large_buffer();
-        let filled = streams::fill(input, &mut part);
-        if let Some(failure) = filled.failed {
-            return Err(failure);
+    let mut buffer = io::large_buffer();
+    streams::each_part(input, &mut buffer, |part| -> Result<ControlFlow<()>> {
+        let part = part?;
+        if part.is_empty() {
+            return Ok(ControlFlow::Break(()));
         }
-        let n = filled.count;
-        if n == 0 {
-            return Ok(counts);
-        }
-        if wire::word(&part, 0) == POOL {
-            pool = part;
-            numbers = pool::numbers(&pool);
+        if wire::word(part, 0) == POOL {
+            pool.fill(part);
         } else {
-            table::replay(&part[..n], &pool, &numbers, &mut counts);
+            table::replay(part, &pool, &mut counts);
         }
-    }
+        Ok(ControlFlow::Continue(()))
+    })?;
     Ok(counts)
 }
 

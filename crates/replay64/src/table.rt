@@ -1,27 +1,24 @@
-// The tables: what their rows are like, and the way through a part's rows.
+// The tables: what their rows are like, and how they are answered.
 ghost use Rattle.std.specs.Prelude.{◌≤◌};
 
-use crate::pool::Numbers;
+use crate::pool::Pool;
 use crate::{distances, operations, sweeps};
-use replay_rows::{Counts, RowShape, Words};
+use replay_rows::{Counts, RowShape, Width, Words};
 
 fn shape(size: usize, kind: usize, answer: usize, words: usize) -> RowShape
-    requires { 1 ≤ size }
-    ensures { 1 ≤ result.size }
+    requires { (1 ≤ size) × (answer ≤ 65536) × (words ≤ 40) }
 {
     RowShape {
         size,
         kind,
         answer,
         words,
-        bytes: 8,
+        width: Width::Long,
     }
 }
 
 // What the rows of a table are like. Of an unknown table no part has a row.
-fn shape_of(table: u32) -> RowShape
-    ensures { 1 ≤ result.size }
-{
+fn shape_of(table: u32) -> RowShape {
     match table {
         1 => shape(128, 0, 72, 4),
         2 => shape(160, 24, 24, 17),
@@ -30,44 +27,19 @@ fn shape_of(table: u32) -> RowShape
     }
 }
 
-fn answer(table: u32, row: &[u8], pool: &[u8], numbers: &[f64], words: &mut Words) {
+fn answer(table: u32, row: &[u8], pool: &Pool, words: &mut Words) {
     match table {
         1 => operations::answer(row, words),
-        2 => distances::answer(row, pool, numbers, words),
-        3 => sweeps::answer(row, pool, numbers, words),
+        2 => distances::answer(row, pool, words),
+        3 => sweeps::answer(row, pool, words),
         _ => {}
     }
 }
 
-// A row of a table; one of kind 0 is padding.
-fn replay_row(
-    table: u32,
-    shape: RowShape,
-    row: &[u8],
-    pool: &[u8],
-    numbers: &[f64],
-    counts: &mut Counts,
-) {
-    if replay_rows::kind(row, shape) == 0 {
-        return;
-    }
-    let mut words = replay_rows::no_words();
-    answer(table, row, pool, numbers, &mut words);
-    replay_rows::compare(table, shape, row, &words, counts);
-}
-
 // All whole rows of a part.
-pub fn replay(part: &[u8], pool: &[u8; 65536], numbers: &Numbers, counts: &mut Counts) {
-    if part.len() < 32 {
-        return;
-    }
+pub fn replay(part: &[u8], pool: &Pool, counts: &mut Counts) {
     let table = wire::word(part, 0);
-    let shape = shape_of(table);
-    let size = shape.size;
-    let mut at: usize = 32;
-    while size <= part.len() - at {
-        let end = at + size;
-        replay_row(table, shape, &part[at..end], pool, numbers, counts);
-        at = end;
-    }
+    replay_rows::each_row(part, table, shape_of(table), counts, |_, row, words| {
+        answer(table, row, pool, words);
+    });
 }

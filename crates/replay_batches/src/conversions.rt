@@ -3,21 +3,12 @@ use crate::cases;
 use replay_rows::Words;
 
 pub fn answer(row: &[u8], words: &mut Words) {
-    let start = cases::INPUT;
-    let end = cases::input_end(row);
-    if end < start {
-        return;
+    if let Some(case) = cases::split(row) {
+        let mut file = io::large_buffer();
+        let mut text = io::buffer();
+        let converted = convert_forms::convert_part(case.input, 0, &mut file, &mut text);
+        if let (Some(text), Some(file)) = (text.get(..converted.text), file.get(..converted.file)) {
+            case.tell(text, b"", file, words);
+        }
     }
-    let mut file = io::large_buffer();
-    let mut text = io::buffer();
-    let converted = convert_forms::convert_part(&row[start..end], 0, &mut file, &mut text);
-    let file_end = converted.file;
-    let text_end = converted.text;
-    if file_end > 65536 {
-        return;
-    }
-    if text_end > 4096 {
-        return;
-    }
-    cases::tell(row, end, &text[..text_end], b"", &file[..file_end], words);
 }

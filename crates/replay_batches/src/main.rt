@@ -15,22 +15,19 @@ mod unpacked;
 
 use replay_rows::Counts;
 use std::io::{Read, Result};
+use std::ops::ControlFlow;
 
-// A proved loop has to end, and nothing says that the input does: so the reads are counted, to a number that no run reaches.
 fn run<R: Read>(input: &mut R) -> Result<Counts> {
     let mut counts = replay_rows::nothing();
-    for reads in 0..u64::MAX {
-        let mut part = io::large_buffer();
-        let filled = streams::fill(input, &mut part);
-        if let Some(failure) = filled.failed {
-            return Err(failure);
+    let mut buffer = io::large_buffer();
+    streams::each_part(input, &mut buffer, |part| -> Result<ControlFlow<()>> {
+        let part = part?;
+        if part.is_empty() {
+            return Ok(ControlFlow::Break(()));
         }
-        let n = filled.count;
-        if n == 0 {
-            return Ok(counts);
-        }
-        table::replay(&part[..n], &mut counts);
-    }
+        table::replay(part, &mut counts);
+        Ok(ControlFlow::Continue(()))
+    })?;
     Ok(counts)
 }
 

@@ -12,26 +12,19 @@ fn write_batches(batches: &[u8], sizes: &[u32], out: &mut [u8]) -> usize {
 }
 
 pub fn answer(row: &[u8], words: &mut Words) {
-    let start = cases::INPUT;
-    let end = cases::input_end(row);
-    if end < start {
-        return;
+    if let Some(case) = cases::split(row) {
+        let count = wire::word(case.input, 0) as usize;
+        let mut sizes = [0u32; MOST];
+        if count > MOST {
+            return;
+        }
+        for i in 0..count {
+            sizes[i] = wire::word(case.input, 4 + 4 * i);
+        }
+        if let Some(batches) = case.input.get(4 + 4 * count..) {
+            let mut text = io::buffer();
+            let n = write_batches(batches, &sizes[..count], &mut text);
+            case.tell_first(&text, n, b"", 0, words);
+        }
     }
-    let count = wire::word(row, start) as usize;
-    if count > MOST {
-        return;
-    }
-    let mut sizes = [0u32; MOST];
-    let mut i: usize = 0;
-    while i < count {
-        sizes[i] = wire::word(row, start + 4 + 4 * i);
-        i += 1;
-    }
-    let from = start + 4 + 4 * count;
-    if end < from {
-        return;
-    }
-    let mut text = io::buffer();
-    let n = write_batches(&row[from..end], &sizes[..count], &mut text);
-    cases::tell_first(row, end, &text, n, b"", 0, words);
 }

@@ -1,6 +1,6 @@
 // Table 10: cases of `salvage`. The input is handed on in the pieces of `packed`, each behind what the one before it left.
 use crate::cases;
-use crate::packed::piece_end;
+use crate::packed::PIECE;
 use replay_rows::Words;
 use salvage_walk::Walk;
 
@@ -48,11 +48,8 @@ fn salvage_input(input: &[u8], out: &mut [u8], file: &mut [u8]) -> Texts {
         at: 0,
         file: 0,
     };
-    let mut from: usize = 0;
-    while from < input.len() {
-        let end = piece_end(from, input.len());
-        texts = salvage_piece(&input[from..end], texts, buffer, out, file);
-        from = end;
+    for piece in input.chunks(PIECE) {
+        texts = salvage_piece(piece, texts, buffer, out, file);
     }
     texts
 }
@@ -68,21 +65,14 @@ fn tell_end(texts: Texts, out: &mut [u8]) -> usize {
 }
 
 pub fn answer(row: &[u8], words: &mut Words) {
-    let start = cases::INPUT;
-    let end = cases::input_end(row);
-    if end < start {
-        return;
+    if let Some(case) = cases::split(row) {
+        let mut out = io::large_buffer();
+        let mut file = io::large_buffer();
+        let texts = salvage_input(case.input, &mut out, &mut file);
+        let file_end = texts.file;
+        let told = tell_end(texts, &mut out);
+        if let (Some(out), Some(file)) = (out.get(..told), file.get(..file_end)) {
+            case.tell(out, b"", file, words);
+        }
     }
-    let mut out = io::large_buffer();
-    let mut file = io::large_buffer();
-    let texts = salvage_input(&row[start..end], &mut out, &mut file);
-    let file_end = texts.file;
-    let told = tell_end(texts, &mut out);
-    if told > 65536 {
-        return;
-    }
-    if file_end > 65536 {
-        return;
-    }
-    cases::tell(row, end, &out[..told], b"", &file[..file_end], words);
 }

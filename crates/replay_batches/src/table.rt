@@ -1,26 +1,23 @@
-// The tables: what their rows are like, and the way through a part's rows.
+// The tables: what their rows are like, and how they are answered.
 ghost use Rattle.std.specs.Prelude.{◌≤◌};
 
 use crate::{blocks, conversions, first_contacts, packed, reports, routes, salvages, unpacked};
-use replay_rows::{Counts, RowShape, Words};
+use replay_rows::{Counts, RowShape, Width, Words};
 
 fn shape(size: usize, kind: usize, answer: usize, words: usize) -> RowShape
-    requires { 1 ≤ size }
-    ensures { 1 ≤ result.size }
+    requires { (1 ≤ size) × (answer ≤ 65536) × (words ≤ 40) }
 {
     RowShape {
         size,
         kind,
         answer,
         words,
-        bytes: 4,
+        width: Width::Word,
     }
 }
 
 // What the rows of a table are like; those of a program's cases are all alike. Of an unknown table no part has a row.
-fn shape_of(table: u32) -> RowShape
-    ensures { 1 ≤ result.size }
-{
+fn shape_of(table: u32) -> RowShape {
     match table {
         4 => shape(672, 668, 512, 40),
         5 => shape(4644, 0, 12, 6),
@@ -29,6 +26,7 @@ fn shape_of(table: u32) -> RowShape
     }
 }
 
+// The answer's words to a row, as row n of its table.
 fn answer(table: u32, row: &[u8], n: u64, words: &mut Words) {
     match table {
         4 => blocks::answer(row, n, words),
@@ -43,30 +41,10 @@ fn answer(table: u32, row: &[u8], n: u64, words: &mut Words) {
     }
 }
 
-// Row n of a table; one of kind 0 is padding.
-fn replay_row(table: u32, shape: RowShape, row: &[u8], n: u64, counts: &mut Counts) {
-    if replay_rows::kind(row, shape) == 0 {
-        return;
-    }
-    let mut words = replay_rows::no_words();
-    answer(table, row, n, &mut words);
-    replay_rows::compare(table, shape, row, &words, counts);
-}
-
 // All whole rows of a part.
 pub fn replay(part: &[u8], counts: &mut Counts) {
-    if part.len() < 16 {
-        return;
-    }
     let table = wire::word(part, 0);
-    let shape = shape_of(table);
-    let size = shape.size;
-    let mut n = wire::word(part, 4) as u64;
-    let mut at: usize = 16;
-    while size <= part.len() - at {
-        let end = at + size;
-        n += 1;
-        replay_row(table, shape, &part[at..end], n, counts);
-        at = end;
-    }
+    replay_rows::each_row(part, table, shape_of(table), counts, |before, row, words| {
+        answer(table, row, before.wrapping_add(1), words);
+    });
 }

@@ -3,16 +3,14 @@ use crate::cases;
 use replay_rows::Words;
 
 pub fn answer(row: &[u8], words: &mut Words) {
-    let start = cases::INPUT;
-    let end = cases::input_end(row);
-    if end < start {
-        return;
+    if let Some(case) = cases::split(row) {
+        let mut out = io::large_buffer();
+        let mut err = io::large_buffer();
+        let unpacked = unpack_blocks::unpack_part(case.input, 0, &mut out, &mut err);
+        let mut last = [0u8; 64];
+        let rest = case.input.len() % 512;
+        let n = unpack_blocks::tell_rest(rest, unpacked.blocks, &mut last);
+        let told = cases::append(&mut err, unpacked.told, &last, n);
+        case.tell_first(&out, unpacked.at, &err, told, words);
     }
-    let mut out = io::large_buffer();
-    let mut err = io::large_buffer();
-    let unpacked = unpack_blocks::unpack_part(&row[start..end], 0, &mut out, &mut err);
-    let mut last = [0u8; 64];
-    let n = unpack_blocks::tell_rest((end - start) % 512, unpacked.blocks, &mut last);
-    let told = cases::append(&mut err, unpacked.told, &last, n);
-    cases::tell_first(row, end, &out, unpacked.at, &err, told, words);
 }

@@ -1,20 +1,42 @@
-// What the programs that replay stored answers share: an answer as words, compared with a row's; counts of rows by table and kind.
+// What the programs that replay stored answers share: the rows of a part, an answer as words, compared with a row's; counts of rows by table and kind.
 #![tactic(auto)]
 
 mod tally;
 mod words;
 
 pub use tally::{Counts, nothing, print};
-pub use words::{RowShape, Words, long, no_words, put, put_long, status_number};
-
-// A row's kind. One of kind 0 is padding.
-pub fn kind(row: &[u8], shape: RowShape) -> u32 {
-    wire::word(row, shape.kind)
-}
+pub use words::{RowShape, Width, Words, long, put, put_long, put_text, status_number};
 
 // Compares a row's stored answer with the one that was worked, as it stands and spoiled on purpose, and counts the row.
-pub fn compare(table: u32, shape: RowShape, row: &[u8], words: &Words, counts: &mut Counts) {
+fn compare(table: u32, shape: RowShape, kind: u32, row: &[u8], words: &Words, counts: &mut Counts) {
     let differs = words::differ(words, shape, row, 0);
     let noticed = words::differ(words, shape, row, 1);
-    tally::count(counts, table, kind(row, shape), differs, noticed);
+    tally::count(counts, table, kind, differs, noticed);
+}
+
+// Replays the whole rows of a part of that table. A part starts with four words: the number of the table, how many of its rows came before, and two of 0. A
+// closure puts down the answer's words to each row, with so many rows before it; one of kind 0 is padding, and has none.
+pub fn each_row<F: FnMut(u64, &[u8], &mut Words) + Drop>(
+    part: &[u8],
+    table: u32,
+    shape: RowShape,
+    counts: &mut Counts,
+    mut answer: F,
+)
+    requires { F.IsAlwaysCallable answer }
+{
+    let start = 4 * words::bytes(shape.width);
+    let mut before = wire::word(part, words::bytes(shape.width)) as u64;
+    if part.len() < start {
+        return;
+    }
+    for row in part[start..].chunks_exact(shape.size) {
+        let kind = wire::word(row, shape.kind);
+        if kind != 0 {
+            let mut words = words::no_words();
+            answer(before, row, &mut words);
+            compare(table, shape, kind, row, &words, counts);
+        }
+        before = before.wrapping_add(1);
+    }
 }

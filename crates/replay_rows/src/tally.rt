@@ -22,20 +22,12 @@ fn place(table: u32, kind: u32) -> usize
     (3 * (table % TABLES * KINDS + kind % KINDS)) as usize
 }
 
-fn one_more(n: u32, is_so: bool) -> u32 {
-    if is_so {
-        std::num::wrapping_add_u32(n, 1)
-    } else {
-        n
-    }
-}
-
 // One row more.
 pub fn count(counts: &mut Counts, table: u32, kind: u32, differs: bool, noticed: bool) {
     let i = place(table, kind);
-    counts[i] = one_more(counts[i], true);
-    counts[i + 1] = one_more(counts[i + 1], differs);
-    counts[i + 2] = one_more(counts[i + 2], noticed);
+    counts[i] = counts[i].wrapping_add(1);
+    counts[i + 1] = counts[i + 1].wrapping_add(differs as u32);
+    counts[i + 2] = counts[i + 2].wrapping_add(noticed as u32);
 }
 
 fn line<W: Write>(

@@ -6,6 +6,7 @@ use report_counts::Report;
 use std::env::{Env, FillError};
 use std::fs;
 use std::io::{Error, ErrorKind, Read, Write};
+use std::ops::ControlFlow;
 use std::process::ExitCode;
 use std::rt::Files;
 use std::str::from_utf8;
@@ -16,50 +17,28 @@ const NAME_TOO_LONG: i32 = 36;
 
 const NO_TEXT: i32 = 84;
 
-// The report so far, and whether there is more to read.
-#[derive(Clone, Copy)]
-struct Step {
-    report: Report,
-    more: bool,
-}
-
-// Works the next part of an open batch into its report.
-fn next_part<R: Read>(input: &mut R, so_far: Report) -> std::io::Result<Step> {
-    let mut buffer = io::large_buffer();
-    let filled = streams::fill(input, &mut buffer);
-    if let Some(failure) = filled.failed {
-        return Err(failure);
-    }
-    let n = filled.count;
-    let added = report_batches::add_part(so_far, &buffer[..n]);
-    let report = added.report;
-    Ok(Step {
-        report,
-        more: !added.last,
-    })
-}
-
-// The report of an open batch. A proved loop has to end, and nothing says that the input does: so the reads are counted, to a number that no run
-// reaches.
+// The report of an open batch.
 fn batch<R: Read>(input: &mut R) -> std::io::Result<Report> {
     let mut so_far = report_counts::opened();
-    for reads in 0..u64::MAX {
-        let step = next_part(input, so_far)?;
-        let next = step.report;
-        so_far = next;
-        if !step.more {
-            return Ok(so_far);
-        }
-    }
-    Err(Error::from(ErrorKind::FileTooLarge))
+    let mut buffer = io::large_buffer();
+    let ended = streams::each_part(
+        input,
+        &mut buffer,
+        |part| -> std::io::Result<ControlFlow<Report>> {
+            let added = report_batches::add_part(so_far, part?);
+            so_far = added.report;
+            if added.last {
+                return Ok(ControlFlow::Break(so_far));
+            }
+            Ok(ControlFlow::Continue(()))
+        },
+    )?;
+    ended.ok_or(Error::from(ErrorKind::FileTooLarge))
 }
 
 // A path as the system's calls take it here: text alone.
 fn path(name: &[u8]) -> std::io::Result<&str> {
-    match from_utf8(name) {
-        Ok(text) => Ok(text),
-        Err(_) => Err(Error::from_raw_os_error(NO_TEXT)),
-    }
+    from_utf8(name).map_err(|_| Error::from_raw_os_error(NO_TEXT))
 }
 
 // The batch that a file holds.
@@ -70,13 +49,7 @@ fn file<F: Files>(files: &F, name: &[u8]) -> std::io::Result<Report> {
 
 // The report of a file; an error, and told, where it cannot be read.
 fn told<F: Files, E: Write>(files: &F, err: &mut E, name: &[u8]) -> Result<Report, Stopped> {
-    match file(files, name) {
-        Ok(report) => Ok(report),
-        Err(failure) => {
-            tell_failure(err, name, failure);
-            Err(Stopped::Told)
-        }
-    }
+    streams::told(err, name, file(files, name))
 }
 
 // The batch that an argument names, or nothing, where there is no such argument.
@@ -99,7 +72,7 @@ fn named<S: Files + Env, E: Write>(
 fn print<W: Write, E: Write>(out: &mut W, err: &mut E, report: Report) -> Result<(), Stopped> {
     let mut text = io::buffer();
     let n = report_lines::write_report(report, &mut text);
-    streams::write_to_output(out, err, &text, n)
+    streams::write_to_output(out, err, &text[..n])
 }
 
 // Prints the report of the files that the arguments name.
@@ -124,13 +97,8 @@ fn print_input<R: Read, W: Write, E: Write>(
     out: &mut W,
     err: &mut E,
 ) -> Result<(), Stopped> {
-    match batch(input) {
-        Ok(one) => print(out, err, report_counts::merge(report_counts::empty(), one)),
-        Err(failure) => {
-            tell_failure(err, b"standard input", failure);
-            Err(Stopped::Told)
-        }
-    }
+    let one = streams::told(err, b"standard input", batch(input))?;
+    print(out, err, report_counts::merge(report_counts::empty(), one))
 }
 
 // Whether there is no argument.

@@ -1,5 +1,6 @@
 -- What the rows of a report add up to: hits by fraction to hits, refusals by number to refusals, and every block is clear, overlapped, failed, hit
 -- or refused; none wraps while there are fewer blocks than 2 ^ 64. Assumes nothing.
+use Rattle.std.proofs.Common.{Ok, Err}
 use mathlib.Core.Path.{◌≡◌, refl}
 use mathlib.Core.Bool.{Bool, true, false, cond}
 use mathlib.Core.List.{List, [], ◌∷◌, ◌++◌}
@@ -10,8 +11,7 @@ use lib.Dec.{eqb, ltb}
 use lib.ListN.{length, get_or}
 use Rattle.model.specs.declared.Status.{Status}
 use Rattle.model.specs.declared.Status.TheVariants.{Overlapped, Hit, Separated, Failed}
-use Rattle.model.specs.declared.BlockAnswer.{BlockAnswer}
-use Rattle.model.specs.declared.BlockAnswer.TheVariants.{Worked, Refused}
+use Rattle.model.specs.Work.{BlockAnswer}
 use Rattle.report_batches.specs.Told.{sum_of_rows, AddsUp, Given}
 use Rattle.report_counts.specs.Rows.{status_row, hit_row, refusal_row, detail_by, rows_of, rows_in, times_in}
 use Rattle.report_counts.specs.Largest.{hold}
@@ -199,8 +199,8 @@ of-refusal d low high = record {
 
 -- ---- answers
 abbrev pub NumberGiven : BlockAnswer → Type 0
-NumberGiven (Worked job v) = Unit {0}
-NumberGiven (Refused job number) = Given number
+NumberGiven (Ok w) = Unit {0}
+NumberGiven (Err r) = Given r.number
 
 unfoldable pub NumbersGiven : List BlockAnswer → Type 0
 NumbersGiven [] = Unit {0}
@@ -218,12 +218,12 @@ refusal-rows n (least, most, not-12) = go (eqb n 13) (ltb n 3) (ltb n 12) refl r
     go false false false e f g = let apart = eqb-false n 13 e in absurd (omega (arith, ltb-false n 12 g, apart, not-12))
 
 answer-sums : (x : BlockAnswer) → NumberGiven x → Sums (rows_of x)
-answer-sums (Refused job n) h = let (low, high) = refusal-rows n h in of-refusal (refusal_row n) low high
-answer-sums (Worked job v) h = go v.status
+answer-sums (Err r) h = let (low, high) = refusal-rows r.number h in of-refusal (refusal_row r.number) low high
+answer-sums (Ok w) h = go w.verdict.status
   where
-    go : (s : Status) → Sums (0 ∷ status_row s ∷ detail_by s v.contact.fraction ∷ [])
+    go : (s : Status) → Sums (0 ∷ status_row s ∷ detail_by s w.verdict.contact.fraction ∷ [])
     go Overlapped = of-group 2 (omega arith) (omega arith)
-    go Hit = let (low, high) = hit-rows v.contact.fraction in of-hit (hit_row v.contact.fraction) low high
+    go Hit = let (low, high) = hit-rows w.verdict.contact.fraction in of-hit (hit_row w.verdict.contact.fraction) low high
     go Separated = of-group 1 (omega arith) (omega arith)
     go Failed = of-group 3 (omega arith) (omega arith)
 

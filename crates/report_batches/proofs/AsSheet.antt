@@ -1,5 +1,6 @@
 -- The report's numbers are those of the sheets' lines: blocks are the lines, clear those with S, overlapped with O, failed with F, hit with H, refused
 -- those without a letter. Assumes nothing.
+use Rattle.std.proofs.Common.{Ok, Err}
 use mathlib.Core.Path.{◌≡◌, refl, ap, ◌∙◌}
 use mathlib.Core.Bool.{Bool, cond}
 use mathlib.Core.List.{List, [], ◌∷◌, ◌++◌}
@@ -11,10 +12,9 @@ use lib.Ieee.{Format, binary32}
 use lib.ListN.{length, get_or, length-append}
 use Rattle.model.specs.declared.Status.{Status}
 use Rattle.model.specs.declared.Status.TheVariants.{Overlapped, Hit, Separated, Failed}
-use Rattle.model.specs.declared.BlockAnswer.{BlockAnswer}
-use Rattle.model.specs.declared.BlockAnswer.TheVariants.{Worked, Refused}
 use Rattle.model.specs.Sheet.{letter_of, answers}
 use Rattle.model.specs.Counted.{lines_one_by_one, sheet_lines, how_many}
+use Rattle.model.specs.Work.{BlockAnswer}
 use Rattle.model.proofs.Counted.{letter_told, letter-printed, a-line-each}
 use Rattle.report_counts.specs.Rows.{status_row, detail_by, group_row, detail_row, rows_of, rows_in, times_in}
 use Rattle.report_counts.specs.Largest.{hold}
@@ -28,12 +28,12 @@ once s = cond s 1 0
 
 -- its detail's row is none of blocks, statuses and refusals
 detail-apart : (x : BlockAnswer) → (5 ≤ detail_row x) × (detail_row x ≡ 17 → ⊥)
-detail-apart (Refused job n) = (omega (arith, refusal-past n), λ e. omega (arith, refusal-past n))
-detail-apart (Worked job v) = go v.status
+detail-apart (Err r) = (omega (arith, refusal-past r.number), λ e. omega (arith, refusal-past r.number))
+detail-apart (Ok w) = go w.verdict.status
   where
-    go : (s : Status) → (5 ≤ detail_by s v.contact.fraction) × (detail_by s v.contact.fraction ≡ 17 → ⊥)
+    go : (s : Status) → (5 ≤ detail_by s w.verdict.contact.fraction) × (detail_by s w.verdict.contact.fraction ≡ 17 → ⊥)
     go Overlapped = (omega arith, λ e. omega arith)
-    go Hit = let (low, high) = hit-rows v.contact.fraction in (low, λ e. omega arith)
+    go Hit = let (low, high) = hit-rows w.verdict.contact.fraction in (low, λ e. omega arith)
     go Separated = (omega arith, λ e. omega arith)
     go Failed = (omega arith, λ e. omega arith)
 
@@ -47,8 +47,8 @@ Stands row letter = (x : BlockAnswer) → times_in row (rows_of x) ≡ once (eqb
 
 stands : (row letter : ℕ) → 1 ≤ row → ((x : BlockAnswer) → detail_row x ≡ row → ⊥)
     → ((s : Status) → once (eqb (status_row s) row) ≡ once (eqb (letter_of s) letter)) → once (eqb 17 row) ≡ once (eqb 0 letter) → Stands row letter
-stands row letter low apart worked refused (Worked job v) = group-alone row (Worked job v) low (apart (Worked job v)) ∙ worked v.status
-stands row letter low apart worked refused (Refused job n) = group-alone row (Refused job n) low (apart (Refused job n)) ∙ refused
+stands row letter low apart worked refused (Ok w) = group-alone row (Ok w) low (apart (Ok w)) ∙ worked w.verdict.status
+stands row letter low apart worked refused (Err r) = group-alone row (Err r) low (apart (Err r)) ∙ refused
 
 early : (row : ℕ) → row ≤ 4 → (x : BlockAnswer) → detail_row x ≡ row → ⊥
 early row h x e = omega (arith, (detail-apart x).0)

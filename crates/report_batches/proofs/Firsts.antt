@@ -1,5 +1,6 @@
 -- What the last three lines of a report say: the count stands on a worked block, none has a larger one, and every worked block before it has a
 -- smaller one; where there is no maximum no block was worked. Assumes nothing.
+use Rattle.std.proofs.Common.{Ok, Err, Option, Some, None}
 use mathlib.Core.Path.{◌≡◌, refl, sym, ap, ◌∙◌}
 use mathlib.Core.Bool.{Bool, true, false, cond}
 use mathlib.Core.List.{List, [], ◌∷◌, ◌++◌}
@@ -10,12 +11,10 @@ use borrow.Author.Tests.{ltb-true, ltb-false}
 use lib.Dec.{ltb}
 use lib.ListN.{length, get_or}
 use Rattle.model.specs.declared.Counts.{Counts}
-use Rattle.model.specs.declared.BlockAnswer.{BlockAnswer}
-use Rattle.model.specs.declared.BlockAnswer.TheVariants.{Worked, Refused}
+use Rattle.model.specs.Work.{BlockAnswer}
 use Rattle.report_counts.specs.declared.most.Most.{Most}
-use Rattle.report_counts.specs.declared.most.Most.TheVariants.{Nowhere, At}
 use Rattle.report_counts.specs.declared.most.Largest.{Largest}
-use Rattle.report_counts.specs.Largest.{hold, larger, nowhere, larger_each, seen, largest_from, largest_in}
+use Rattle.report_counts.specs.Largest.{hold, larger, nowhere, larger_each, seen, largest_from, largest_in, seen_at}
 use Rattle.report_counts.specs.Report.{report}
 use Rattle.report_batches.specs.Told.{Place, in_batch, in_batches, shown, shown_at, AtMost, Below, nobody, Told, none, first, calls_of, searches_of, steps_of}
 use Rattle.report_batches.specs.Told.{Firsts}
@@ -46,26 +45,26 @@ fold-batches i (b ∷ bs) =
     ∙ ap (larger_each (largest_from (i + 1) 0 b)) (fold-batches (i + 1) bs)
 
 -- ---- the first of the largest
-unfoldable fold_one : (Counts → ℕ) → List Place → Most
-fold_one which [] = Nowhere
+unfoldable fold_one : (Counts → ℕ) → List Place → Option Most
+fold_one which [] = None
 fold_one which (p ∷ ps) = larger (shown_at which p) (fold_one which ps)
 
-at_most : (n m : ℕ) (s : Most) → n ≤ m → AtMost n s → AtMost m s
-at_most n m Nowhere h p = tt
-at_most n m (At c i j) h p = omega (arith, p)
+at_most : (n m : ℕ) (s : Option Most) → n ≤ m → AtMost n s → AtMost m s
+at_most n m None h p = tt
+at_most n m (Some s) h p = omega (arith, p)
 
-nowhere-most : (n : ℕ) (s : Most) → s ≡ Nowhere → AtMost n s
+nowhere-most : (n : ℕ) (s : Option Most) → s ≡ None → AtMost n s
 nowhere-most n s e = rw e tt
 
-none-shown : (which : Counts → ℕ) (k : ℕ) → shown_at which (get_or [] k nobody) ≡ Nowhere
+none-shown : (which : Counts → ℕ) (k : ℕ) → shown_at which (get_or [] k nobody) ≡ None
 none-shown which k = refl
 
 module _ (which : Counts → ℕ) (p : Place) (ps : List Place) where
   -- one that was not worked in front
-  passed : (m : Most) → shown_at which p ≡ Nowhere → Told which ps m → Told which (p ∷ ps) m
+  passed : (m : Option Most) → shown_at which p ≡ None → Told which ps m → Told which (p ∷ ps) m
   passed m e (none is quiet) = none is go
     where
-      go : (k : ℕ) → shown_at which (get_or (p ∷ ps) k nobody) ≡ Nowhere
+      go : (k : ℕ) → shown_at which (get_or (p ∷ ps) k nobody) ≡ None
       go zero = e
       go (suc k) = quiet k
   passed m e (first k n i j is inside here most less) = first (suc k) n i j is (omega arith) here all before
@@ -79,7 +78,7 @@ module _ (which : Counts → ℕ) (p : Place) (ps : List Place) where
       before (suc l) h = less l (omega arith)
 
   -- a worked one in front of none
-  alone : (c a b : ℕ) → shown_at which p ≡ At c a b → ((k : ℕ) → shown_at which (get_or ps k nobody) ≡ Nowhere) → Told which (p ∷ ps) (At c a b)
+  alone : (c a b : ℕ) → shown_at which p ≡ seen_at c a b → ((k : ℕ) → shown_at which (get_or ps k nobody) ≡ None) → Told which (p ∷ ps) (seen_at c a b)
   alone c a b e quiet = first 0 c a b refl (omega arith) e all (λ l h. absurd (omega arith))
     where
       all : (l : ℕ) → AtMost c (shown_at which (get_or (p ∷ ps) l nobody))
@@ -87,9 +86,9 @@ module _ (which : Counts → ℕ) (p : Place) (ps : List Place) where
       all (suc l) = nowhere-most c (shown_at which (get_or ps l nobody)) (quiet l)
 
   -- a worked one in front of a larger, and of one that is not larger
-  smaller : (c a b k n i j : ℕ) → shown_at which p ≡ At c a b → c < n → k < length ps → shown_at which (get_or ps k nobody) ≡ At n i j
+  smaller : (c a b k n i j : ℕ) → shown_at which p ≡ seen_at c a b → c < n → k < length ps → shown_at which (get_or ps k nobody) ≡ seen_at n i j
       → ((l : ℕ) → AtMost n (shown_at which (get_or ps l nobody))) → ((l : ℕ) → l < k → Below n (shown_at which (get_or ps l nobody)))
-      → Told which (p ∷ ps) (At n i j)
+      → Told which (p ∷ ps) (seen_at n i j)
   smaller c a b k n i j e small inside here most less = first (suc k) n i j refl (omega arith) here all before
     where
       all : (l : ℕ) → AtMost n (shown_at which (get_or (p ∷ ps) l nobody))
@@ -100,22 +99,22 @@ module _ (which : Counts → ℕ) (p : Place) (ps : List Place) where
       before zero h = rw e small
       before (suc l) h = less l (omega arith)
 
-  not-smaller : (c a b n : ℕ) → shown_at which p ≡ At c a b → n ≤ c → ((l : ℕ) → AtMost n (shown_at which (get_or ps l nobody))) → Told which (p ∷ ps) (At c a b)
+  not-smaller : (c a b n : ℕ) → shown_at which p ≡ seen_at c a b → n ≤ c → ((l : ℕ) → AtMost n (shown_at which (get_or ps l nobody))) → Told which (p ∷ ps) (seen_at c a b)
   not-smaller c a b n e large most = first 0 c a b refl (omega arith) e all (λ l h. absurd (omega arith))
     where
       all : (l : ℕ) → AtMost c (shown_at which (get_or (p ∷ ps) l nobody))
       all zero = rw e (le_refl c)
       all (suc l) = at_most n c (shown_at which (get_or ps l nobody)) large (most l)
 
-  one_more : (s m : Most) → shown_at which p ≡ s → Told which ps m → Told which (p ∷ ps) (larger s m)
+  one_more : (s m : Option Most) → shown_at which p ≡ s → Told which ps m → Told which (p ∷ ps) (larger s m)
   unfolding larger
-  one_more Nowhere m e told = passed m e told
-  one_more (At c a b) m e (none is quiet) = rw is (alone c a b e quiet)
-  one_more (At c a b) m e (first k n i j is inside here most less) = rw is (go (ltb c n) refl)
+  one_more None m e told = passed m e told
+  one_more (Some s) m e (none is quiet) = rw is (alone s.count s.batch s.block e quiet)
+  one_more (Some s) m e (first k n i j is inside here most less) = rw is (go (ltb s.count n) refl)
     where
-      go : (t : Bool) → ltb c n ≡ t → Told which (p ∷ ps) (cond t (At n i j) (At c a b))
-      go true f = smaller c a b k n i j e (ltb-true c n f) inside here most less
-      go false f = not-smaller c a b n e (ltb-false c n f) most
+      go : (t : Bool) → ltb s.count n ≡ t → Told which (p ∷ ps) (cond t (seen_at n i j) (Some s))
+      go true f = smaller s.count s.batch s.block k n i j e (ltb-true s.count n f) inside here most less
+      go false f = not-smaller s.count s.batch s.block n e (ltb-false s.count n f) most
 
 told : (which : Counts → ℕ) (ps : List Place) → Told which ps (fold_one which ps)
 unfolding fold_one
@@ -124,16 +123,16 @@ told which (p ∷ ps) = one_more which p ps (shown_at which p) (fold_one which p
 
 -- ---- the three lines
 one-calls : (i j : ℕ) (x : BlockAnswer) → (seen (hold i) (hold j) x).calls ≡ shown calls_of i j x
-one-calls i j (Worked job v) = refl
-one-calls i j (Refused job number) = refl
+one-calls i j (Ok w) = refl
+one-calls i j (Err r) = refl
 
 one-searches : (i j : ℕ) (x : BlockAnswer) → (seen (hold i) (hold j) x).searches ≡ shown searches_of i j x
-one-searches i j (Worked job v) = refl
-one-searches i j (Refused job number) = refl
+one-searches i j (Ok w) = refl
+one-searches i j (Err r) = refl
 
 one-steps : (i j : ℕ) (x : BlockAnswer) → (seen (hold i) (hold j) x).steps ≡ shown steps_of i j x
-one-steps i j (Worked job v) = refl
-one-steps i j (Refused job number) = refl
+one-steps i j (Ok w) = refl
+one-steps i j (Err r) = refl
 
 fold-calls : (ps : List Place) → (fold_each ps).calls ≡ fold_one calls_of ps
 unfolding fold_each fold_one

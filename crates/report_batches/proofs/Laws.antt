@@ -1,25 +1,25 @@
 -- Blocks counted in one after the other, and batches one behind another put together one after the other. Assumes nothing.
 use mathlib.Core.Path.{◌≡◌, refl, sym, ap, ◌∙◌}
-use mathlib.Core.Bool.{Bool, true, false, cond}
 use mathlib.Core.List.{List, [], ◌∷◌, ◌++◌}
 use Prim.Native.Nat.{ℕ, ◌+◌, ◌*◌, ◌-◌, ◌/◌, ◌%◌, ◌<◌, ◌≤◌}
 use native.Mathlib.Omega.{arith}
 use native.Mathlib.Numerals.{add-one}
-use borrow.Author.Tests.{ltb-true, ltb-false, eq-eqb, ne_eqb}
-use lib.Dec.{ltb}
+use Rattle.std.specs.Prelude.{min}
+use Rattle.std.proofs.Math.Nat.{min_comm}
+use borrow.Author.Tests.{eq-eqb, ne_eqb}
 use lib.Ieee.{binary32}
-use lib.ListN.{length, get_or, take, drop, length-drop, drop_of_length-le}
-use lib.Seq.{take_all, take-length, drop-length, drop-drop, take-suc}
-use Rattle.model.specs.declared.BlockAnswer.{BlockAnswer}
-use Rattle.model.specs.declared.BlockAnswer.TheVariants.{Refused}
-use Rattle.model.specs.Work.{block_answer}
+use lib.ListN.{length, get_or, take, drop}
+use lib.Seq.{take_all, take-suc}
+use Rattle.std.proofs.lemmas.List.{take_min, drop_min}
+use Rattle.model.specs.Work.{block_answer, BlockAnswer}
 use Rattle.model.specs.Blocks.{whole_blocks}
 use Rattle.model.specs.Sheet.{whole_answers, rest_answer, answers}
+use Rattle.model.specs.Block.{refused}
 use Rattle.model.proofs.Sheet.{answers-more, answers-cut}
 use Rattle.report_counts.specs.declared.counting.Report.{Report}
 use Rattle.report_counts.specs.Report.{report, counted, counted_all, together}
 use Rattle.report_counts.proofs.Merged.{counted-all, counted-one-by-one, report-of-both}
-use Rattle.report_batches.specs.Batches.{lesser, batches_in}
+use Rattle.report_batches.specs.Batches.{batches_in}
 
 -- ---- blocks
 pub no_block : (r : Report) (b : List ℕ) → r ≡ counted_all r (whole_answers binary32 0 b)
@@ -30,19 +30,17 @@ last-counted : (r so : Report) (xs : List BlockAnswer) (x : BlockAnswer) → so 
 unfolding counted_all
 last-counted r so xs x is = rw is (sym (counted-all r xs (x ∷ [])))
 
--- block i, of so many bytes, answered by x
-pub block_more : (r so : Report) (b : List ℕ) (i size : ℕ) (x : BlockAnswer) → size ≡ 512 → so ≡ counted_all r (whole_answers binary32 i b) →
-    x ≡ block_answer binary32 (take size (drop (512 * i) b)) → counted so x ≡ counted_all r (whole_answers binary32 (i + 1) b)
-block_more r so b i size x whole is answer =
-    let here : x ≡ block_answer binary32 (take 512 (drop (512 * i) b)) = rw whole at answer in
-    rw (add-one, answers-more binary32 i b, ← here) (last-counted r so (whole_answers binary32 i b) x is)
+-- block i, answered by x
+pub block_more : (r so : Report) (b : List ℕ) (i : ℕ) (x : BlockAnswer) → so ≡ counted_all r (whole_answers binary32 i b) →
+    x ≡ block_answer binary32 (take 512 (drop (512 * i) b)) → counted so x ≡ counted_all r (whole_answers binary32 (i + 1) b)
+block_more r so b i x is here = rw (add-one, answers-more binary32 i b, ← here) (last-counted r so (whole_answers binary32 i b) x is)
 
 -- ---- a rest
 pub no-rest : (r : Report) (rest : ℕ) → rest ≡ 0 → r ≡ counted_all r (rest_answer rest)
 unfolding counted_all
 no-rest r rest e = rw (eq-eqb rest 0 e)
 
-pub a-rest : (r : Report) (rest : ℕ) → (rest ≡ 0 → ⊥) → counted r (Refused 0 9) ≡ counted_all r (rest_answer rest)
+pub a-rest : (r : Report) (rest : ℕ) → (rest ≡ 0 → ⊥) → counted r (refused 0 9) ≡ counted_all r (rest_answer rest)
 unfolding counted_all
 a-rest r rest h = rw (ne_eqb rest 0 h)
 
@@ -70,54 +68,30 @@ unfolding left_over batches_in
 batches-more [] n b = refl
 batches-more (m ∷ ns) n b = ap (λ (l : List (List BlockAnswer)). answers binary32 (take m b) ∷ l) (batches-more ns n (drop m b))
 
--- a size that is more than what is left is all of that
-as-much : (n : ℕ) (l : List ℕ) (s : Bool) → ltb n (length l) ≡ s → (take (cond s n (length l)) l ≡ take n l) × (drop (cond s n (length l)) l ≡ drop n l)
-as-much n l true e = (refl, refl)
-as-much n l false e =
-    let h = ltb-false n (length l) e in (
-      take-length l ∙ sym (take_all n l h),
-      drop-length l ∙ sym (drop_of_length-le l h),
-    )
-
-pub lesser-least : (n k : ℕ) → lesser n k ≤ k
-lesser-least n k = go (ltb n k) refl
-  where
-    go : (s : Bool) → ltb n k ≡ s → cond s n k ≤ k
-    go true e = omega (arith, ltb-true n k e)
-    go false e = omega arith
-
--- the reports of the first i batches, and where they end
-pub record Reported (sizes b : List ℕ) (i from : ℕ) (so : Report) : Type 0 where
-  pub place : from ≤ length b
-  pub left : drop from b ≡ left_over (take i sizes) b
+-- the reports of the first i batches, and the bytes behind them
+pub record Reported (sizes b : List ℕ) (i : ℕ) (rest : List ℕ) (so : Report) : Type 0 where
+  pub left : rest ≡ left_over (take i sizes) b
   pub report : so ≡ report (batches_in (take i sizes) b)
 
-pub none-reported : (sizes b : List ℕ) (so : Report) → so ≡ report [] → Reported sizes b 0 0 so
+pub none-reported : (sizes b : List ℕ) (so : Report) → so ≡ report [] → Reported sizes b 0 b so
 unfolding left_over batches_in
-none-reported sizes b so is = record { place = omega arith; left = refl; report = is }
+none-reported sizes b so is = record { left = refl; report = is }
 
-pub all-reported : (sizes b : List ℕ) (i from : ℕ) (so : Report) → length sizes ≤ i → Reported sizes b i from so → so ≡ report (batches_in sizes b)
-all-reported sizes b i from so h r = r.report ∙ rw (take_all i sizes h)
+pub all-reported : {sizes b : List ℕ} {i : ℕ} {rest : List ℕ} {so : Report} → length sizes ≤ i → Reported sizes b i rest so → so ≡ report (batches_in sizes b)
+all-reported {sizes} {b} {i} h r = r.report ∙ rw (take_all i sizes h)
 
--- batch i, of n bytes or of all that are left, counted into one
-module _ (sizes b : List ℕ) (i from : ℕ) (so : Report) (before : Reported sizes b i from so) (more : i < length sizes) (m size : ℕ)
-    (much : m ≡ lesser (get_or sizes i 0) (length b - from)) (bytes : size ≡ m) (one : Report)
-    (is : one ≡ counted_all (report ([] ∷ [])) (answers binary32 (take size (drop from b)))) where
-  both-as-much : (take m (drop from b) ≡ take (get_or sizes i 0) (drop from b)) × (drop m (drop from b) ≡ drop (get_or sizes i 0) (drop from b))
-  both-as-much =
-      let l = drop from b in
-      let e : m ≡ lesser (get_or sizes i 0) (length l) = rw (length-drop from b) much in
-      rw e (as-much (get_or sizes i 0) l (ltb (get_or sizes i 0) (length l)) refl)
-
-  pub one-reported : Reported sizes b (i + 1) (from + m) (together so one)
-  one-reported =
-      let n = get_or sizes i 0 in
-      let ns = take i sizes in
-      let cut : take (i + 1) sizes ≡ ns ++ (n ∷ []) = rw add-one (take-suc sizes i 0 more) in
-      let batch : one ≡ report (answers binary32 (take n (left_over ns b)) ∷ []) =
-      is ∙ rw (bytes, both-as-much.0, before.left) (whole-batch (answers binary32 (take n (left_over ns b)))) in
-      record {
-        place = omega (arith, much, lesser-least n (length b - from), before.place);
-        left = sym (drop-drop m from b) ∙ both-as-much.1 ∙ rw (before.left, cut) (sym (left-more ns n b));
-        report = rw (before.report, batch, cut, batches-more ns n b) (sym (report-of-both (batches_in ns b) (answers binary32 (take n (left_over ns b)) ∷ [])));
-      }
+-- batch i, of so many bytes or of all that are left, counted into one
+pub one-reported : {sizes b : List ℕ} {i : ℕ} {rest : List ℕ} {so : Report} → Reported sizes b i rest so → i < length sizes → (one : Report)
+    → one ≡ counted_all (report ([] ∷ [])) (answers binary32 (take (min (length rest) (get_or sizes i 0)) rest))
+    → Reported sizes b (i + 1) (drop (min (length rest) (get_or sizes i 0)) rest) (together so one)
+one-reported {sizes} {b} {i} {rest} {so} before more one is =
+    let n = get_or sizes i 0 in
+    let ns = take i sizes in
+    let cut : take (i + 1) sizes ≡ ns ++ (n ∷ []) = rw add-one (take-suc sizes i 0 more) in
+    let most : min (length rest) n ≡ min n (length rest) = min_comm (length rest) n in
+    let batch : one ≡ report (answers binary32 (take n (left_over ns b)) ∷ []) =
+    rw (most, take_min n rest, before.left) at is ∙ whole-batch (answers binary32 (take n (left_over ns b))) in
+    record {
+      left = rw (most, drop_min n rest, before.left, cut) (sym (left-more ns n b));
+      report = rw (before.report, batch, cut, batches-more ns n b) (sym (report-of-both (batches_in ns b) (answers binary32 (take n (left_over ns b)) ∷ [])));
+    }

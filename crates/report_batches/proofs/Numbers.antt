@@ -1,5 +1,6 @@
 -- Which numbers a block can be refused by: 3 to 11, and 13. A block that passed its checks has 1 to 16 points an outline, so that 1 and 2 cannot occur,
 -- and no sweep that was begun is refused. Assumes nothing.
+use Rattle.std.proofs.Common.{Ok}
 use mathlib.Core.Path.{◌≡◌, refl, ap}
 use mathlib.Core.Bool.{Bool, true, false, not, ◌||◌, ◌&&◌, cond}
 use mathlib.Core.List.{List, [], ◌∷◌, ◌++◌}
@@ -19,9 +20,6 @@ use Rattle.model.specs.declared.Contact.{Contact}
 use Rattle.model.specs.declared.Corners.{Corners}
 use Rattle.model.specs.declared.SweepAnswer.{SweepAnswer}
 use Rattle.model.specs.declared.SweepAnswer.TheVariants as Answered
-use Rattle.model.specs.declared.BlockAnswer.{BlockAnswer}
-use Rattle.model.specs.declared.BlockAnswer.TheVariants.{Refused}
-use Rattle.model.specs.declared.CheckedBlock.TheVariants as Checked
 use Rattle.model.specs.Ground.{one}
 use Rattle.model.specs.Ground as Ground
 use Rattle.model.specs.Separation.{new_separation, find_min_separation, evaluate}
@@ -33,8 +31,8 @@ use Rattle.model.specs.SweepToi.{sweep_by, sweep_time_of_impact}
 use Rattle.model.specs.Corners.{sweep}
 use Rattle.model.specs.Support.{point}
 use Rattle.model.specs.Wire.{byte}
-use Rattle.model.specs.Block.{known_form, check_holds, bad_count, zeros_hold, bad_fields, job_of, block_of, checked_block}
-use Rattle.model.specs.Work.{floats_at, numbers_of, points_a, points_b, move_at, sweep_for, sweep_of, told_by, of_job, answer_by, block_answer}
+use Rattle.model.specs.Block.{known_form, check_holds, bad_count, zeros_hold, bad_fields, job_of, block_of, checked_block, refused}
+use Rattle.model.specs.Work.{floats_at, numbers_of, points_a, points_b, move_at, sweep_for, sweep_of, told_by, of_job, answer_by, block_answer, BlockAnswer}
 use Rattle.model.specs.Blocks.{whole_blocks}
 use Rattle.model.specs.Sheet.{whole_answers, answers}
 use Rattle.model.proofs.Sheet.{answers-cut}
@@ -218,7 +216,7 @@ block-given f b = go (known_form (byte b 6)) (check_holds b) (bad_fields b) refl
   where
     go : (p q r : Bool) → bad_fields b ≡ r
         → NumberGiven
-        (answer_by f b (cond p (cond q (cond r (Checked.Refused (job_of b) 11) (Checked.Good (block_of b))) (Checked.Refused 0 10)) (Checked.Refused 0 13)))
+        (answer_by f b (cond p (cond q (cond r (refused (job_of b) 11) (Ok (block_of b))) (refused 0 10)) (refused 0 13)))
     go true true true e = (omega arith, omega arith, λ h. omega arith)
     go true true false e = good-given f b e
     go true false r e = (omega arith, omega arith, λ h. omega arith)
@@ -235,7 +233,7 @@ unfolding whole_blocks NumbersGiven
 whole-given f zero b = tt
 whole-given f (suc k) b = (block-given f (take 512 b), whole-given f k (drop 512 b))
 
-rest-given : (s : Bool) → NumbersGiven (cond s [] (Refused 0 9 ∷ []))
+rest-given : (s : Bool) → NumbersGiven (cond s [] (refused 0 9 ∷ []))
 unfolding NumbersGiven
 rest-given true = tt
 rest-given false = ((omega arith, omega arith, λ h. omega arith), tt)

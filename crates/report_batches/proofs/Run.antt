@@ -6,10 +6,10 @@ use native.Mathlib.Omega.{arith}
 use borrow.Author.Tests.{lt-ltb, le-ltb}
 use lib.Ieee.{binary32}
 use lib.ListN.{length}
-use Rattle.model.specs.declared.BlockAnswer.{BlockAnswer}
 use Rattle.model.specs.Sheet.{answers}
 use Rattle.model.specs.Parts.{part_size}
 use Rattle.model.specs.Parts as Parts
+use Rattle.model.specs.Work.{BlockAnswer}
 use Rattle.model.proofs.Sheet.{answers-in-two-parts}
 use Rattle.runs.specs.Run.{Cut, Steps}
 use Rattle.runs.proofs.Whole.{run-makes-whole}

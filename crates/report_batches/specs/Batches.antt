@@ -1,9 +1,9 @@
 -- The bytes of batches: a part of one worked into its report, and batches one behind another.
-use Rattle.std.specs.Prelude.{ℕ, cond, List, [], ◌∷◌, ltb, take, drop}
+use Rattle.std.specs.Prelude.{ℕ, List, [], ◌∷◌, take, drop}
 use Rattle.std.specs.Float.{binary32}
-use Rattle.model.specs.declared.BlockAnswer.{BlockAnswer}
 use Rattle.model.specs.Sheet.{answers}
 use Rattle.model.specs.Parts.{is_last}
+use Rattle.model.specs.Work.{BlockAnswer}
 use Rattle.runs.specs.Run.{run}
 use Rattle.report_counts.specs.declared.counting.Report.{Report}
 use Rattle.report_counts.specs.Report.{report, counted_all, together}
@@ -18,9 +18,6 @@ abbrev pub added_parts : Report → List (List ℕ) → Report → Report
 added_parts r ps none = run (λ r p. (added r p).report) (λ r p. (added r p).last) (λ r p. (added r p).report) (λ r p later. later) none r ps
 
 -- ---- batches one behind another
-abbrev pub lesser : ℕ → ℕ → ℕ
-lesser m n = cond (ltb m n) m n
-
 -- the answers of each of so many bytes
 unfoldable pub batches_in : List ℕ → List ℕ → List (List BlockAnswer)
 batches_in [] b = []

@@ -1,13 +1,12 @@
 -- What the rows of a report say of its batches: how they add up, and where the three largest counts stand.
-use Rattle.std.specs.Prelude.{◌≡◌, List, [], ◌∷◌, ◌++◌, ℕ, zero, suc, ◌+◌, ◌≤◌, ◌<◌, length, get_or}
+use Rattle.std.specs.Prelude.{◌≡◌, List, [], ◌∷◌, ◌++◌, ℕ, zero, suc, ◌+◌, ◌≤◌, ◌<◌, length, get_or, Ok, Err, Option, Some, None}
 use Prim.{Unit}
 use Rattle.model.specs.declared.Counts.{Counts}
-use Rattle.model.specs.declared.BlockAnswer.{BlockAnswer}
-use Rattle.model.specs.declared.BlockAnswer.TheVariants.{Worked, Refused}
+use Rattle.model.specs.Block.{refused}
+use Rattle.model.specs.Work.{BlockAnswer}
 use Rattle.report_counts.specs.declared.most.Most.{Most}
-use Rattle.report_counts.specs.declared.most.Most.TheVariants.{Nowhere, At}
 use Rattle.report_counts.specs.declared.most.Largest.{Largest}
-use Rattle.report_counts.specs.Largest.{hold}
+use Rattle.report_counts.specs.Largest.{hold, seen_at}
 
 -- a number that a block can be refused by: 3 to 11, or 13
 abbrev pub Given : ℕ → Type 0
@@ -48,29 +47,29 @@ in_batches i (b ∷ bs) = in_batch (i + 1) 0 b ++ in_batches (i + 1) bs
 
 -- ---- the first of the largest
 -- what a place shows of a count: none where its block was refused
-abbrev pub shown : (Counts → ℕ) → ℕ → ℕ → BlockAnswer → Most
-shown which i j (Worked job v) = At (which v.counts) (hold i) (hold j)
-shown which i j (Refused job number) = Nowhere
+abbrev pub shown : (Counts → ℕ) → ℕ → ℕ → BlockAnswer → Option Most
+shown which i j (Ok w) = seen_at (which w.verdict.counts) (hold i) (hold j)
+shown which i j (Err r) = None
 
-abbrev pub shown_at : (Counts → ℕ) → Place → Most
+abbrev pub shown_at : (Counts → ℕ) → Place → Option Most
 shown_at which p = shown which p.batch p.block p.answer
 
 -- at most n, and below n; what was not worked is both
-abbrev pub AtMost : ℕ → Most → Type 0
-AtMost n Nowhere = Unit {0}
-AtMost n (At m i j) = m ≤ n
+abbrev pub AtMost : ℕ → Option Most → Type 0
+AtMost n None = Unit {0}
+AtMost n (Some s) = s.count ≤ n
 
-abbrev pub Below : ℕ → Most → Type 0
-Below n Nowhere = Unit {0}
-Below n (At m i j) = m < n
+abbrev pub Below : ℕ → Option Most → Type 0
+Below n None = Unit {0}
+Below n (Some s) = s.count < n
 
 abbrev pub nobody : Place
-nobody = placed 0 0 (Refused 0 0)
+nobody = placed 0 0 (refused 0 0)
 
 -- place k shows the maximum, none shows more, and those before it show less; or there is none, and nothing is shown
-pub data Told (which : Counts → ℕ) (ps : List Place) (m : Most) : Type 0 where
-  none : m ≡ Nowhere → ((k : ℕ) → shown_at which (get_or ps k nobody) ≡ Nowhere) → Told which ps m
-  first : (k n i j : ℕ) → m ≡ At n i j → k < length ps → shown_at which (get_or ps k nobody) ≡ At n i j
+pub data Told (which : Counts → ℕ) (ps : List Place) (m : Option Most) : Type 0 where
+  none : m ≡ None → ((k : ℕ) → shown_at which (get_or ps k nobody) ≡ None) → Told which ps m
+  first : (k n i j : ℕ) → m ≡ seen_at n i j → k < length ps → shown_at which (get_or ps k nobody) ≡ seen_at n i j
       → ((l : ℕ) → AtMost n (shown_at which (get_or ps l nobody))) → ((l : ℕ) → l < k → Below n (shown_at which (get_or ps l nobody))) → Told which ps m
 
 -- the three lines

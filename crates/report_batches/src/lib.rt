@@ -6,12 +6,12 @@ ghost use Rattle.std.specs.Float.{binary32};
 ghost use Rattle.model.specs.Block.{block_size};
 ghost use Rattle.model.specs.Sheet.{answers, whole_answers, rest_answer};
 ghost use Rattle.report_counts.specs.Report.{report, counted_all};
-ghost use Rattle.report_batches.specs.Batches.{added, lesser, batches_in};
+ghost use Rattle.report_batches.specs.Batches.{added, batches_in};
 
-use model::{BlockAnswer, PART_SIZE};
+use model::{BlockRefusal, PART_SIZE};
 use report_counts::Report;
 
-// A batch's report so far, and whether the part was its last.
+// A batch's report so far, and whether the part was its last: it holds either way.
 #[derive(Clone, Copy)]
 pub struct Added {
     pub report: Report,
@@ -22,15 +22,9 @@ pub struct Added {
 fn add_blocks(r: Report, part: &[u8]) -> Report
     ensures { result ≡ counted_all r (whole_answers binary32 (length part.now / block_size) part.now) }
 {
-    let k = part.len() / 512;
     let mut so_far = r;
-    let mut i: usize = 0;
-    while i < k {
-        let from = 512 * i;
-        let end = from + 512;
-        let answer = work::answer_block(&part[from..end]);
-        so_far = report_counts::counted(so_far, answer);
-        i += 1;
+    for block in part.chunks_exact(512) {
+        so_far = report_counts::counted(so_far, work::answer_block(block));
     }
     so_far
 }
@@ -42,7 +36,7 @@ fn add_rest(r: Report, rest: usize) -> Report
     if rest == 0 {
         return r;
     }
-    report_counts::counted(r, BlockAnswer::Refused(0, 9))
+    report_counts::counted(r, Err(BlockRefusal { job: 0, number: 9 }))
 }
 
 // All answers of a part counted in.
@@ -64,26 +58,17 @@ pub fn add_part(r: Report, part: &[u8]) -> Added
     }
 }
 
-// The smaller of two.
-fn least(a: usize, b: usize) -> usize
-    ensures { result ≡ lesser a b }
-{
-    if a < b { a } else { b }
-}
-
 // The report of batches that stand one behind another, with so many bytes each; where the bytes end, the batches that are left are empty.
 pub fn report_batches(batches: &[u8], sizes: &[u32]) -> Report
     ensures { result ≡ report (batches_in sizes.now batches.now) }
 {
     let mut so_far = report_counts::empty();
-    let mut from: usize = 0;
-    let mut i: usize = 0;
-    while i < sizes.len() {
-        let end = from + least(sizes[i] as usize, batches.len() - from);
-        let one = add_answers(report_counts::opened(), &batches[from..end]);
+    let mut rest = batches;
+    for size in sizes {
+        let (batch, behind) = rest.split_at(rest.len().min(*size as usize));
+        let one = add_answers(report_counts::opened(), batch);
         so_far = report_counts::merge(so_far, one);
-        from = end;
-        i += 1;
+        rest = behind;
     }
     so_far
 }

@@ -1,7 +1,6 @@
 -- Reports put together: in any order, the empty one as neutral element, and it is the report of both lists; a batch's report by its answers one
 -- after the other. Assumes nothing.
 use Rattle.std.proofs.Common.{◌≡◌, ℕ, ◌+◌, ◌^◌, ◌<◌, List, [], ◌∷◌, ◌++◌, length, get_or, sym, refl, ap, ◌∙◌, append_assoc, append-nil, arith, length-append}
-use Rattle.model.specs.declared.BlockAnswer.{BlockAnswer}
 use Rattle.report_counts.specs.declared.most.Largest.{Largest}
 use Rattle.report_counts.specs.declared.counting.Report.{Report}
 use Rattle.report_counts.specs.Rows.{rows_of, rows_in}
@@ -12,6 +11,7 @@ use Rattle.report_counts.proofs.Tally.{rows_append, sums-tally, bumped-all, get_
 use Rattle.report_counts.proofs.Sums.{Fit, sums-assoc, sums_none, none-sums}
 use Rattle.report_counts.proofs.Places.{each_none, none_each, each-assoc, moved-each, moved-each-twice, moved_nowhere, PlacedEach}
 use Rattle.report_counts.proofs.Places.{moved-each-by-none, from-append, in-append, in_moved}
+use Rattle.model.specs.Work.{BlockAnswer}
 
 same-report : {m n : ℕ} {a b : List ℕ} {s t : Largest} → m ≡ n → a ≡ b → s ≡ t → reported m a s ≡ reported n b t
 same-report p q r = rw (p, q, r)

@@ -1,57 +1,55 @@
 -- The largest counts with their places: the larger of three in any order, none as its neutral element, and moving up. Assumes nothing.
-use Rattle.std.proofs.Common.{◌≡◌, ℕ, suc, ◌+◌, ◌^◌, ◌<◌, Bool, true, false, cond, ltb, List, [], ◌∷◌, ◌++◌, length, sym, refl, ap, ◌∙◌, arith, ltb-false, ltb-true, le-ltb, lt-ltb}
-use Rattle.model.specs.declared.BlockAnswer.{BlockAnswer}
-use Rattle.model.specs.declared.BlockAnswer.TheVariants.{Worked, Refused}
+use Rattle.std.proofs.Common.{◌≡◌, ℕ, suc, ◌+◌, ◌^◌, ◌<◌, Bool, true, false, cond, ltb, List, [], ◌∷◌, ◌++◌, length, sym, refl, ap, ◌∙◌, arith, ltb-false, ltb-true, le-ltb, lt-ltb, Option, Some, None, Ok, Err}
 use Rattle.report_counts.specs.declared.most.Most.{Most}
-use Rattle.report_counts.specs.declared.most.Most.TheVariants.{Nowhere, At}
 use Rattle.report_counts.specs.declared.most.Largest.{Largest}
 use Rattle.report_counts.specs.Largest.{hold, plus, larger, moved, nowhere, larger_each, moved_each, seen, largest_from, largest_in}
 use Rattle.report_counts.proofs.Held.{plus-held, plus_assoc, none-plus}
+use Rattle.model.specs.Work.{BlockAnswer}
 
 -- ---- one count
-larger-none : (a : Most) → larger a Nowhere ≡ a
+larger-none : (a : Option Most) → larger a None ≡ a
 unfolding larger
-larger-none Nowhere = refl
-larger-none (At n i j) = refl
+larger-none None = refl
+larger-none (Some s) = refl
 
-larger-assoc : (a b c : Most) → larger (larger a b) c ≡ larger a (larger b c)
+larger-assoc : (a b c : Option Most) → larger (larger a b) c ≡ larger a (larger b c)
 unfolding larger
-larger-assoc Nowhere b c = refl
-larger-assoc (At n i j) Nowhere c = refl
-larger-assoc (At n i j) (At m k l) Nowhere = larger-none (larger (At n i j) (At m k l))
-larger-assoc (At n i j) (At m k l) (At p q r) = go (ltb n m) (ltb m p) refl refl
+larger-assoc None b c = refl
+larger-assoc (Some s) None c = refl
+larger-assoc (Some s) (Some t) None = larger-none (larger (Some s) (Some t))
+larger-assoc (Some s) (Some t) (Some u) = go (ltb s.count t.count) (ltb t.count u.count) refl refl
   where
-    go : (s u : Bool) → ltb n m ≡ s → ltb m p ≡ u
-        → larger (cond s (At m k l) (At n i j)) (At p q r) ≡ larger (At n i j) (cond u (At p q r) (At m k l))
-    go true true e f = rw (f, lt-ltb n p (omega (arith, ltb-true n m e, ltb-true m p f)))
+    go : (x y : Bool) → ltb s.count t.count ≡ x → ltb t.count u.count ≡ y
+        → larger (cond x (Some t) (Some s)) (Some u) ≡ larger (Some s) (cond y (Some u) (Some t))
+    go true true e f = rw (f, lt-ltb s.count u.count (omega (arith, ltb-true s.count t.count e, ltb-true t.count u.count f)))
     go true false e f = rw (f, e)
     go false true e f = refl
-    go false false e f = rw (e, le-ltb n p (omega (arith, ltb-false n m e, ltb-false m p f)))
+    go false false e f = rw (e, le-ltb s.count u.count (omega (arith, ltb-false s.count t.count e, ltb-false t.count u.count f)))
 
-moved-larger : (by : ℕ) (a b : Most) → moved by (larger a b) ≡ larger (moved by a) (moved by b)
+moved-larger : (by : ℕ) (a b : Option Most) → moved by (larger a b) ≡ larger (moved by a) (moved by b)
 unfolding larger moved
-moved-larger by Nowhere b = refl
-moved-larger by (At n i j) Nowhere = refl
-moved-larger by (At n i j) (At m k l) = go (ltb n m)
+moved-larger by None b = refl
+moved-larger by (Some s) None = refl
+moved-larger by (Some s) (Some t) = go (ltb s.count t.count)
   where
-    go : (s : Bool) → moved by (cond s (At m k l) (At n i j)) ≡ cond s (At m (plus by k) l) (At n (plus by i) j)
+    go : (x : Bool) → moved by (cond x (Some t) (Some s)) ≡ cond x (moved by (Some t)) (moved by (Some s))
     go true = refl
     go false = refl
 
-moved_twice : (x y : ℕ) (a : Most) → moved (plus x y) a ≡ moved x (moved y a)
+moved_twice : (x y : ℕ) (a : Option Most) → moved (plus x y) a ≡ moved x (moved y a)
 unfolding moved
-moved_twice x y Nowhere = refl
-moved_twice x y (At n i j) = rw (plus_assoc x y i)
+moved_twice x y None = refl
+moved_twice x y (Some s) = rw (plus_assoc x y s.batch)
 
 -- its batch fits in 64 bits
-abbrev pub Placed : Most → Type 0
-Placed Nowhere = Unit {0}
-Placed (At n i j) = i < 2 ^ 64
+abbrev pub Placed : Option Most → Type 0
+Placed None = Unit {0}
+Placed (Some s) = s.batch < 2 ^ 64
 
-moved-by-none : (a : Most) → Placed a → moved 0 a ≡ a
+moved-by-none : (a : Option Most) → Placed a → moved 0 a ≡ a
 unfolding moved
-moved-by-none Nowhere h = refl
-moved-by-none (At n i j) h = rw (none-plus i h)
+moved-by-none None h = refl
+moved-by-none (Some s) h = rw (none-plus s.batch h)
 
 -- ---- all three
 pub each_none : (a : Largest) → larger_each a nowhere ≡ a
@@ -112,8 +110,8 @@ in-append i (a ∷ ps) qs =
 -- ---- batches that follow k others are moved up by k
 seen-moved : (k i j : ℕ) (x : BlockAnswer) → seen (hold (k + i)) j x ≡ moved_each (hold k) (seen (hold i) j x)
 unfolding moved
-seen-moved k i j (Refused job number) = refl
-seen-moved k i j (Worked job v) = rw (plus-held k i)
+seen-moved k i j (Err r) = refl
+seen-moved k i j (Ok w) = rw (plus-held k i)
 
 from-moved : (k i n : ℕ) (xs : List BlockAnswer) → largest_from (k + i) n xs ≡ moved_each (hold k) (largest_from i n xs)
 unfolding largest_from

@@ -64,9 +64,6 @@ module _ (a b : List ℕ) (same : length a ≡ length b) where
       ap (λ (l : List ℕ). set l i v) cut ∙ set_at (take i all) (get_or a i 0) (drop (suc i) a) v i front in
       stored ∙ rw (add-one, take-suc all i 0 size, value) (sym (append_snoc (take i all) (get_or all i 0) (drop (suc i) a)))
 
-  pub none-summed : a ≡ sums_to 0
-  none-summed = refl
-
   pub all-summed : (both : List ℕ) (i : ℕ) → length a ≤ i → both ≡ sums_to i → both ≡ sums a b
   all-summed both i h is =
       is ∙ rw (take_all i (sums a b) (omega (arith, length-sums a b same)), drop_of_length-le a h) (append-nil (sums a b))

@@ -1,10 +1,9 @@
 -- Tallies of rows: one row more is one store, two tallies add up to that of both, and every answer is one block. Assumes nothing.
-use Rattle.std.proofs.Common.{◌≡◌, ℕ, zero, suc, ◌+◌, ◌<◌, ◌≤◌, Bool, true, false, cond, eqb, ltb, List, [], ◌∷◌, ◌++◌, length, get_or, set, sym, refl, ap, ◌∙◌, append_assoc, append-nil, arith, ltb-false, eq-eqb, ne_eqb}
+use Rattle.std.proofs.Common.{◌≡◌, ℕ, zero, suc, ◌+◌, ◌<◌, ◌≤◌, Bool, true, false, cond, eqb, ltb, List, [], ◌∷◌, ◌++◌, length, get_or, set, sym, refl, ap, ◌∙◌, append_assoc, append-nil, arith, ltb-false, eq-eqb, ne_eqb, Ok, Err}
 use lib.Ieee.{Float, binary32, of_bits, lt, eq}
 use Rattle.model.specs.declared.Status.{Status}
 use Rattle.model.specs.declared.Status.TheVariants.{Overlapped, Hit, Separated, Failed}
-use Rattle.model.specs.declared.BlockAnswer.{BlockAnswer}
-use Rattle.model.specs.declared.BlockAnswer.TheVariants.{Worked, Refused}
+use Rattle.model.specs.Work.{BlockAnswer}
 use Rattle.report_counts.specs.Rows.{status_row, hit_row, refusal_row, detail_by, group_row, detail_row, rows_in, times_in}
 use Rattle.report_counts.specs.Largest.{hold, plus}
 use Rattle.report_counts.specs.Report.{tally_from, tally, bumped_all, sums}
@@ -111,12 +110,12 @@ refusal-past n = go (eqb n 13) (ltb n 3) (ltb n 12) refl
     go false false false e = omega arith
 
 later : (x : BlockAnswer) → (0 < group_row x) × (0 < detail_row x)
-later (Refused job n) = (omega arith, omega (arith, refusal-past n))
-later (Worked job v) = go v.status
+later (Err r) = (omega arith, omega (arith, refusal-past r.number))
+later (Ok w) = go w.verdict.status
   where
-    go : (s : Status) → (0 < status_row s) × (0 < detail_by s v.contact.fraction)
+    go : (s : Status) → (0 < status_row s) × (0 < detail_by s w.verdict.contact.fraction)
     go Overlapped = (omega arith, omega arith)
-    go Hit = (omega arith, omega (arith, (hit-rows v.contact.fraction).0))
+    go Hit = (omega arith, omega (arith, (hit-rows w.verdict.contact.fraction).0))
     go Separated = (omega arith, omega arith)
     go Failed = (omega arith, omega arith)
 

@@ -1,10 +1,8 @@
 -- The largest count on a worked block, with the first batch and block that has it.
-use Rattle.std.specs.Prelude.{ℕ, ◌+◌, ◌%◌, ◌^◌, cond, List, [], ◌∷◌, nat_lt}
+use Rattle.std.specs.Prelude.{ℕ, ◌+◌, ◌%◌, ◌^◌, cond, List, [], ◌∷◌, nat_lt, Option, Some, None, Ok, Err}
 use Rattle.model.specs.declared.Counts.{Counts}
-use Rattle.model.specs.declared.BlockAnswer.{BlockAnswer}
-use Rattle.model.specs.declared.BlockAnswer.TheVariants.{Worked, Refused}
+use Rattle.model.specs.Work.{BlockAnswer}
 use Rattle.report_counts.specs.declared.most.Most.{Most}
-use Rattle.report_counts.specs.declared.most.Most.TheVariants.{Nowhere, At}
 use Rattle.report_counts.specs.declared.most.Largest.{Largest}
 
 -- a count as 64 bits hold it: below 2 ^ 64 as it is
@@ -14,23 +12,27 @@ hold n = n % 2 ^ 64
 abbrev pub plus : ℕ → ℕ → ℕ
 plus a b = hold (a + b)
 
+-- a count, and the batch and block that has it
+abbrev pub seen_at : ℕ → ℕ → ℕ → Option Most
+seen_at n i j = Some (record { count = n; batch = i; block = j })
+
 -- the first where they are equal; any is larger than none
-unfoldable pub larger : Most → Most → Most
-larger Nowhere b = b
-larger (At n i j) Nowhere = At n i j
-larger (At n i j) (At m k l) = cond (nat_lt n m) (At m k l) (At n i j)
+unfoldable pub larger : Option Most → Option Most → Option Most
+larger None b = b
+larger (Some s) None = Some s
+larger (Some s) (Some t) = cond (nat_lt s.count t.count) (Some t) (Some s)
 
 -- its batch moved up
-unfoldable pub moved : ℕ → Most → Most
-moved by Nowhere = Nowhere
-moved by (At n i j) = At n (plus by i) j
+unfoldable pub moved : ℕ → Option Most → Option Most
+moved by None = None
+moved by (Some s) = seen_at s.count (plus by s.batch) s.block
 
 -- ---- the three counts
-abbrev pub largest : Most → Most → Most → Largest
+abbrev pub largest : Option Most → Option Most → Option Most → Largest
 largest calls searches steps = record { calls = calls; searches = searches; steps = steps }
 
 abbrev pub nowhere : Largest
-nowhere = largest Nowhere Nowhere Nowhere
+nowhere = largest None None None
 
 abbrev pub larger_each : Largest → Largest → Largest
 larger_each a b = largest (larger a.calls b.calls) (larger a.searches b.searches) (larger a.steps b.steps)
@@ -39,12 +41,12 @@ abbrev pub moved_each : ℕ → Largest → Largest
 moved_each by a = largest (moved by a.calls) (moved by a.searches) (moved by a.steps)
 
 abbrev pub at : ℕ → ℕ → Counts → Largest
-at i j n = largest (At n.distance_calls i j) (At n.searches i j) (At n.root_steps i j)
+at i j n = largest (seen_at n.distance_calls i j) (seen_at n.searches i j) (seen_at n.root_steps i j)
 
 -- of one answer, as block j of batch i; a refused one was not worked
 abbrev pub seen : ℕ → ℕ → BlockAnswer → Largest
-seen i j (Worked job v) = at i j v.counts
-seen i j (Refused job number) = nowhere
+seen i j (Ok w) = at i j w.verdict.counts
+seen i j (Err r) = nowhere
 
 -- of batch i's answers that follow n others
 unfoldable pub largest_from : ℕ → ℕ → List BlockAnswer → Largest

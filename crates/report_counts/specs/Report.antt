@@ -1,10 +1,10 @@
 -- The report of a list of batches, each the list of its answers; one answer more; and two reports put together.
 use Rattle.std.specs.Prelude.{ℕ, zero, suc, List, [], ◌∷◌, ◌++◌, length, slice_index, slice_set}
-use Rattle.model.specs.declared.BlockAnswer.{BlockAnswer}
 use Rattle.report_counts.specs.declared.most.Largest.{Largest}
 use Rattle.report_counts.specs.declared.counting.Report.{Report}
 use Rattle.report_counts.specs.Rows.{row_count, rows_of, rows_in, times_in}
 use Rattle.report_counts.specs.Largest.{hold, plus, larger_each, moved_each, seen, largest_in}
+use Rattle.model.specs.Work.{BlockAnswer}
 
 abbrev pub reported : ℕ → List ℕ → Largest → Report
 reported batches counts most = record { batches = batches; counts = counts; largest = most }

@@ -1,13 +1,12 @@
 -- Which rows of a report count an answer. The rows: 0 blocks, 1 clear, 2 overlapped, 3 failed, 4 hit, 5 to 16 hits by their fraction, 17 refused,
 -- 18 to 27 refused by their number.
-use Rattle.std.specs.Prelude.{ℕ, ◌+◌, cond, List, [], ◌∷◌, ◌++◌, ◌==◌, from_bits, nat_lt, Float}
+use Rattle.std.specs.Prelude.{ℕ, ◌+◌, cond, List, [], ◌∷◌, ◌++◌, ◌==◌, from_bits, nat_lt, Float, Ok, Err}
 use Rattle.std.specs.Float.{binary32}
 use Rattle.std.specs.Float.Ieee.{lt, eq}
 use Rattle.model.specs.declared.Status.{Status}
 use Rattle.model.specs.declared.Status.TheVariants.{Overlapped, Hit, Separated, Failed}
 use Rattle.model.specs.declared.Verdict.{Verdict}
-use Rattle.model.specs.declared.BlockAnswer.{BlockAnswer}
-use Rattle.model.specs.declared.BlockAnswer.TheVariants.{Worked, Refused}
+use Rattle.model.specs.Work.{BlockAnswer}
 
 abbrev pub row_count : ℕ
 row_count = 28
@@ -51,12 +50,12 @@ abbrev pub verdict_detail : Verdict → ℕ
 verdict_detail v = detail_by v.status v.contact.fraction
 
 abbrev pub group_row : BlockAnswer → ℕ
-group_row (Worked job v) = status_row v.status
-group_row (Refused job number) = 17
+group_row (Ok w) = status_row w.verdict.status
+group_row (Err r) = 17
 
 abbrev pub detail_row : BlockAnswer → ℕ
-detail_row (Worked job v) = verdict_detail v
-detail_row (Refused job number) = refusal_row number
+detail_row (Ok w) = verdict_detail w.verdict
+detail_row (Err r) = refusal_row r.number
 
 -- among the blocks, by status or refusal, by fraction or number
 abbrev pub rows_of : BlockAnswer → List ℕ

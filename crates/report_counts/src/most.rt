@@ -5,41 +5,52 @@ ghost use Rattle.report_counts.specs.Largest as Specs;
 use model::BlockAnswer;
 use std::num::wrapping_add_u64;
 
-// No worked block; or a count, and the first batch and block that has it, from 1.
+// A count, and the first batch and block that has it, from 1.
 #[derive(Clone, Copy)]
-pub enum Most {
-    Nowhere,
-    At(u32, u64, u64),
+pub struct Most {
+    pub count: u32,
+    pub batch: u64,
+    pub block: u64,
 }
 
-// The most distance calls, separation searches and root steps.
+// The most distance calls, separation searches and root steps; none where no block was worked.
 #[derive(Clone, Copy)]
 pub struct Largest {
-    pub calls: Most,
-    pub searches: Most,
-    pub steps: Most,
+    pub calls: Option<Most>,
+    pub searches: Option<Most>,
+    pub steps: Option<Most>,
+}
+
+fn seen_at(count: u32, batch: u64, block: u64) -> Option<Most>
+    ensures { result ≡ Specs.seen_at count batch block }
+{
+    Some(Most {
+        count,
+        batch,
+        block,
+    })
 }
 
 // The larger of two, the first where they are equal; any is larger than none.
-fn larger(a: Most, b: Most) -> Most
+fn larger(a: Option<Most>, b: Option<Most>) -> Option<Most>
     ensures { result ≡ Specs.larger a b }
 {
     match a {
-        Most::Nowhere => b,
-        Most::At(n, _, _) => match b {
-            Most::Nowhere => a,
-            Most::At(m, _, _) => { if n < m { b } else { a } }
+        None => b,
+        Some(s) => match b {
+            None => a,
+            Some(t) => { if s.count < t.count { b } else { a } }
         },
     }
 }
 
 // The same with its batch moved up.
-fn moved(by: u64, m: Most) -> Most
+fn moved(by: u64, m: Option<Most>) -> Option<Most>
     ensures { result ≡ Specs.moved by m }
 {
     match m {
-        Most::Nowhere => Most::Nowhere,
-        Most::At(n, batch, block) => Most::At(n, wrapping_add_u64(by, batch), block),
+        None => None,
+        Some(s) => seen_at(s.count, wrapping_add_u64(by, s.batch), s.block),
     }
 }
 
@@ -81,9 +92,9 @@ pub fn nowhere() -> Largest
     ensures { result ≡ Specs.nowhere }
 {
     Largest {
-        calls: Most::Nowhere,
-        searches: Most::Nowhere,
-        steps: Most::Nowhere,
+        calls: None,
+        searches: None,
+        steps: None,
     }
 }
 
@@ -92,14 +103,14 @@ pub fn seen(block: u64, answer: BlockAnswer) -> Largest
     ensures { result ≡ Specs.seen 1 block answer }
 {
     match answer {
-        BlockAnswer::Worked(_, verdict) => {
-            let counts = verdict.counts;
+        Ok(worked) => {
+            let counts = worked.verdict.counts;
             Largest {
-                calls: Most::At(counts.distance_calls, 1, block),
-                searches: Most::At(counts.searches, 1, block),
-                steps: Most::At(counts.root_steps, 1, block),
+                calls: seen_at(counts.distance_calls, 1, block),
+                searches: seen_at(counts.searches, 1, block),
+                steps: seen_at(counts.root_steps, 1, block),
             }
         }
-        BlockAnswer::Refused(_, _) => nowhere(),
+        Err(_) => nowhere(),
     }
 }

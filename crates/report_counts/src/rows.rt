@@ -4,7 +4,7 @@ ghost use Rattle.report_counts.specs.Rows.{status_row, hit_row, refusal_row, ver
 
 use model::{BlockAnswer, Status, Verdict};
 
-// The row that stands for none.
+// The row that stands for none. A number, and no Option: `refusal_row` and `detail_by`, on which the sums of the rows rest, say so.
 const NO_ROW: usize = 28;
 
 // The row of a status.
@@ -93,11 +93,8 @@ pub fn group_row(answer: BlockAnswer) -> usize
     ensures { result ≡ group_row answer }
 {
     match answer {
-        BlockAnswer::Worked(_, verdict) => {
-            let status = verdict.status;
-            status_row(status)
-        }
-        BlockAnswer::Refused(_, _) => 17,
+        Ok(worked) => status_row(worked.verdict.status),
+        Err(_) => 17,
     }
 }
 
@@ -106,7 +103,7 @@ pub fn detail_row(answer: BlockAnswer) -> usize
     ensures { result ≡ detail_row answer }
 {
     match answer {
-        BlockAnswer::Worked(_, verdict) => verdict_detail(verdict),
-        BlockAnswer::Refused(_, number) => refusal_row(number),
+        Ok(worked) => verdict_detail(worked.verdict),
+        Err(refusal) => refusal_row(refusal.number),
     }
 }

@@ -12,10 +12,8 @@ fn sums(a: [u64; ROWS], b: [u64; ROWS]) -> [u64; ROWS]
     ensures { result ≡ Specs.sums a b }
 {
     let mut both = a;
-    let mut i: usize = 0;
-    while i < ROWS {
-        both[i] = wrapping_add_u64(both[i], b[i]);
-        i += 1;
+    for (i, n) in b.iter().enumerate() {
+        both[i] = wrapping_add_u64(both[i], *n);
     }
     both
 }

@@ -1,4 +1,5 @@
 -- The report's rows of hits and refusals and its three largest counts are what a reader finds on the printed lines. Assumes nothing.
+use Rattle.std.proofs.Common.{Ok, Err, Option, None}
 use mathlib.Core.Path.{◌≡◌, refl, sym, ap, ◌∙◌}
 use mathlib.Core.Bool.{Bool, true, false, cond, ◌&&◌}
 use mathlib.Core.List.{List, [], ◌∷◌, ◌++◌, map, map-append}
@@ -15,18 +16,17 @@ use Rattle.model.specs.declared.Status.{Status}
 use Rattle.model.specs.declared.Status.TheVariants.{Overlapped, Hit, Separated, Failed}
 use Rattle.model.specs.declared.Counts.{Counts}
 use Rattle.model.specs.declared.Verdict.{Verdict}
-use Rattle.model.specs.declared.BlockAnswer.{BlockAnswer}
-use Rattle.model.specs.declared.BlockAnswer.TheVariants.{Worked, Refused}
 use Rattle.model.specs.Text.{decimal, hex_by}
 use Rattle.model.specs.Sheet.{letter_of, worked_fields, corner_fields, worked_line, refused_line, answer_line, answers}
 use Rattle.model.specs.Counted.{lines_one_by_one, sheet_lines}
+use Rattle.model.specs.Block.{refused}
+use Rattle.model.specs.Work.{BlockAnswer}
 use Rattle.model.proofs.Counted.{letter-printed, a-line-each}
 use Rattle.model.proofs.SweepToi.{at-most-160-searches, at-most-8000-root-steps}
 use Rattle.text.proofs.ReadBack.{Digits, decimal-digits, hex-digits}
 use Rattle.numerals.specs.Numerals.{said_from, word_from}
 use Rattle.numerals.proofs.Numerals.{print-says, hex-says}
 use Rattle.report_counts.specs.declared.most.Most.{Most}
-use Rattle.report_counts.specs.declared.most.Most.TheVariants.{Nowhere}
 use Rattle.report_counts.specs.Rows.{status_row, hit_row, refusal_row, detail_by, detail_row, rows_of, rows_in, times_in}
 use Rattle.report_counts.specs.Largest.{hold}
 use Rattle.report_counts.specs.Report.{every_answer, report}
@@ -135,19 +135,19 @@ detail-alone : (row g d : ℕ) → 5 ≤ row → (g ≡ row → ⊥) → times_i
 detail-alone row g d low apart = once row 0 (g ∷ d ∷ []) (λ e. omega arith) ∙ once row g (d ∷ []) apart ∙ alone row d
 
 hit-agrees : (row : ℕ) → 5 ≤ row → row ≤ 16 → (n : ℕ) (x : BlockAnswer) → Fair x → times_in row (rows_of x) ≡ cond (is_hit_in row (answer_line binary32 n x)) 1 0
-hit-agrees row low high n (Worked job v) h =
-    rw (letter-printed binary32 n (Worked job v), fraction-printed n job v h.fitting) (go v.status)
+hit-agrees row low high n (Ok w) h =
+    rw (letter-printed binary32 n (Ok w), fraction-printed n w.job w.verdict h.fitting) (go w.verdict.status)
   where
-    go : (s : Status) → times_in row (0 ∷ status_row s ∷ detail_by s v.contact.fraction ∷ [])
-        ≡ cond (eqb (letter_of s) 72 && eqb (hit_row v.contact.fraction) row) 1 0
+    go : (s : Status) → times_in row (0 ∷ status_row s ∷ detail_by s w.verdict.contact.fraction ∷ [])
+        ≡ cond (eqb (letter_of s) 72 && eqb (hit_row w.verdict.contact.fraction) row) 1 0
     go Overlapped = detail-alone row 2 28 low (λ e. omega arith) ∙ rw (ne_eqb 28 row (λ e. omega arith))
-    go Hit = detail-alone row 4 (hit_row v.contact.fraction) low (λ e. omega arith)
+    go Hit = detail-alone row 4 (hit_row w.verdict.contact.fraction) low (λ e. omega arith)
     go Separated = detail-alone row 1 28 low (λ e. omega arith) ∙ rw (ne_eqb 28 row (λ e. omega arith))
     go Failed = detail-alone row 3 28 low (λ e. omega arith) ∙ rw (ne_eqb 28 row (λ e. omega arith))
-hit-agrees row low high n (Refused job number) h =
-    rw (letter-printed binary32 n (Refused job number))
-    (detail-alone row 17 (refusal_row number) low (λ e. omega arith)
-    ∙ rw (ne_eqb (refusal_row number) row (λ e. omega (arith, refusal-past number))))
+hit-agrees row low high n (Err r) h =
+    rw (letter-printed binary32 n (Err r))
+    (detail-alone row 17 (refusal_row r.number) low (λ e. omega arith)
+    ∙ rw (ne_eqb (refusal_row r.number) row (λ e. omega (arith, refusal-past r.number))))
 
 -- ---- one line: a refusal
 row_is : (n : ℕ) → Given n → refusal_row n ≡ cond (eqb n 13) 27 (n + 15)
@@ -197,20 +197,20 @@ status-small Failed = omega arith
 
 refusal-agrees : (k : ℕ) → Given k → (n : ℕ) (x : BlockAnswer) → Fair x → times_in (refusal_row k) (rows_of x) ≡ cond (is_refused_by k (answer_line binary32 n x)) 1 0
 unfolding said_from
-refusal-agrees k g n (Worked job v) h =
+refusal-agrees k g n (Ok w) h =
     let range = row-range k g in
-    let none : refusal_printed (worked_line binary32 n job v) ≡ 0 = ap (said_from 0) (worked-field n job v 2 (omega arith)) in
-    let group : status_row v.status ≡ refusal_row k → ⊥ = λ e. omega (arith, range.0, status-small v.status) in
-    let detail : detail_row (Worked job v) ≡ refusal_row k → ⊥ =
-    λ e. ⊎_elim (λ p. omega (arith, p, e, range.0)) (λ p. omega (arith, p, e, range.1)) (detail-small v.status v.contact.fraction) in
+    let none : refusal_printed (worked_line binary32 n w.job w.verdict) ≡ 0 = ap (said_from 0) (worked-field n w.job w.verdict 2 (omega arith)) in
+    let group : status_row w.verdict.status ≡ refusal_row k → ⊥ = λ e. omega (arith, range.0, status-small w.verdict.status) in
+    let detail : detail_row (Ok w) ≡ refusal_row k → ⊥ =
+    λ e. ⊎_elim (λ p. omega (arith, p, e, range.0)) (λ p. omega (arith, p, e, range.1)) (detail-small w.verdict.status w.verdict.contact.fraction) in
     rw (none, ne_eqb 0 k (λ e. omega (arith, g.0, e)))
-    (detail-alone (refusal_row k) (status_row v.status) (detail_row (Worked job v)) (omega (arith, range.0)) group
-    ∙ rw (ne_eqb (detail_row (Worked job v)) (refusal_row k) detail))
-refusal-agrees k g n (Refused job number) h =
+    (detail-alone (refusal_row k) (status_row w.verdict.status) (detail_row (Ok w)) (omega (arith, range.0)) group
+    ∙ rw (ne_eqb (detail_row (Ok w)) (refusal_row k) detail))
+refusal-agrees k g n (Err r) h =
     let range = row-range k g in
-    rw (refusal-printed n job number h.1)
-    (detail-alone (refusal_row k) 17 (refusal_row number) (omega (arith, range.0)) (λ e. omega (arith, range.0, e))
-    ∙ ap (λ (t : Bool). cond t 1 0) (same_test number k h g))
+    rw (refusal-printed n r.job r.number h.1)
+    (detail-alone (refusal_row k) 17 (refusal_row r.number) (omega (arith, range.0)) (λ e. omega (arith, range.0, e))
+    ∙ ap (λ (t : Bool). cond t 1 0) (same_test r.number k h g))
 
 -- ---- the lines of a file, and of files
 module _ (row : ℕ) (p : List ℕ → Bool) (agrees : (n : ℕ) (x : BlockAnswer) → Fair x → times_in row (rows_of x) ≡ cond (p (answer_line binary32 n x)) 1 0) where
@@ -257,10 +257,10 @@ module _ (row : ℕ) (p : List ℕ → Bool) (agrees : (n : ℕ) (x : BlockAnswe
 -- ---- the largest counts
 -- of what lines show, as of what places show
 shown-at : (which : Counts → ℕ) (ps : List Place) (k : ℕ)
-    → get_or (map (shown_at which) ps) k Nowhere ≡ shown_at which (get_or ps k (record { batch = 0; block = 0; answer = Refused 0 0 }))
-shown-at which ps k = get_or-map (shown_at which) ps k (record { batch = 0; block = 0; answer = Refused 0 0 })
+    → get_or (map (shown_at which) ps) k None ≡ shown_at which (get_or ps k (record { batch = 0; block = 0; answer = refused 0 0 }))
+shown-at which ps k = get_or-map (shown_at which) ps k (record { batch = 0; block = 0; answer = refused 0 0 })
 
-told-first : (which : Counts → ℕ) (ps : List Place) (m : Most) → Told which ps m → FirstLargest (map (shown_at which) ps) m
+told-first : (which : Counts → ℕ) (ps : List Place) (m : Option Most) → Told which ps m → FirstLargest (map (shown_at which) ps) m
 told-first which ps m (OfPlaces.none is quiet) = none is (λ k. shown-at which ps k ∙ quiet k)
 told-first which ps m (OfPlaces.first k n i j is inside here most less) =
     first k n i j is (rw (length-map ps (shown_at which)) inside) (shown-at which ps k ∙ here) (λ l. rw (shown-at which ps l) (most l))
@@ -295,20 +295,20 @@ printed i l = record { sheet = i; line = l }
 
 module _ (k : ℕ) (which : Counts → ℕ) (says : Says k which) where
   line-shows : (i n : ℕ) (x : BlockAnswer) → Fair x → i < 2 ^ 64 → n < 2 ^ 64 → shown_at which (placed i n x) ≡ shows k (printed i (answer_line binary32 n x))
-  line-shows i n (Worked job v) h few small =
-      let number : block_printed (worked_line binary32 n job v) ≡ n = number-printed n job v 0 n (omega arith) refl (omega arith) in
+  line-shows i n (Ok w) h few small =
+      let number : block_printed (worked_line binary32 n w.job w.verdict) ≡ n = number-printed n w.job w.verdict 0 n (omega arith) refl (omega arith) in
       let sheet : hold i ≡ i = mod-eq_of_lt few in
       let block : hold n ≡ n = mod-eq_of_lt small in
-      rw (letter-printed binary32 n (Worked job v), letter-is-some v.status, says n job v h, number, sheet, block)
-  line-shows i n (Refused job number) h few small = rw (letter-printed binary32 n (Refused job number))
+      rw (letter-printed binary32 n (Ok w), letter-is-some w.verdict.status, says n w.job w.verdict h, number, sheet, block)
+  line-shows i n (Err r) h few small = rw (letter-printed binary32 n (Err r))
 
   sheet-shows : (i n : ℕ) (xs : List BlockAnswer) → EachFair xs → i < 2 ^ 64 → n + length xs < 2 ^ 64
       → map (shown_at which) (in_batch i n xs) ≡ map (shows k) (on_sheet i (lines_one_by_one binary32 n xs))
   unfolding in_batch on_sheet lines_one_by_one EachFair
   sheet-shows i n [] h few small = refl
   sheet-shows i n (x ∷ xs) h few small =
-      ap (λ (m : Most). m ∷ map (shown_at which) (in_batch i (n + 1) xs)) (line-shows i (n + 1) x h.0 few (omega arith))
-      ∙ ap (λ (ms : List Most). shows k (printed i (answer_line binary32 (n + 1) x)) ∷ ms) (sheet-shows i (n + 1) xs h.1 few (omega arith))
+      ap (λ (m : Option Most). m ∷ map (shown_at which) (in_batch i (n + 1) xs)) (line-shows i (n + 1) x h.0 few (omega arith))
+      ∙ ap (λ (ms : List (Option Most)). shows k (printed i (answer_line binary32 (n + 1) x)) ∷ ms) (sheet-shows i (n + 1) xs h.1 few (omega arith))
 
   files-show : (i : ℕ) (files : List (List ℕ)) → i + length files < 2 ^ 64 → length (all_lines files) < 2 ^ 64
       → map (shown_at which) (in_batches i (answers_of files)) ≡ map (shows k) (printed_behind i files)
@@ -319,12 +319,12 @@ module _ (k : ℕ) (which : Counts → ℕ) (says : Says k which) where
       let all : length (sheet_lines binary32 b) + length (all_lines bs) < 2 ^ 64 = rw (length-append (sheet_lines binary32 b) (all_lines bs)) at small in
       let each : length (sheet_lines binary32 b) ≡ length xs = a-line-each binary32 0 xs in
       map-append (shown_at which) (in_batch (i + 1) 0 xs) (in_batches (i + 1) (answers_of bs))
-      ∙ ap (λ (ms : List Most). ms ++ map (shown_at which) (in_batches (i + 1) (answers_of bs)))
+      ∙ ap (λ (ms : List (Option Most)). ms ++ map (shown_at which) (in_batches (i + 1) (answers_of bs)))
       (sheet-shows (i + 1) 0 xs (file-fair b) (omega arith) (omega (arith, all, each)))
-      ∙ ap (λ (ms : List Most). map (shows k) (on_sheet (i + 1) (sheet_lines binary32 b)) ++ ms) (files-show (i + 1) bs (omega arith) (omega (arith, all)))
+      ∙ ap (λ (ms : List (Option Most)). map (shows k) (on_sheet (i + 1) (sheet_lines binary32 b)) ++ ms) (files-show (i + 1) bs (omega arith) (omega (arith, all)))
       ∙ sym (map-append (shows k) (on_sheet (i + 1) (sheet_lines binary32 b)) (printed_behind (i + 1) bs))
 
-  largest-shown : (files : List (List ℕ)) (m : Most) → length files < 2 ^ 64 → length (all_lines files) < 2 ^ 64 → Told which (in_batches 0 (answers_of files)) m
+  largest-shown : (files : List (List ℕ)) (m : Option Most) → length files < 2 ^ 64 → length (all_lines files) < 2 ^ 64 → Told which (in_batches 0 (answers_of files)) m
       → FirstLargest (map (shows k) (printed_behind 0 files)) m
   largest-shown files m few small told = rw (← files-show 0 files (omega arith) small) (told-first which (in_batches 0 (answers_of files)) m told)
 

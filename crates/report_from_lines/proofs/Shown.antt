@@ -1,4 +1,5 @@
 -- Two printed lines, read by computing. Assumes nothing.
+use Rattle.std.proofs.Common.{None}
 use mathlib.Core.Path.{◌≡◌, refl}
 use mathlib.Core.List.{List, [], ◌∷◌}
 use Prim.Native.Nat.{ℕ}
@@ -6,8 +7,8 @@ use lib.Ieee.{of_bits, lt, eq}
 use Rattle.model.specs.Text.{decimal_by, decimal, hex_by, line}
 use Rattle.model.specs.Counted.{after_blanks}
 use Rattle.numerals.specs.Numerals.{said_from, word_from}
-use Rattle.report_counts.specs.declared.most.Most.TheVariants.{Nowhere, At}
 use Rattle.report_counts.specs.Rows.{hit_row}
+use Rattle.report_counts.specs.Largest.{seen_at}
 use Rattle.report_from_lines.specs.Printed.{up_to_blank, calls_field, searches_field, steps_field, count_of, is_hit_in, is_refused_by, Printed, shows}
 
 -- 5 2113 0 H 3F000000 .. 20 6 117 0 0 1 1: a hit at one half
@@ -37,7 +38,7 @@ pub refusal-row : (count_of (is_refused_by 10) both ≡ 1) × (count_of (is_refu
 unfolding count_of line decimal_by hex_by after_blanks up_to_blank said_from
 refusal-row = (refl, refl)
 
-pub counts-shown : (shows calls_field (third hit_line) ≡ At 20 3 5) × (shows searches_field (third hit_line) ≡ At 6 3 5)
-    × (shows steps_field (third hit_line) ≡ At 117 3 5) × (shows calls_field (third refused_line) ≡ Nowhere)
+pub counts-shown : (shows calls_field (third hit_line) ≡ seen_at 20 3 5) × (shows searches_field (third hit_line) ≡ seen_at 6 3 5)
+    × (shows steps_field (third hit_line) ≡ seen_at 117 3 5) × (shows calls_field (third refused_line) ≡ None)
 unfolding line decimal_by hex_by after_blanks up_to_blank said_from
 counts-shown = (refl, refl, refl, refl)

@@ -1,4 +1,5 @@
 -- What is known of every answer of a file: its counts are small, its fraction is one of binary32, and a refusal has a number of the list. Assumes nothing.
+use Rattle.std.proofs.Common.{Result, Ok, Err}
 use mathlib.Core.Bool.{Bool, true, false, cond}
 use mathlib.Core.List.{List, [], ◌∷◌, map}
 use Prim.Native.Nat.{ℕ, zero, suc, ◌+◌, ◌%◌}
@@ -8,8 +9,7 @@ use lib.Ieee.Fits.{cond-fits, nan-fits, add-fits, mul-fits}
 use lib.Ieee.Bits.{of_bits-fits}
 use lib.ListN.{length, get_or}
 use Rattle.model.specs.declared.Block.{Block}
-use Rattle.model.specs.declared.CheckedBlock.{CheckedBlock}
-use Rattle.model.specs.declared.CheckedBlock.TheVariants as Checked
+use Rattle.model.specs.declared.BlockRefusal.{BlockRefusal}
 use Rattle.model.specs.declared.Sweep.{Sweep}
 use Rattle.model.specs.declared.SweepTask.{SweepTask}
 use Rattle.model.specs.declared.SimplexCache.{SimplexCache}
@@ -22,8 +22,6 @@ use Rattle.model.specs.declared.Contact.{Contact}
 use Rattle.model.specs.declared.SweepAnswer.{SweepAnswer}
 use Rattle.model.specs.declared.SweepAnswer.TheVariants.{Overlapped, Hit, Separated, Failed}
 use Rattle.model.specs.declared.SweepAnswer.TheVariants as Answered
-use Rattle.model.specs.declared.BlockAnswer.{BlockAnswer}
-use Rattle.model.specs.declared.BlockAnswer.TheVariants.{Worked, Refused}
 use Rattle.model.specs.Ground.{abs}
 use Rattle.model.specs.Ground as Ground
 use Rattle.model.specs.Support.{point}
@@ -32,9 +30,9 @@ use Rattle.model.specs.SweepToi.{PushEnd, ended, moved, onward, max_root_iterati
 use Rattle.model.specs.SweepToi.{found, tried, low, high, closest_at, root_from, push_from, advance_by, advance_from}
 use Rattle.model.specs.SweepToi.{sweep_task, sweep_refusal, sweep_by, sweep_time_of_impact}
 use Rattle.model.specs.Corners.{sweep}
-use Rattle.model.specs.Block.{checked_block}
+use Rattle.model.specs.Block.{checked_block, refused}
 use Rattle.model.specs.Blocks.{blocks}
-use Rattle.model.specs.Work.{floats_at, numbers_of, points_a, points_b, move_at, sweep_for, sweep_of, told_by, of_job, answer_by, block_answer}
+use Rattle.model.specs.Work.{floats_at, numbers_of, points_a, points_b, move_at, sweep_for, sweep_of, told_by, of_job, answer_by, block_answer, BlockAnswer}
 use Rattle.model.specs.Sheet.{answer_of, answers}
 use Rattle.model.proofs.SweepToi.{Bounded, Counted, sweep-counts-bounded}
 use Rattle.report_counts.proofs.Tally.{by-test}
@@ -162,8 +160,8 @@ pub record Small (counts : Counts) (fraction : Float) : Type 0 where
   pub fitting : T (fits binary32 fraction)
 
 abbrev SmallAnswer : BlockAnswer → Type 0
-SmallAnswer (Worked job v) = Small v.counts v.contact.fraction
-SmallAnswer (Refused job number) = Unit {0}
+SmallAnswer (Ok w) = Small w.verdict.counts w.verdict.contact.fraction
+SmallAnswer (Err r) = Unit {0}
 
 told-small : (job : ℕ) (k : Corners) (x : SweepAnswer) → Counted x → Fitting binary32 x → SmallAnswer (of_job job (told_by binary32 k x))
 unfolding Fitting
@@ -183,9 +181,9 @@ sweep-small job b k =
     (sweep-fits binary32 (points_a b k) (point ns 0).x (move_at ns 2) (points_b b k) (point ns 0).y (move_at ns 7) (point ns 1).x (point ns 1).y
     (floats-fit b 8 24 2))
 
-checked-small : (b : List ℕ) (c : CheckedBlock) → SmallAnswer (answer_by binary32 b c)
-checked-small b (Checked.Good k) = sweep-small k.job b k
-checked-small b (Checked.Refused job number) = tt
+checked-small : (b : List ℕ) (c : Result Block BlockRefusal) → SmallAnswer (answer_by binary32 b c)
+checked-small b (Ok k) = sweep-small k.job b k
+checked-small b (Err r) = tt
 
 block-small : (b : List ℕ) → SmallAnswer (block_answer binary32 b)
 unfolding block_answer
@@ -194,8 +192,8 @@ block-small b = checked-small b (checked_block b)
 -- ---- a file
 -- what is known of an answer: of a worked one that it is small, of a refused one its number
 abbrev pub Fair : BlockAnswer → Type 0
-Fair (Worked job v) = Small v.counts v.contact.fraction
-Fair (Refused job number) = Given number
+Fair (Ok w) = Small w.verdict.counts w.verdict.contact.fraction
+Fair (Err r) = Given r.number
 
 unfoldable pub EachFair : List BlockAnswer → Type 0
 EachFair [] = Unit {0}
@@ -203,14 +201,14 @@ EachFair (x ∷ xs) = Fair x × EachFair xs
 
 fair : (x : BlockAnswer) → SmallAnswer x → NumbersGiven (x ∷ []) → Fair x
 unfolding NumbersGiven
-fair (Worked job v) s g = s
-fair (Refused job number) s g = g.0
+fair (Ok w) s g = s
+fair (Err r) s g = g.0
 
 each-fair : (bs : List (List ℕ)) → NumbersGiven (map (answer_of binary32) bs) → EachFair (map (answer_of binary32) bs)
 unfolding EachFair NumbersGiven
 each-fair [] g = tt
 each-fair (b ∷ bs) g = (
-  fair (answer_of binary32 b) (by-test SmallAnswer (eqb (length b) 512) (block_answer binary32 b) (Refused 0 9) (block-small b) tt) (g.0, tt),
+  fair (answer_of binary32 b) (by-test SmallAnswer (eqb (length b) 512) (block_answer binary32 b) (refused 0 9) (block-small b) tt) (g.0, tt),
   each-fair bs g.1,
 )
 

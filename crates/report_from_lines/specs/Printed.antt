@@ -1,14 +1,14 @@
 -- What a reader finds on the printed lines of sheets: the fields of a line, the lines that he counts, and the largest number that one shows. A line is
 -- looked at as text alone.
-use Rattle.std.specs.Prelude.{◌≡◌, ℕ, ◌+◌, ◌≤◌, ◌<◌, Bool, cond, ◌&&◌, List, [], ◌∷◌, ◌++◌, map, eqb, ltb, length, get_or, Float}
+use Rattle.std.specs.Prelude.{◌≡◌, ℕ, ◌+◌, ◌≤◌, ◌<◌, Bool, cond, ◌&&◌, List, [], ◌∷◌, ◌++◌, map, eqb, ltb, length, get_or, Float, Option, Some, None}
 use Rattle.std.specs.Float.{binary32}
 use Rattle.std.specs.Float.Ieee.{of_bits}
 use Rattle.model.specs.Counted.{after_blanks, printed_letter, sheet_lines}
 use Rattle.numerals.specs.Numerals.{said_from, word_from}
 use Rattle.report_counts.specs.declared.most.Most.{Most}
-use Rattle.report_counts.specs.declared.most.Most.TheVariants.{Nowhere, At}
 use Rattle.report_counts.specs.declared.counting.Report.{Report}
 use Rattle.report_counts.specs.Rows.{hit_row, refusal_row}
+use Rattle.report_counts.specs.Largest.{seen_at}
 use Rattle.report_batches.specs.Told.{Given, AtMost, Below}
 
 -- ---- fields
@@ -73,14 +73,14 @@ printed_behind i [] = []
 printed_behind i (b ∷ bs) = on_sheet (i + 1) (sheet_lines binary32 b) ++ printed_behind (i + 1) bs
 
 -- what a line shows in a field: that number, on that sheet, at the block that it names; nothing where there is no letter
-abbrev pub shows : ℕ → Printed → Most
-shows k p = cond (eqb (printed_letter p.line) 0) Nowhere (At (number_at k p.line) p.sheet (block_printed p.line))
+abbrev pub shows : ℕ → Printed → Option Most
+shows k p = cond (eqb (printed_letter p.line) 0) None (seen_at (number_at k p.line) p.sheet (block_printed p.line))
 
 -- m is what is shown at place k; nothing that is shown is larger, and all before it is smaller. Or nothing is shown at all
-pub data FirstLargest (shown : List Most) (m : Most) : Type 0 where
-  none : m ≡ Nowhere → ((k : ℕ) → get_or shown k Nowhere ≡ Nowhere) → FirstLargest shown m
-  first : (k n i j : ℕ) → m ≡ At n i j → k < length shown → get_or shown k Nowhere ≡ At n i j → ((l : ℕ) → AtMost n (get_or shown l Nowhere))
-      → ((l : ℕ) → l < k → Below n (get_or shown l Nowhere)) → FirstLargest shown m
+pub data FirstLargest (shown : List (Option Most)) (m : Option Most) : Type 0 where
+  none : m ≡ None → ((k : ℕ) → get_or shown k None ≡ None) → FirstLargest shown m
+  first : (k n i j : ℕ) → m ≡ seen_at n i j → k < length shown → get_or shown k None ≡ seen_at n i j → ((l : ℕ) → AtMost n (get_or shown l None))
+      → ((l : ℕ) → l < k → Below n (get_or shown l None)) → FirstLargest shown m
 
 -- ---- the report of files
 -- its rows of hits and of refusals are counted from the lines, and its three largest counts are the first largest that they show

@@ -1,100 +1,17 @@
 -- The lines of a report: what each name is, how long they get, and one row more. Assumes nothing.
-use mathlib.Core.Path.{◌≡◌, refl, sym, ap, subst, ◌∙◌}
+use mathlib.Core.Path.{◌≡◌, refl, sym, ap, ◌∙◌}
 use mathlib.Core.Bool.{Bool, true, false, ◌&&◌}
 use mathlib.Core.List.{List, [], ◌∷◌, ◌++◌, append_assoc, append-nil}
-use Prim.Native.Nat.{ℕ, zero, suc, ◌+◌, ◌-◌, ◌*◌, ◌≤◌, ◌<◌}
+use Prim.Native.Nat.{ℕ, zero, suc, ◌+◌, ◌≤◌, ◌<◌}
 use native.Mathlib.Omega.{arith}
 use native.Mathlib.Numerals.{add-one}
 use borrow.Author.Tests.{leb-true}
 use lib.Dec.{leb}
-use native.Mathlib.Nat.{le_of_suc-le-suc, not-suc-le-zero}
-use lib.ListN.{length, get_or, take, drop, length-append, length-take}
-use lib.Seq.{take_all, drop-drop}
-use Rattle.text.specs.Put.{Put, where_room, number}
-use Rattle.text.proofs.Lengths.{length-number, roomy}
-use Rattle.report_counts.specs.declared.most.Most.{Most}
-use Rattle.report_counts.specs.declared.most.Most.TheVariants.{Nowhere, At}
-use Rattle.report_lines.specs.Text.{labels, row_text, rows_text, place_text, most_text, named_text}
+use lib.ListN.{length, get_or, take}
+use lib.Seq.{take_all}
+use Rattle.report_lines.specs.Text.{labels, row_text, rows_text}
 
 -- ---- names
--- the pieces of a text of names, each in eleven bytes, that are as long as names
-unfoldable pieces : List ℕ → List (List ℕ) → List (List ℕ)
-pieces text [] = []
-pieces text (l ∷ ls) = take (length l) text ∷ pieces (drop 11 text) ls
-
-piece-at : (text : List ℕ) (ls : List (List ℕ)) (i : ℕ) → i < length ls
-    → take (length (get_or ls i [])) (drop (11 * i) text) ≡ get_or (pieces text ls) i []
-unfolding pieces
-piece-at text [] i h = absurd (not-suc-le-zero h)
-piece-at text (l ∷ ls) zero h = refl
-piece-at text (l ∷ ls) (suc i) h =
-    ap (λ (rest : List ℕ). take (length (get_or ls i [])) rest) (ap (λ (n : ℕ). drop n text) (next i) ∙ sym (drop-drop (11 * i) 11 text))
-    ∙ piece-at (drop 11 text) ls i (le_of_suc-le-suc h)
-  where
-    next : (j : ℕ) → 11 * suc j ≡ 11 + 11 * j
-    next j = omega arith
-
--- the text and the sizes of the code
-abbrev pub text : List ℕ
-text =
-    66 ∷ 76 ∷ 79 ∷ 67 ∷ 75 ∷ 83 ∷ 32 ∷ 32 ∷ 32 ∷ 32 ∷ 32 ∷ 67 ∷ 76 ∷ 69 ∷ 65 ∷ 82 ∷ 32 ∷ 32 ∷ 32 ∷ 32 ∷ 32 ∷ 32 ∷
-    79 ∷ 86 ∷ 69 ∷ 82 ∷ 76 ∷ 65 ∷ 80 ∷ 80 ∷ 69 ∷ 68 ∷ 32 ∷ 70 ∷ 65 ∷ 73 ∷ 76 ∷ 69 ∷ 68 ∷ 32 ∷ 32 ∷ 32 ∷ 32 ∷ 32 ∷
-    72 ∷ 73 ∷ 84 ∷ 32 ∷ 32 ∷ 32 ∷ 32 ∷ 32 ∷ 32 ∷ 32 ∷ 32 ∷ 72 ∷ 73 ∷ 84 ∷ 32 ∷ 48 ∷ 47 ∷ 56 ∷ 32 ∷ 32 ∷ 32 ∷ 32 ∷
-    72 ∷ 73 ∷ 84 ∷ 32 ∷ 49 ∷ 47 ∷ 56 ∷ 32 ∷ 32 ∷ 32 ∷ 32 ∷ 72 ∷ 73 ∷ 84 ∷ 32 ∷ 50 ∷ 47 ∷ 56 ∷ 32 ∷ 32 ∷ 32 ∷ 32 ∷
-    72 ∷ 73 ∷ 84 ∷ 32 ∷ 51 ∷ 47 ∷ 56 ∷ 32 ∷ 32 ∷ 32 ∷ 32 ∷ 72 ∷ 73 ∷ 84 ∷ 32 ∷ 52 ∷ 47 ∷ 56 ∷ 32 ∷ 32 ∷ 32 ∷ 32 ∷
-    72 ∷ 73 ∷ 84 ∷ 32 ∷ 53 ∷ 47 ∷ 56 ∷ 32 ∷ 32 ∷ 32 ∷ 32 ∷ 72 ∷ 73 ∷ 84 ∷ 32 ∷ 54 ∷ 47 ∷ 56 ∷ 32 ∷ 32 ∷ 32 ∷ 32 ∷
-    72 ∷ 73 ∷ 84 ∷ 32 ∷ 55 ∷ 47 ∷ 56 ∷ 32 ∷ 32 ∷ 32 ∷ 32 ∷ 72 ∷ 73 ∷ 84 ∷ 32 ∷ 49 ∷ 32 ∷ 32 ∷ 32 ∷ 32 ∷ 32 ∷ 32 ∷
-    72 ∷ 73 ∷ 84 ∷ 32 ∷ 66 ∷ 69 ∷ 76 ∷ 79 ∷ 87 ∷ 32 ∷ 32 ∷ 72 ∷ 73 ∷ 84 ∷ 32 ∷ 65 ∷ 66 ∷ 79 ∷ 86 ∷ 69 ∷ 32 ∷ 32 ∷
-    72 ∷ 73 ∷ 84 ∷ 32 ∷ 78 ∷ 65 ∷ 78 ∷ 32 ∷ 32 ∷ 32 ∷ 32 ∷ 82 ∷ 69 ∷ 70 ∷ 85 ∷ 83 ∷ 69 ∷ 68 ∷ 32 ∷ 32 ∷ 32 ∷ 32 ∷
-    82 ∷ 69 ∷ 70 ∷ 85 ∷ 83 ∷ 69 ∷ 68 ∷ 32 ∷ 51 ∷ 32 ∷ 32 ∷ 82 ∷ 69 ∷ 70 ∷ 85 ∷ 83 ∷ 69 ∷ 68 ∷ 32 ∷ 52 ∷ 32 ∷ 32 ∷
-    82 ∷ 69 ∷ 70 ∷ 85 ∷ 83 ∷ 69 ∷ 68 ∷ 32 ∷ 53 ∷ 32 ∷ 32 ∷ 82 ∷ 69 ∷ 70 ∷ 85 ∷ 83 ∷ 69 ∷ 68 ∷ 32 ∷ 54 ∷ 32 ∷ 32 ∷
-    82 ∷ 69 ∷ 70 ∷ 85 ∷ 83 ∷ 69 ∷ 68 ∷ 32 ∷ 55 ∷ 32 ∷ 32 ∷ 82 ∷ 69 ∷ 70 ∷ 85 ∷ 83 ∷ 69 ∷ 68 ∷ 32 ∷ 56 ∷ 32 ∷ 32 ∷
-    82 ∷ 69 ∷ 70 ∷ 85 ∷ 83 ∷ 69 ∷ 68 ∷ 32 ∷ 57 ∷ 32 ∷ 32 ∷ 82 ∷ 69 ∷ 70 ∷ 85 ∷ 83 ∷ 69 ∷ 68 ∷ 32 ∷ 49 ∷ 48 ∷ 32 ∷
-    82 ∷ 69 ∷ 70 ∷ 85 ∷ 83 ∷ 69 ∷ 68 ∷ 32 ∷ 49 ∷ 49 ∷ 32 ∷ 82 ∷ 69 ∷ 70 ∷ 85 ∷ 83 ∷ 69 ∷ 68 ∷ 32 ∷ 49 ∷ 51 ∷ 32 ∷ []
-
-abbrev pub sizes : List ℕ
-sizes =
-    7 ∷ 6 ∷ 11 ∷ 7 ∷ 4 ∷ 8 ∷ 8 ∷ 8 ∷ 8 ∷ 8 ∷ 8 ∷ 8 ∷ 8 ∷ 6 ∷ 10 ∷ 10 ∷ 8 ∷ 8 ∷ 10 ∷ 10 ∷ 10 ∷ 10 ∷ 10 ∷ 10 ∷ 10 ∷ 11 ∷ 11 ∷ 11
-    ∷ []
-
--- each name stands at its place
-all-stand : pieces text labels ≡ labels
-unfolding pieces labels
-all-stand = refl
-
-label_at : (row : ℕ) → row < 28 → take (length (get_or labels row [])) (drop (11 * row) text) ≡ get_or labels row []
-unfolding labels
-label_at row h = piece-at text labels row h ∙ ap (λ (ls : List (List ℕ)). get_or ls row []) all-stand
-
--- the piece of that size is the name
-pub label-put : {d d' : List ℕ} {at e : ℕ} (row size : ℕ) → row < 28 → size ≡ length (get_or labels row [])
-    → Put d at (take size (drop (11 * row) text)) d' e → Put d at (get_or labels row []) d' e
-label-put {d} {d'} {at} {e} row size h is p =
-    subst (λ (l : List ℕ). Put d at l d' e) (ap (λ (n : ℕ). take n (drop (11 * row) text)) is ∙ label_at row h) p
-
-lengths : List (List ℕ) → List ℕ
-lengths [] = []
-lengths (l ∷ ls) = length l ∷ lengths ls
-
-size_in : (ls : List (List ℕ)) (i : ℕ) → get_or (lengths ls) i 0 ≡ length (get_or ls i [])
-unfolding lengths
-size_in [] i = refl
-size_in (l ∷ ls) zero = refl
-size_in (l ∷ ls) (suc i) = size_in ls i
-
-pub size-at : (row : ℕ) → get_or sizes row 0 ≡ length (get_or labels row [])
-unfolding labels lengths
-size-at row = size_in labels row
-
--- a part of a text, put where there is room for it
-pub piece-put : {d d' : List ℕ} {at e : ℕ} (s : List ℕ) (from size : ℕ) → from + size ≤ length s → at + size ≤ length d
-    → Put d at (where_room (at + length (take (from + size - from) (drop from s))) (length d) (take (from + size - from) (drop from s))) d' e
-    → Put d at (take size (drop from s)) d' e
-piece-put s from size fits room p =
-    let only : from + size - from ≡ size = omega arith in
-    let q = rw only at p in
-    roomy (length (take size (drop from s))) q (omega (arith, length-take size (drop from s), room))
-
 -- whether all are of at most 11 bytes
 unfoldable all_short : List (List ℕ) → Bool
 all_short [] = true
@@ -116,9 +33,6 @@ unfolding labels all_short
 length_label row = short-at labels row refl
 
 -- ---- lines
-pub length-row : (row n : ℕ) → length (row_text (get_or labels row []) n) ≤ 32
-length-row row n = rw (length-append (get_or labels row []) (number n 10)) (omega (arith, length_label row, length-number n 10))
-
 rows-more-of : (ls : List (List ℕ)) (ns : List ℕ) (i : ℕ) → i < length ls → i < length ns →
     rows_text (take (suc i) ls) (take (suc i) ns) ≡ rows_text (take i ls) (take i ns) ++ row_text (get_or ls i []) (get_or ns i 0)
 unfolding rows_text
@@ -145,16 +59,3 @@ no_rows ns = refl
 
 pub all-rows : (ns : List ℕ) (i : ℕ) → length ns ≡ 28 → 28 ≤ i → first_rows ns i ≡ rows_text labels ns
 all-rows ns i e h = rw (take_all i labels (omega (arith, labels-counted)), take_all i ns (omega arith))
-
--- ---- the largest counts
-length-place : (n i j : ℕ) → length (place_text n i j) ≤ 63
-length-place n i j =
-    rw (length-append (number n 32 ++ number i 32) (number j 10), length-append (number n 32) (number i 32))
-    (omega (arith, length-number n 32, length-number i 32, length-number j 10))
-
-length_most : (m : Most) → length (most_text m) ≤ 63
-length_most Nowhere = length-place 0 0 0
-length_most (At n i j) = length-place n i j
-
-pub length-named : (name : List ℕ) (m : Most) → length (named_text name m) ≤ length name + 63
-length-named name m = rw (length-append name (most_text m)) (omega (arith, length_most m))

@@ -1,8 +1,7 @@
 -- A report as text: a line for the batches, one for each row, and three for the largest counts.
-use Rattle.std.specs.Prelude.{ℕ, List, [], ◌∷◌, ◌++◌}
+use Rattle.std.specs.Prelude.{ℕ, List, [], ◌∷◌, ◌++◌, Option, Some, None}
 use Rattle.text.specs.Put.{where_room, number}
 use Rattle.report_counts.specs.declared.most.Most.{Most}
-use Rattle.report_counts.specs.declared.most.Most.TheVariants.{Nowhere, At}
 use Rattle.report_counts.specs.declared.most.Largest.{Largest}
 use Rattle.report_counts.specs.declared.counting.Report.{Report}
 
@@ -64,11 +63,11 @@ abbrev pub place_text : ℕ → ℕ → ℕ → List ℕ
 place_text n i j = number n 32 ++ number i 32 ++ number j 10
 
 -- zeros where no block was worked
-abbrev pub most_text : Most → List ℕ
-most_text Nowhere = place_text 0 0 0
-most_text (At n i j) = place_text n i j
+abbrev pub most_text : Option Most → List ℕ
+most_text None = place_text 0 0 0
+most_text (Some s) = place_text s.count s.batch s.block
 
-abbrev pub named_text : List ℕ → Most → List ℕ
+abbrev pub named_text : List ℕ → Option Most → List ℕ
 named_text name m = name ++ most_text m
 
 unfoldable pub largest_text : Largest → List ℕ

@@ -1,11 +1,13 @@
 // A report as text, in lent bytes.
 #![tactic(auto)]
 
-ghost use Rattle.std.specs.Prelude.{◌+◌, ◌<◌, ◌≤◌, ◌≡◌, [], length, get_or, take, drop};
+ghost use Rattle.std.specs.Prelude.{◌<◌, ◌≤◌, ◌≡◌, [], length, get_or};
 ghost use Rattle.text.specs.Put.{Put};
+ghost use Rattle.text.specs.Written.{Room, Wrote};
 ghost use Rattle.report_lines.specs.Text.{labels, row_text, rows_text, place_text, most_text, named_text, largest_text, text_in};
 
 use report_counts::{Largest, Most, Report};
+use text::Draft;
 
 // How many rows a report has.
 const ROWS: usize = 28;
@@ -13,109 +15,110 @@ const ROWS: usize = 28;
 // No report is longer.
 const LONGEST_REPORT: usize = 1200;
 
-fn wide(x: u8) -> usize
-    ensures { result ≡ x }
-{
-    x as usize
-}
-
-// How long a row's name is, with the blank after it.
-fn label_size(row: usize) -> usize
+// A row's name, with the blank after it.
+#[tactic(auto, unfolding(crate::specs::Text::labels))]
+fn label(row: usize) -> &'static [u8]
     requires { row < 28 }
-    ensures { result ≡ length (get_or labels row []) }
+    ensures { result.now ≡ get_or labels row [] }
 {
-    let sizes =
-        b"\x07\x06\x0b\x07\x04\x08\x08\x08\x08\x08\x08\x08\x08\x06\x0a\x0a\x08\x08\x0a\x0a\x0a\x0a\x0a\x0a\x0a\x0b\x0b\x0b";
-    wide(sizes[row])
+    match row {
+        0 => b"BLOCKS ",
+        1 => b"CLEAR ",
+        2 => b"OVERLAPPED ",
+        3 => b"FAILED ",
+        4 => b"HIT ",
+        5 => b"HIT 0/8 ",
+        6 => b"HIT 1/8 ",
+        7 => b"HIT 2/8 ",
+        8 => b"HIT 3/8 ",
+        9 => b"HIT 4/8 ",
+        10 => b"HIT 5/8 ",
+        11 => b"HIT 6/8 ",
+        12 => b"HIT 7/8 ",
+        13 => b"HIT 1 ",
+        14 => b"HIT BELOW ",
+        15 => b"HIT ABOVE ",
+        16 => b"HIT NAN ",
+        17 => b"REFUSED ",
+        18 => b"REFUSED 3 ",
+        19 => b"REFUSED 4 ",
+        20 => b"REFUSED 5 ",
+        21 => b"REFUSED 6 ",
+        22 => b"REFUSED 7 ",
+        23 => b"REFUSED 8 ",
+        24 => b"REFUSED 9 ",
+        25 => b"REFUSED 10 ",
+        26 => b"REFUSED 11 ",
+        27 => b"REFUSED 13 ",
+        _ => b"",
+    }
 }
 
-// So many bytes of a text, from a place on.
-fn put_piece(out: &mut [u8], at: usize, text: &[u8], from: usize, size: usize) -> usize
-    requires { (at + size ≤ length out.old) × (from + size ≤ length text.now) }
-    ensures { Put out.old at (take size (drop from text.now)) out.new result }
+// The same on a draft.
+fn put_label(draft: &mut Draft<'_>, row: usize)
+    requires { Room 11 draft.old × (row < 28) }
+    ensures { Wrote 11 draft.old (get_or labels row []) draft.new }
 {
-    let end = from + size;
-    text::put_text(out, at, &text[from..end])
-}
-
-// A row's name, and a blank: the names stand in one text, each in eleven bytes.
-fn put_label(out: &mut [u8], at: usize, row: usize) -> usize
-    requires { (at + 11 ≤ length out.old) × (row < 28) }
-    ensures { Put out.old at (get_or labels row []) out.new result }
-{
-    let size = label_size(row);
-    let names = b"BLOCKS     CLEAR      OVERLAPPED FAILED     HIT        HIT 0/8    HIT 1/8    \
-        HIT 2/8    HIT 3/8    HIT 4/8    HIT 5/8    HIT 6/8    HIT 7/8    HIT 1      \
-        HIT BELOW  HIT ABOVE  HIT NAN    REFUSED    REFUSED 3  REFUSED 4  REFUSED 5  \
-        REFUSED 6  REFUSED 7  REFUSED 8  REFUSED 9  REFUSED 10 REFUSED 11 REFUSED 13 ";
-    put_piece(out, at, names, 11 * row, size)
+    draft.put(label(row));
 }
 
 // The line of a row.
-fn put_row(out: &mut [u8], at: usize, row: usize, n: u64) -> usize
-    requires { (at + 32 ≤ length out.old) × (row < 28) }
-    ensures { Put out.old at (row_text (get_or labels row []) n) out.new result }
+fn put_row(draft: &mut Draft<'_>, row: usize, n: u64)
+    requires { Room 32 draft.old × (row < 28) }
+    ensures { Wrote 32 draft.old (row_text (get_or labels row []) n) draft.new }
 {
-    let end = put_label(out, at, row);
-    text::put_number(out, end, n, b'\n')
+    put_label(draft, row);
+    draft.put_number(n, b'\n');
 }
 
 // The lines of all rows.
-fn put_rows(out: &mut [u8], at: usize, counts: [u64; ROWS]) -> usize
-    requires { at + 896 ≤ length out.old }
-    ensures put { Put out.old at (rows_text labels counts) out.new result }
-    ensures upper_bound { result ≤ at + 896 }
+fn put_rows(draft: &mut Draft<'_>, counts: [u64; ROWS])
+    requires { Room 896 draft.old }
+    ensures { Wrote 896 draft.old (rows_text labels counts) draft.new }
 {
-    let mut end = at;
-    let mut i: usize = 0;
-    while i < ROWS {
-        end = put_row(out, end, i, counts[i]);
-        i += 1;
+    for (row, n) in counts.iter().enumerate() {
+        put_row(draft, row, *n);
     }
-    end
 }
 
 // Three numbers and a newline.
-fn put_place(out: &mut [u8], at: usize, n: u64, batch: u64, block: u64) -> usize
-    requires { at + 63 ≤ length out.old }
-    ensures { Put out.old at (place_text n batch block) out.new result }
+fn put_place(draft: &mut Draft<'_>, n: u64, batch: u64, block: u64)
+    requires { Room 63 draft.old }
+    ensures { Wrote 63 draft.old (place_text n batch block) draft.new }
 {
-    let e1 = text::put_number(out, at, n, b' ');
-    let e2 = text::put_number(out, e1, batch, b' ');
-    text::put_number(out, e2, block, b'\n')
+    draft.put_number(n, b' ');
+    draft.put_number(batch, b' ');
+    draft.put_number(block, b'\n');
 }
 
 // A largest count with its place; zeros where there is none.
-fn put_most(out: &mut [u8], at: usize, m: Most) -> usize
-    requires { at + 63 ≤ length out.old }
-    ensures { Put out.old at (most_text m) out.new result }
+fn put_most(draft: &mut Draft<'_>, m: Option<Most>)
+    requires { Room 63 draft.old }
+    ensures { Wrote 63 draft.old (most_text m) draft.new }
 {
     match m {
-        Most::Nowhere => put_place(out, at, 0, 0, 0),
-        Most::At(n, batch, block) => put_place(out, at, n as u64, batch, block),
+        None => put_place(draft, 0, 0, 0),
+        Some(s) => put_place(draft, s.count as u64, s.batch, s.block),
     }
 }
 
 // The same after a name.
-fn put_named(out: &mut [u8], at: usize, name: &[u8], m: Most) -> usize
-    requires { (at + 72 ≤ length out.old) × (length name.now ≤ 9) }
-    ensures { Put out.old at (named_text name.now m) out.new result }
+fn put_named(draft: &mut Draft<'_>, name: &[u8], m: Option<Most>)
+    requires { Room 72 draft.old × (length name.now ≤ 9) }
+    ensures { Wrote 72 draft.old (named_text name.now m) draft.new }
 {
-    let end = text::put_text(out, at, name);
-    put_most(out, end, m)
+    draft.put(name);
+    put_most(draft, m);
 }
 
 // The three last lines.
-fn put_largest(out: &mut [u8], at: usize, a: Largest) -> usize
-    requires { at + 216 ≤ length out.old }
-    ensures { Put out.old at (largest_text a) out.new result }
+fn put_largest(draft: &mut Draft<'_>, a: Largest)
+    requires { Room 216 draft.old }
+    ensures { Wrote 216 draft.old (largest_text a) draft.new }
 {
-    let calls = a.calls;
-    let searches = a.searches;
-    let steps = a.steps;
-    let e1 = put_named(out, at, b"CALLS ", calls);
-    let e2 = put_named(out, e1, b"SEARCHES ", searches);
-    put_named(out, e2, b"STEPS ", steps)
+    put_named(draft, b"CALLS ", a.calls);
+    put_named(draft, b"SEARCHES ", a.searches);
+    put_named(draft, b"STEPS ", a.steps);
 }
 
 // A report's text at the start of out, and its length; nothing where out has fewer bytes than the longest.
@@ -125,10 +128,10 @@ pub fn write_report(r: Report, out: &mut [u8]) -> usize
     if out.len() < LONGEST_REPORT {
         return 0;
     }
-    let counts = r.counts;
-    let largest = r.largest;
-    let e1 = text::put_text(out, 0, b"BATCHES ");
-    let e2 = text::put_number(out, e1, r.batches, b'\n');
-    let e3 = put_rows(out, e2, counts);
-    put_largest(out, e3, largest)
+    let mut draft = Draft { bytes: out, at: 0 };
+    draft.put(b"BATCHES ");
+    draft.put_number(r.batches, b'\n');
+    put_rows(&mut draft, r.counts);
+    put_largest(&mut draft, r.largest);
+    draft.at
 }

@@ -1,4 +1,5 @@
 -- What a look's answer says of a room and of a cell. Assumes nothing.
+use Rattle.std.proofs.Common.{Option, IfSome, IfOk, Result, Ok, Err}
 use mathlib.Core.Path.{◌≡◌, refl, sym, ap, ◌∙◌}
 use mathlib.Core.Bool.{Bool, true, false, cond, true≢false}
 use mathlib.Core.List.{List}
@@ -10,8 +11,8 @@ use lib.Ieee.{Float, binary32, of_bits, le}
 use lib.ListN.{length, set, get_or}
 use lib.Seq.{get_or-set_same, get_or-set_other}
 use Rattle.model.specs.declared.Vector.{Vector}
-use Rattle.model.specs.declared.CheckedBlock.{CheckedBlock}
-use Rattle.model.specs.declared.CheckedBlock.TheVariants as checked
+use Rattle.model.specs.declared.Block.{Block}
+use Rattle.model.specs.declared.BlockRefusal.{BlockRefusal}
 use Rattle.model.specs.Block.{checked_block}
 use Rattle.model.specs.Support.{point}
 use Rattle.planned.specs.Planned as planned
@@ -19,8 +20,8 @@ use Rattle.places.specs.Place.{place_bits}
 use Rattle.clearance_call.specs.declared.Cleared.{Cleared}
 use Rattle.clearance_call.specs.declared.Cleared.TheVariants as cleared
 use Rattle.clearance_call.specs.Call.{Told, refusal_of}
-use Rattle.rooms_block.specs.declared.BlockRooms.{BlockRooms}
-use Rattle.rooms_block.specs.Answer.{RefusedBy, Numbered, AnswerBy, AnswerIf, AnswerOf}
+use Rattle.rooms_block.specs.declared.Proved.{Proved}
+use Rattle.rooms_block.specs.Answer.{BlockRooms, Roomed, Numbered, AnswerBy, AnswerIf, AnswerOf}
 use Rattle.rooms_block.specs.Rooms.{is_clear, edge, touch_letter, letter_by, Keeps, Contact, Cell, clear, contact, unsettled, CellsTo}
 
 module _ (a b ns : List Float) where
@@ -56,37 +57,36 @@ module _ (a b ns : List Float) where
           less : (k ≡ i → ⊥) → k < i
           less other = omega (arith, below, other)
 
-  -- ---- a job's answer: refused, or told
-  pub numbered-refused : (j n : ℕ) (r : BlockRooms) → n ≡ refusal_of a b ns (of_bits binary32 0) → 0 < n → RefusedBy j n r → Numbered a b ns j r
-  numbered-refused j n r e some h = record {
-    job = h.job;
-    number = h.number ∙ e;
-    letters = h.letters;
-    room = λ z told. absurd (omega (arith, z, h.number, some));
-    cells = λ z k below. absurd (omega (arith, z, h.number, some));
-  }
-
-  pub numbered-told : (l : List Float) (j n : ℕ) (limits : Vector) (found : Bool) (room : Float) (cells : List ℕ) → n ≡ refusal_of a b ns (of_bits binary32 0)
-      → n ≤ 0 → l ≡ ns → limits ≡ point ns 1 → (found ≡ true → Keeps a b l room) → (length cells ≡ 64) × CellsTo a b l limits.x cells 64
-      → Numbered a b ns j (record { job = j; number = 0; clear = found; room = room; cells = cells })
-  numbered-told l j n limits found room cells e none same at-limits k h = record {
+  -- ---- a job's answer, told
+  pub roomed : (j n : ℕ) (limits : Vector) (room : Option Float) (cells : List ℕ) → n ≡ refusal_of a b ns (of_bits binary32 0)
+      → n ≤ 0 → limits ≡ point ns 1 → IfSome room (λ x. Keeps a b ns x) → (length cells ≡ 64) × CellsTo a b ns limits.x cells 64
+      → Roomed a b ns j (record { job = j; room = room; cells = cells })
+  roomed j n limits room cells e none at-limits k h = record {
     job = refl;
-    number = let zero : 0 ≡ n = omega (arith, none) in zero ∙ e;
+    passed = sym e ∙ omega (arith, none);
     letters = h.0;
-    room = λ z told. rw same at (k told);
-    cells = λ z. rw (same, at-limits) at h.1;
+    room = k;
+    cells = rw at-limits at h.1;
   }
 
--- ---- every answer has 64 letters
+-- ---- every answer that is told has 64 letters
+abbrev pub Lettered : BlockRooms → Type 0
+Lettered r = IfOk r (λ p. length p.cells ≡ 64)
+
+module _ (a b ns : List Float) (j : ℕ) where
+  by-number : (r : BlockRooms) → Numbered a b ns j r → Lettered r
+  by-number (Ok p) h = h.letters
+  by-number (Err e) h = tt
+
 module _ (b : List ℕ) (r : BlockRooms) where
-  by-check : (x : CheckedBlock) → AnswerBy b x r → length r.cells ≡ 64
-  by-check (checked.Good k) h = h.letters
-  by-check (checked.Refused job number) h = h.letters
+  by-check : (x : Result Block BlockRefusal) → AnswerBy b x r → Lettered r
+  by-check (Ok k) h = by-number _ _ _ _ r h
+  by-check (Err e) h = rw h tt
 
-  by_size : (c : Bool) → AnswerIf c b r → length r.cells ≡ 64
+  by_size : (c : Bool) → AnswerIf c b r → Lettered r
   by_size true h = by-check (checked_block b) h
-  by_size false h = h.letters
+  by_size false h = rw h tt
 
-  pub letters-told : AnswerOf b r → length r.cells ≡ 64
+  pub letters-told : AnswerOf b r → Lettered r
   unfolding AnswerOf
   letters-told h = by_size (eqb (length b) 512) h

@@ -1,9 +1,9 @@
 // The 64 cells of a move: what is proved of each part of it.
-ghost use Rattle.std.specs.Prelude.{◌≡◌, ◌+◌, ◌≤◌, take, length};
+ghost use Rattle.std.specs.Prelude.{◌≡◌, ◌+◌, ◌≤◌, length};
 ghost use Rattle.rooms_block.specs.Rooms.{touch_letter, letter_by, Cell, CellsTo};
 ghost use Rattle.rooms_block.specs.Rooms as Rooms;
 
-use crate::look::look;
+use crate::look::{Move, look};
 use clearance_call::Cleared;
 
 // Where cell k starts, and the one before it ends: k / 64 of the max fraction.
@@ -31,39 +31,27 @@ fn letter_by(from: f32, answer: Cleared) -> u8
     ensures { result ≡ letter_by from answer }
 {
     match answer {
-        Cleared::Refused(_) => b'O',
-        Cleared::Clear { pieces: _ } => b'C',
-        Cleared::Touch {
-            clear_up_to: _,
-            within_by,
-            pieces: _,
-        } => touch_letter(from, within_by),
-        Cleared::Open {
-            clear_up_to: _,
-            pieces: _,
-        } => b'O',
+        Cleared::Clear { .. } => b'C',
+        Cleared::Touch { within_by, .. } => touch_letter(from, within_by),
+        Cleared::Refused(_) | Cleared::Open { .. } => b'O',
     }
 }
 
-fn letter(points_a: &[f32], points_b: &[f32], numbers: [f32; 32], from: f32, to: f32) -> u8
-    requires { length numbers ≡ 32 }
-    ensures { Cell points_a.now points_b.now (take 24 numbers) from to result }
+fn letter(planned: Move<'_>, from: f32, to: f32) -> u8
+    requires { length planned.numbers.now ≡ 24 }
+    ensures { Cell planned.entry.points_a.now planned.entry.points_b.now planned.entry.numbers.now from to result }
 {
-    let answer = look(points_a, points_b, numbers, 2, to, from);
+    let answer = look(planned, 2, to, from);
     letter_by(from, answer)
 }
 
-pub fn cells_of(points_a: &[f32], points_b: &[f32], numbers: [f32; 32], end: f32) -> [u8; 64]
-    requires { length numbers ≡ 32 }
-    ensures { (length result ≡ 64) × CellsTo points_a.now points_b.now (take 24 numbers) end result 64 }
+pub fn cells_of(planned: Move<'_>, end: f32) -> [u8; 64]
+    requires { length planned.numbers.now ≡ 24 }
+    ensures { (length result ≡ 64) × CellsTo planned.entry.points_a.now planned.entry.points_b.now planned.entry.numbers.now end result 64 }
 {
     let mut cells = [b'O'; 64];
-    let mut k: usize = 0;
-    while k < 64 {
-        let from = edge(end, k as u64);
-        let to = edge(end, k as u64 + 1);
-        cells[k] = letter(points_a, points_b, numbers, from, to);
-        k += 1;
+    for (k, cell) in cells.iter_mut().enumerate() {
+        *cell = letter(planned, edge(end, k as u64), edge(end, k as u64 + 1));
     }
     cells
 }

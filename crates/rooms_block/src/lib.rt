@@ -5,67 +5,44 @@ mod cells;
 mod look;
 mod room;
 
-ghost use Rattle.std.specs.Prelude.{◌≡◌, ◌≤◌, take, length};
+ghost use Rattle.std.specs.Prelude.{◌≡◌, ◌≤◌, length};
 ghost use Rattle.model.specs.Block.{most_points, checked_block};
-ghost use Rattle.rooms_block.specs.Answer.{RefusedBy, Numbered, Told, AnswerBy, AnswerOf};
+ghost use Rattle.rooms_block.specs.Answer.{Numbered, Told, AnswerBy, AnswerOf};
 
 use block_floats::floats_at;
 use cells::cells_of;
 use clearance_call::refusal_of;
-use model::{Block, CheckedBlock};
+use look::Move;
+use model::{Block, BlockRefusal};
 use outline::point;
 use room::room_of;
 
-// What a block comes to: its job, 0 where none can be told; the number of its refusal, or 0; whether there is a room, and how much; a letter for each cell.
+// What is proved of a block's move: its job, the room that it keeps, if one was found, and a letter for each cell.
 #[derive(Clone, Copy)]
-pub struct BlockRooms {
+pub struct Proved {
     pub job: u32,
-    pub number: u32,
-    pub clear: bool,
-    pub room: f32,
+    pub room: Option<f32>,
     pub cells: [u8; 64],
 }
 
-fn refused(job: u32, number: u32) -> BlockRooms
-    ensures { RefusedBy job number result }
-{
-    let cells = [b'O'; 64];
-    BlockRooms {
-        job,
-        number,
-        clear: false,
-        room: 0.0,
-        cells,
-    }
-}
+// What a block comes to; of a refused one the job, 0 where none can be told, and the number.
+pub type BlockRooms = Result<Proved, BlockRefusal>;
 
-// Of a job's numbers, lent and at the start of the array.
-fn rooms_of(
-    points_a: &[f32],
-    points_b: &[f32],
-    lent: &[f32],
-    numbers: [f32; 32],
-    job: u32,
-) -> BlockRooms
-    requires { (length numbers ≡ 32) × (take 24 numbers ≡ lent.now) }
-    ensures { Numbered points_a.now points_b.now lent.now job result }
+// Of a move, under its job.
+fn rooms_of(planned: Move<'_>, job: u32) -> BlockRooms
+    requires { length planned.numbers.now ≡ 24 }
+    ensures { Numbered planned.entry.points_a.now planned.entry.points_b.now planned.entry.numbers.now job result }
 {
-    let number = refusal_of(points_a, points_b, lent, 0.0);
+    let number = refusal_of(planned.points_a, planned.points_b, planned.numbers, 0.0);
     if number > 0 {
-        return refused(job, number);
+        return Err(BlockRefusal { job, number });
     }
-    let radii = point(lent, 0);
-    let limits = point(lent, 1);
+    let radii = point(planned.numbers, 0);
+    let limits = point(planned.numbers, 1);
     let first = ground::max(limits.y, radii.x + radii.y);
-    let told = room_of(points_a, points_b, numbers, limits.y, first);
-    let cells = cells_of(points_a, points_b, numbers, limits.x);
-    BlockRooms {
-        job,
-        number: 0,
-        clear: told.found,
-        room: told.room,
-        cells,
-    }
+    let room = room_of(planned, limits.y, first);
+    let cells = cells_of(planned, limits.x);
+    Ok(Proved { job, room, cells })
 }
 
 fn rooms_along(part: &[u8], k: Block) -> BlockRooms
@@ -76,15 +53,13 @@ fn rooms_along(part: &[u8], k: Block) -> BlockRooms
     let n_b = 2 * k.count_b;
     let points_a = floats_at(part, 104, n_a);
     let points_b = floats_at(part, 232, n_b);
-    let lent = floats_at(part, 8, 24);
-    let numbers = lent;
-    rooms_of(
-        &points_a[..n_a],
-        &points_b[..n_b],
-        &lent[..24],
-        numbers,
-        k.job,
-    )
+    let numbers = floats_at(part, 8, 24);
+    let planned = Move {
+        points_a: &points_a[..n_a],
+        points_b: &points_b[..n_b],
+        numbers: &numbers[..24],
+    };
+    rooms_of(planned, k.job)
 }
 
 fn rooms_checked(part: &[u8]) -> BlockRooms
@@ -92,8 +67,8 @@ fn rooms_checked(part: &[u8]) -> BlockRooms
 {
     let checked = block::check_block(part);
     match checked {
-        CheckedBlock::Good(k) => rooms_along(part, k),
-        CheckedBlock::Refused(job, number) => refused(job, number),
+        Ok(k) => rooms_along(part, k),
+        Err(refusal) => Err(refusal),
     }
 }
 
@@ -102,7 +77,7 @@ pub fn block_rooms(part: &[u8]) -> BlockRooms
     ensures { AnswerOf part.now result }
 {
     if part.len() != 512 {
-        return refused(0, 9);
+        return Err(BlockRefusal { job: 0, number: 9 });
     }
     rooms_checked(part)
 }

@@ -1,136 +1,105 @@
 // The room of a move: the largest distance found that it is proved to keep throughout. How it is found is not trusted: what is told was proved clear.
-ghost use Rattle.std.specs.Prelude.{true, ◌≡◌, ◌≤◌, take, length};
+ghost use Rattle.std.specs.Prelude.{true, ◌≡◌, length, IfSome};
 ghost use Rattle.rooms_block.specs.Rooms.{is_clear, Keeps};
 
-use crate::look::look;
+use crate::look::{Move, look};
 use clearance_call::Cleared;
 
-// What is proved kept, what is tried next or failed already, and whether it did.
+// How often the gap is halved.
+const HALVINGS: u32 = 11;
+
+// What is tried next, or what failed already.
+#[derive(Clone, Copy)]
+enum Limit {
+    Untried(f32),
+    Failed(f32),
+}
+
+// What is proved kept, and what bounds it.
 #[derive(Clone, Copy)]
 struct Span {
     room: f32,
-    limit: f32,
-    closed: bool,
-}
-
-// Whether there is one, and how much.
-#[derive(Clone, Copy)]
-pub struct Room {
-    pub found: bool,
-    pub room: f32,
+    limit: Limit,
 }
 
 fn is_clear(answer: Cleared) -> bool
     ensures { result ≡ is_clear answer }
 {
-    match answer {
-        Cleared::Refused(_) => false,
-        Cleared::Clear { pieces: _ } => true,
-        Cleared::Touch {
-            clear_up_to: _,
-            within_by: _,
-            pieces: _,
-        } => false,
-        Cleared::Open {
-            clear_up_to: _,
-            pieces: _,
-        } => false,
-    }
+    matches!(&answer, Cleared::Clear { .. })
 }
 
 // Whether a room is proved kept.
-fn keeps(points_a: &[f32], points_b: &[f32], numbers: [f32; 32], room: f32) -> bool
-    requires { length numbers ≡ 32 }
-    ensures { result ≡ true → Keeps points_a.now points_b.now (take 24 numbers) room }
+fn keeps(planned: Move<'_>, room: f32) -> bool
+    requires { length planned.numbers.now ≡ 24 }
+    ensures { result ≡ true → Keeps planned.entry.points_a.now planned.entry.points_b.now planned.entry.numbers.now room }
 {
-    let answer = look(points_a, points_b, numbers, 3, room, 0.0);
-    is_clear(answer)
+    is_clear(look(planned, 3, room, 0.0))
 }
 
 // Twice as much until it fails, then halfway between.
 fn to_try(s: Span) -> f32 {
-    if s.closed {
-        return s.room + 0.5 * (s.limit - s.room);
+    match s.limit {
+        Limit::Untried(room) => room,
+        Limit::Failed(room) => s.room + 0.5 * (room - s.room),
     }
-    s.limit
 }
 
 fn kept(s: Span, tried: f32) -> Span
     ensures { result.room ≡ tried }
 {
-    if s.closed {
-        return Span {
-            room: tried,
-            limit: s.limit,
-            closed: true,
-        };
-    }
     Span {
         room: tried,
-        limit: 2.0 * tried,
-        closed: false,
+        limit: match s.limit {
+            Limit::Untried(_) => Limit::Untried(2.0 * tried),
+            Limit::Failed(room) => Limit::Failed(room),
+        },
     }
 }
 
 // One room more tried.
-fn next(points_a: &[f32], points_b: &[f32], numbers: [f32; 32], s: Span) -> Span
-    requires { (length numbers ≡ 32) × Keeps points_a.now points_b.now (take 24 numbers) s.room }
-    ensures { Keeps points_a.now points_b.now (take 24 numbers) result.room }
+fn next(planned: Move<'_>, s: Span) -> Span
+    requires { (length planned.numbers.now ≡ 24) × Keeps planned.points_a.now planned.points_b.now planned.numbers.now s.room }
+    ensures { Keeps planned.entry.points_a.now planned.entry.points_b.now planned.entry.numbers.now result.room }
 {
     let tried = to_try(s);
-    if keeps(points_a, points_b, numbers, tried) {
+    if keeps(planned, tried) {
         return kept(s, tried);
     }
     Span {
         room: s.room,
-        limit: tried,
-        closed: true,
+        limit: Limit::Failed(tried),
     }
 }
 
-fn one_if(closed: bool) -> u32
-    ensures { result ≤ 1 }
-{
-    if closed { 1 } else { 0 }
-}
-
 // From a room that is kept, with the one to try first. From the least slop to the largest there are 169 doublings; the round that fails and ten halvings.
-fn widest(points_a: &[f32], points_b: &[f32], numbers: [f32; 32], least: f32, first: f32) -> f32
-    requires { (length numbers ≡ 32) × Keeps points_a.now points_b.now (take 24 numbers) least }
-    ensures { Keeps points_a.now points_b.now (take 24 numbers) result }
+fn widest(planned: Move<'_>, least: f32, first: f32) -> f32
+    requires { (length planned.numbers.now ≡ 24) × Keeps planned.points_a.now planned.points_b.now planned.numbers.now least }
+    ensures { Keeps planned.entry.points_a.now planned.entry.points_b.now planned.entry.numbers.now result }
 {
     let mut s = Span {
         room: least,
-        limit: first,
-        closed: false,
+        limit: Limit::Untried(first),
     };
-    let mut halvings: u32 = 0;
-    let mut rounds: u32 = 0;
-    while (rounds < 200) & (halvings < 11) {
-        s = next(points_a, points_b, numbers, s);
-        halvings += one_if(s.closed);
-        rounds += 1;
+    let mut failed: u32 = 0;
+    for _round in 0..200u32 {
+        s = next(planned, s);
+        if matches!(&s.limit, Limit::Failed(_)) {
+            failed += 1;
+        }
+        if failed == HALVINGS {
+            break;
+        }
     }
     s.room
 }
 
 // The room of a move, where it is clear with its own slop.
-pub fn room_of(
-    points_a: &[f32],
-    points_b: &[f32],
-    numbers: [f32; 32],
-    slop: f32,
-    first: f32,
-) -> Room
-    requires { length numbers ≡ 32 }
-    ensures { result.found ≡ true → Keeps points_a.now points_b.now (take 24 numbers) result.room }
+pub fn room_of(planned: Move<'_>, slop: f32, first: f32) -> Option<f32>
+    requires { length planned.numbers.now ≡ 24 }
+    ensures { IfSome result (λ room. Keeps planned.entry.points_a.now planned.entry.points_b.now planned.entry.numbers.now room) }
 {
-    if !keeps(points_a, points_b, numbers, slop) {
-        return Room {
-            found: false,
-            room: 0.0,
-        };
+    if !keeps(planned, slop) {
+        return None;
     }
-    let room = widest(points_a, points_b, numbers, slop, first);
-    Room { found: true, room }
+    Some(widest(planned, slop, first))
 }

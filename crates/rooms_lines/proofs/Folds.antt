@@ -1,14 +1,13 @@
 -- Answers in two parts: their lines, their totals, and what they answer. No more are refused than there are blocks. Assumes nothing.
-use mathlib.Core.Path.{◌≡◌, refl, sym, ap, ◌∙◌}
+use mathlib.Core.Path.{◌≡◌, refl, sym, ap}
 use mathlib.Core.List.{List, [], ◌∷◌, ◌++◌, append_assoc}
 use Prim.Native.Nat.{ℕ, suc, ◌+◌, ◌≤◌}
 use native.Mathlib.Omega.{arith}
 use mathlib.Core.Bool.{Bool, true, false, cond}
-use lib.Dec.{ltb}
+use Rattle.std.proofs.Common.{is_err}
 use lib.ListN.{length}
 use Rattle.rooms_lines.specs.declared.part.Tally.{Tally}
-use Rattle.rooms_block.specs.declared.BlockRooms.{BlockRooms}
-use Rattle.rooms_block.specs.Answer.{AnswerOf, AnswersOf}
+use Rattle.rooms_block.specs.Answer.{BlockRooms, AnswersOf}
 use Rattle.rooms_lines.specs.Lines.{line_of, lines_from, counted, totals_from}
 
 pub lines-append : (n : ℕ) (xs ys : List BlockRooms) → lines_from n (xs ++ ys) ≡ lines_from n xs ++ lines_from (n + length xs) ys
@@ -52,4 +51,4 @@ one_more false r b h = omega arith
 pub no-more-refused : (t : Tally) (xs : List BlockRooms) → t.refused ≤ t.blocks → (totals_from t xs).refused ≤ (totals_from t xs).blocks
 unfolding totals_from
 no-more-refused t [] h = h
-no-more-refused t (x ∷ xs) h = no-more-refused (counted t x) xs (one_more (ltb 0 x.number) t.refused t.blocks h)
+no-more-refused t (x ∷ xs) h = no-more-refused (counted t x) xs (one_more (is_err x) t.refused t.blocks h)

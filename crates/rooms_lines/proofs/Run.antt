@@ -1,7 +1,7 @@
 -- A run of `write_part` over a file cut into whole parts and a shorter last one prints the lines and the totals of the answers that came, one for each
 -- block of the file; and where each part's are answers of its blocks, they all are. Assumes nothing.
 use mathlib.Core.Path.{◌≡◌, refl, sym, ap, ◌∙◌}
-use mathlib.Core.Bool.{Bool, true, false}
+use mathlib.Core.Bool.{true, false}
 use mathlib.Core.List.{List, [], ◌∷◌, ◌++◌, append-nil, append_assoc}
 use Prim.Native.Nat.{ℕ, zero, suc, ◌+◌, ◌/◌, ◌%◌, ◌≤◌, ◌<◌}
 use native.Mathlib.Omega.{arith}
@@ -14,8 +14,7 @@ use Rattle.model.proofs.Sheet.{WholeParts}
 use Rattle.model.proofs.Blocks.{blocks-in-two-parts, whole-counted}
 use Rattle.runs.specs.Run.{Cut}
 use Rattle.runs.proofs.Whole.{run-makes-whole, text-steps}
-use Rattle.rooms_block.specs.declared.BlockRooms.{BlockRooms}
-use Rattle.rooms_block.specs.Answer.{AnswersOf}
+use Rattle.rooms_block.specs.Answer.{BlockRooms, AnswersOf}
 use Rattle.rooms_lines.specs.Lines.{longest_line, lines_from, none, totals_from, total_line, text_of}
 use Rattle.rooms_lines.specs.Part.{countable, fits, text_for, totals_for, last_for, answers_from, came_for, run, EachPart, Printed}
 use Rattle.rooms_lines.proofs.Folds.{lines-append, totals-append, answers-append, blocks-counted, no-more-refused}

@@ -1,9 +1,9 @@
 -- The printed lines and totals, as maps and folds of the answers that came: one for each block, in order.
-use Rattle.std.specs.Prelude.{ℕ, ◌+◌, Bool, cond, List, [], ◌∷◌, ◌++◌, ltb, Float}
+use Rattle.std.specs.Prelude.{ℕ, ◌+◌, cond, List, [], ◌∷◌, ◌++◌, Float, Option, Some, None, Ok, Err, is_err}
 use Rattle.std.specs.Float.{binary32}
 use Rattle.std.specs.Float.Ieee.{to_bits}
 use Rattle.model.specs.Text.{decimal, hex_by, line}
-use Rattle.rooms_block.specs.declared.BlockRooms.{BlockRooms}
+use Rattle.rooms_block.specs.Answer.{BlockRooms}
 use Rattle.rooms_lines.specs.declared.part.Tally.{Tally}
 
 -- no line is longer: two numbers of up to 20 digits, the 0, the room and 64 cells make 118 bytes
@@ -12,16 +12,18 @@ longest_line = 120
 
 -- ---- lines
 -- the room by the digits of its f32, or `-`
-abbrev pub room_text : Bool → Float → List ℕ
-room_text clear room = cond clear (hex_by 8 (to_bits binary32 room)) (45 ∷ [])
+abbrev pub room_text : Option Float → List ℕ
+room_text (Some room) = hex_by 8 (to_bits binary32 room)
+room_text None = 45 ∷ []
 
--- what stands behind the job: the number of the refusal, or 0, the room and the cells
+-- the job, and what stands behind it: the number of the refusal, or 0, the room and the cells
 abbrev pub fields_of : BlockRooms → List (List ℕ)
-fields_of a = cond (ltb 0 a.number) (decimal a.number ∷ []) ((48 ∷ []) ∷ room_text a.clear a.room ∷ a.cells ∷ [])
+fields_of (Ok p) = decimal p.job ∷ (48 ∷ []) ∷ room_text p.room ∷ p.cells ∷ []
+fields_of (Err e) = decimal e.job ∷ decimal e.number ∷ []
 
 -- the line of block n
 unfoldable pub line_of : ℕ → BlockRooms → List ℕ
-line_of n a = line (decimal n ∷ decimal a.job ∷ fields_of a)
+line_of n a = line (decimal n ∷ fields_of a)
 
 -- the lines of answers that follow n others
 unfoldable pub lines_from : ℕ → List BlockRooms → List ℕ
@@ -33,7 +35,7 @@ abbrev pub none : Tally
 none = record { blocks = 0; refused = 0 }
 
 abbrev pub counted : Tally → BlockRooms → Tally
-counted t a = record { blocks = t.blocks + 1; refused = cond (ltb 0 a.number) (t.refused + 1) t.refused }
+counted t a = record { blocks = t.blocks + 1; refused = cond (is_err a) (t.refused + 1) t.refused }
 
 unfoldable pub totals_from : Tally → List BlockRooms → Tally
 totals_from t [] = t

@@ -4,10 +4,11 @@ use Rattle.rooms_lines.specs.declared.part.Tally.{Tally}
 use Rattle.model.specs.Block.{block_size}
 use Rattle.model.specs.Blocks.{blocks}
 use Rattle.model.specs.Parts.{count_limit, is_last}
+use Rattle.text.specs.declared.draft.Draft.{Draft}
 use Rattle.text.specs.Put.{Put}
+use Rattle.text.specs.Written.{Wrote}
 use Rattle.runs.specs.Run.{text_run}
-use Rattle.rooms_block.specs.declared.BlockRooms.{BlockRooms}
-use Rattle.rooms_block.specs.Answer.{AnswersOf}
+use Rattle.rooms_block.specs.Answer.{BlockRooms, AnswersOf}
 use Rattle.rooms_lines.specs.declared.part.Written.{Written}
 use Rattle.rooms_lines.specs.Lines.{longest_line, lines_from, totals_from, total_line, text_of}
 
@@ -24,11 +25,11 @@ countable t = ltb t.blocks count_limit && ltb t.refused count_limit
 abbrev pub fits : ℕ → ℕ → Tally → Bool
 fits size room t = leb (size / block_size + 2) (room / longest_line) && countable t
 
--- ---- blocks worked, from those totals on: an answer of each, whose lines stand in d' from place k to e, and whose totals are t'
-pub record Worked (t : Tally) (bs : List (List ℕ)) (d : List ℕ) (k : ℕ) (d' : List ℕ) (e : ℕ) (t' : Tally) : Type 0 where
+-- ---- blocks worked, from those totals on: an answer of each, whose lines p' has behind p, in at most n bytes, and whose totals are t'
+pub record Worked (n : ℕ) (t : Tally) (bs : List (List ℕ)) (p p' : Draft) (t' : Tally) : Type 0 where
   pub came : List BlockRooms
   pub sound : AnswersOf bs came
-  pub lines : Put d k (lines_from t.blocks came) d' e
+  pub lines : Wrote n p (lines_from t.blocks came) p'
   pub totals : t' ≡ totals_from t came
 
 -- ---- a part: its lines, and after the last part the totals. Where there is no room nothing is written or counted, and the run is over.

@@ -1,29 +1,14 @@
-// Pieces of a line, each written from a place on; the answer is the place after it.
-ghost use Rattle.std.specs.Prelude.{◌+◌, ◌≤◌, length};
-ghost use Rattle.text.specs.Put.{Put, number};
+// Pieces of a line.
+ghost use Rattle.text.specs.Written.{Room, Wrote};
 ghost use Rattle.rooms_lines.specs.Pieces.{two};
 
-// A text as it stands.
-pub fn put(out: &mut [u8], at: usize, text: &[u8]) -> usize
-    requires { at + length text.now ≤ length out.old }
-    ensures { Put out.old at text.now out.new result }
-{
-    text::put_text(out, at, text)
-}
-
-// A number in decimal digits, and a byte after it.
-pub fn put_number(out: &mut [u8], at: usize, n: u64, end: u8) -> usize
-    requires { at + 21 ≤ length out.old }
-    ensures { Put out.old at (number n end) out.new result }
-{
-    text::put_number(out, at, n, end)
-}
+use text::Draft;
 
 // Two numbers, a blank after the first and a byte after the second.
-pub fn put_two(out: &mut [u8], at: usize, a: u64, b: u64, end: u8) -> usize
-    requires { at + 42 ≤ length out.old }
-    ensures { Put out.old at (two a b end) out.new result }
+pub fn put_two(draft: &mut Draft<'_>, a: u64, b: u64, end: u8)
+    requires { Room 42 draft.old }
+    ensures { Wrote 42 draft.old (two a b end) draft.new }
 {
-    let e1 = put_number(out, at, a, b' ');
-    put_number(out, e1, b, end)
+    draft.put_number(a, b' ');
+    draft.put_number(b, end);
 }

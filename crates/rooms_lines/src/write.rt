@@ -1,52 +1,57 @@
 // A block's line, and the totals, piece by piece.
-ghost use Rattle.std.specs.Prelude.{◌≡◌, ◌+◌, ◌≤◌, length};
+ghost use Rattle.std.specs.Prelude.{◌≡◌, length, IfOk};
 ghost use Rattle.std.specs.Float.{binary32};
-ghost use Rattle.text.specs.Put.{Put};
+ghost use Rattle.text.specs.Written.{Room, Wrote};
 ghost use Rattle.rooms_lines.specs.declared.part.Tally.{Tally};
 ghost use Rattle.rooms_lines.specs.Lines.{longest_line, line_of, total_line};
 ghost use Rattle.rooms_lines.specs.Pieces.{cells_room, room_piece, cells_piece};
 
-use crate::put::{put, put_number, put_two};
+use crate::put::put_two;
 use rooms_block::BlockRooms;
+use text::Draft;
 
-fn put_room(out: &mut [u8], at: usize, clear: bool, room: f32) -> usize
-    requires { at + 9 ≤ length out.old }
-    ensures { Put out.old at (room_piece clear room) out.new result }
+fn put_room(draft: &mut Draft<'_>, room: Option<f32>)
+    requires { Room 9 draft.old }
+    ensures { Wrote 9 draft.old (room_piece room) draft.new }
 {
-    if clear {
-        return text::put_hex(out, at, ground::to_bits(room), b' ');
+    match room {
+        Some(room) => draft.put_hex(ground::to_bits(room), b' '),
+        None => draft.put(b"- "),
     }
-    put(out, at, b"- ")
 }
 
-fn put_cells(out: &mut [u8], at: usize, clear: bool, room: f32, cells: [u8; 64]) -> usize
-    requires { (at + cells_room ≤ length out.old) × (length cells ≡ 64) }
-    ensures { Put out.old at (cells_piece clear room cells) out.new result }
+fn put_cells(draft: &mut Draft<'_>, room: Option<f32>, cells: [u8; 64])
+    requires { Room cells_room draft.old × (length cells ≡ 64) }
+    ensures { Wrote cells_room draft.old (cells_piece room cells) draft.new }
 {
-    let e1 = put(out, at, b"0 ");
-    let e2 = put_room(out, e1, clear, room);
-    let e3 = put(out, e2, &cells);
-    put(out, e3, b"\n")
+    draft.put(b"0 ");
+    put_room(draft, room);
+    draft.put(&cells);
+    draft.put(b"\n");
 }
 
 // The line of block n.
-pub fn put_answer(out: &mut [u8], at: usize, n: u64, a: BlockRooms) -> usize
-    requires { (at + longest_line ≤ length out.old) × (length a.cells ≡ 64) }
-    ensures { Put out.old at (line_of n a) out.new result }
+pub fn put_answer(draft: &mut Draft<'_>, n: u64, a: BlockRooms)
+    requires { Room longest_line draft.old × IfOk a (λ p. length p.cells ≡ 64) }
+    ensures { Wrote longest_line draft.old (line_of n a) draft.new }
 {
-    let e1 = put_two(out, at, n, a.job as u64, b' ');
-    if a.number > 0 {
-        return put_number(out, e1, a.number as u64, b'\n');
+    match a {
+        Ok(proved) => {
+            put_two(draft, n, proved.job as u64, b' ');
+            put_cells(draft, proved.room, proved.cells);
+        }
+        Err(refusal) => {
+            put_two(draft, n, refusal.job as u64, b' ');
+            draft.put_number(refusal.number as u64, b'\n');
+        }
     }
-    let cells = a.cells;
-    put_cells(out, e1, a.clear, a.room, cells)
 }
 
 // The last line.
-pub fn put_total(out: &mut [u8], at: usize, blocks: u64, refused: u64) -> usize
-    requires { at + longest_line ≤ length out.old }
-    ensures { Put out.old at (total_line (record { blocks = blocks; refused = refused })) out.new result }
+pub fn put_total(draft: &mut Draft<'_>, blocks: u64, refused: u64)
+    requires { Room longest_line draft.old }
+    ensures { Wrote longest_line draft.old (total_line (record { blocks = blocks; refused = refused })) draft.new }
 {
-    let e1 = put(out, at, b"TOTAL ");
-    put_two(out, e1, blocks, refused, b'\n')
+    draft.put(b"TOTAL ");
+    put_two(draft, blocks, refused, b'\n');
 }

@@ -1,12 +1,11 @@
 -- On squared paper the round limit is never reached, so demand 3 holds without its "unless": the statements.
-use Rattle.std.specs.Prelude.{◌≡◌, Bool, List, ℕ, ◌+◌, ◌*◌, ◌/◌, ◌^◌, ◌≤◌, ◌<◌, length, Float}
+use Rattle.std.specs.Prelude.{◌≡◌, Bool, List, ℕ, ◌+◌, ◌*◌, ◌/◌, ◌^◌, ◌≤◌, ◌<◌, length, Float, Ok}
 use Rattle.std.specs.Float.{Format, binary32, binary64}
 use Rattle.model.specs.declared.Pose.{Pose}
 use Rattle.model.specs.declared.SimplexCache.{SimplexCache}
 use Rattle.model.specs.declared.Rounds.{Rounds}
 use Rattle.model.specs.declared.Ending.TheVariants.{RoundLimit}
 use Rattle.model.specs.declared.ProxyDistanceOutput.{ProxyDistanceOutput}
-use Rattle.model.specs.declared.DistanceAnswer.TheVariants.{Measured}
 use Rattle.model.specs.Ground.{origin}
 use Rattle.model.specs.Domain.{cache_refusal}
 use Rattle.model.specs.Distance.{start_simplex, start_count, rounds_from, proxy_distance}
@@ -44,13 +43,13 @@ NeverRunOut f bound k =
 abbrev pub LimitNeverReached : Format → ℕ → Type 0
 LimitNeverReached f bound =
     (p : Pose) (a : List Float) (ra : Float) (b : List Float) (rb : Float) (radii : Bool) (pair : ℕ) (c : SimplexCache) → SquaredPaper bound p a b
-    → (o : ProxyDistanceOutput) → (proxy_distance f p a ra b rb radii pair c).answer ≡ Measured o → o.ending ≡ RoundLimit → ⊥
+    → (o : ProxyDistanceOutput) → (proxy_distance f p a ra b rb radii pair c).answer ≡ Ok o → o.ending ≡ RoundLimit → ⊥
 
 -- no call tells more than k rounds, whatever its radii and the cache that came, whether the outlines share a point or not
 abbrev pub TellsAtMost : Format → ℕ → ℕ → Type 0
 TellsAtMost f bound k =
     (p : Pose) (a : List Float) (ra : Float) (b : List Float) (rb : Float) (radii : Bool) (pair : ℕ) (c : SimplexCache) → SquaredPaper bound p a b
-    → (o : ProxyDistanceOutput) → (proxy_distance f p a ra b rb radii pair c).answer ≡ Measured o → o.iterations ≤ k
+    → (o : ProxyDistanceOutput) → (proxy_distance f p a ra b rb radii pair c).answer ≡ Ok o → o.iterations ≤ k
 
 -- 19, the rounds for six quarterings
 abbrev pub most_rounds : ℕ
@@ -61,7 +60,7 @@ module _ (f : Format) (p : Pose) (a : List Float) (ra : Float) (b : List Float) 
     {bound : ℕ} (paper : SquaredPaper bound p a b) where
   pub record ExactAnswer : Type 0 where
     pub output : ProxyDistanceOutput
-    pub answered : (proxy_distance f p a ra b rb radii pair c).answer ≡ Measured output
+    pub answered : (proxy_distance f p a ra b rb radii pair c).answer ≡ Ok output
     pub in_time : output.ending ≡ RoundLimit → ⊥
     pub exact : Exact (outline_a paper) (posed_b paper) output.ending (proxy_distance f p a ra b rb radii pair c).cache
 

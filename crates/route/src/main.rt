@@ -4,6 +4,7 @@
 use model::PART_SIZE;
 use route_read::Reader;
 use std::io::{Read, Write};
+use std::ops::ControlFlow;
 use std::process::ExitCode;
 use streams::Stopped;
 
@@ -11,13 +12,6 @@ use streams::Stopped;
 const NUMBERS: usize = 4390;
 
 const LENGTHS: usize = 33;
-
-// Whether the run goes on, and where the reader stands.
-#[derive(Clone, Copy)]
-struct Step {
-    more: bool,
-    reader: Reader,
-}
 
 fn tell<W: Write, E: Write>(
     out: &mut W,
@@ -28,50 +22,40 @@ fn tell<W: Write, E: Write>(
 ) -> Result<(), Stopped> {
     let mut text = [0u8; 128];
     let n = route_text::write_answer(reader, floats, lengths, &mut text);
-    streams::write_to_output(out, err, &text, n)
+    streams::write_to_output(out, err, &text[..n])
 }
 
-fn next_part<R: Read, W: Write, E: Write>(
-    input: &mut R,
+// Reads on. Less than a whole part is the last one, and the answer is told.
+fn read_part<W: Write, E: Write>(
     out: &mut W,
     err: &mut E,
-    reader: Reader,
+    part: &[u8],
     floats: &mut [f32],
     lengths: &mut [u32],
-) -> Result<Step, Stopped> {
-    let mut buffer = io::large_buffer();
-    let filled = streams::fill_from_input(input, err, &mut buffer);
-    if filled.failed.is_some() {
-        return Err(Stopped::Told);
+    reader: &mut Reader,
+) -> Result<ControlFlow<()>, Stopped> {
+    let after = route_read::read_part(part, *reader, floats, lengths);
+    *reader = after;
+    if part.len() == PART_SIZE {
+        return Ok(ControlFlow::Continue(()));
     }
-    let n = filled.count;
-    let after = route_read::read_part(&buffer[..n], reader, floats, lengths);
-    if n < PART_SIZE {
-        tell(out, err, after, floats, lengths)?;
-    }
-    Ok(Step {
-        more: n == PART_SIZE,
-        reader: after,
-    })
+    tell(out, err, after, floats, lengths)?;
+    Ok(ControlFlow::Break(()))
 }
 
-// A proved loop has to end, and nothing says that the input does: so the reads are counted, to a number that no run reaches.
 fn run<R: Read, W: Write, E: Write>(
     input: &mut R,
     out: &mut W,
     err: &mut E,
 ) -> Result<(), Stopped> {
+    let mut buffer = io::large_buffer();
     let mut floats = [0.0f32; NUMBERS];
     let mut lengths = [0u32; LENGTHS];
     let mut reader = route_read::no_text();
-    for reads in 0..u64::MAX {
-        let step = next_part(input, out, err, reader, &mut floats, &mut lengths)?;
-        let after = step.reader;
-        reader = after;
-        if !step.more {
-            return Ok(());
-        }
-    }
+    streams::each_part(input, &mut buffer, |part| {
+        let part = streams::told(err, b"standard input", part)?;
+        read_part(out, err, part, &mut floats, &mut lengths, &mut reader)
+    })?;
     Ok(())
 }
 

@@ -29,6 +29,7 @@ pub struct End {
 }
 
 // Clear, with all pieces; ended by a pair that touches, that is not settled or that is refused; or no pair was looked at. Places are in 2^24-ths of the leg.
+// No Result, as the answer of a route by sweeps.
 #[derive(Clone, Copy)]
 pub enum RouteCleared {
     Clear {
@@ -71,10 +72,8 @@ fn start_of(lengths: &[u32], j: usize) -> usize
     ensures { (result ≡ Route.start_of lengths.now j) × (result ≤ 0x1_0000_0000 * j) }
 {
     let mut start: usize = 0;
-    let mut i: usize = 0;
-    while i < j {
+    for i in 0..j {
         start += lengths[i] as usize;
-        i += 1;
     }
     start
 }
@@ -117,19 +116,7 @@ fn look_at(
 fn is_clear(answer: Cleared) -> bool
     ensures { result ≡ Looks.is_clear answer }
 {
-    match answer {
-        Cleared::Refused(_) => false,
-        Cleared::Clear { pieces: _ } => true,
-        Cleared::Touch {
-            clear_up_to: _,
-            within_by: _,
-            pieces: _,
-        } => false,
-        Cleared::Open {
-            clear_up_to: _,
-            pieces: _,
-        } => false,
-    }
+    matches!(&answer, Cleared::Clear { .. })
 }
 
 // A refused pair is not looked at.
@@ -138,16 +125,8 @@ fn pieces_of(answer: Cleared) -> u64
 {
     match answer {
         Cleared::Refused(_) => 0,
-        Cleared::Clear { pieces } => pieces,
-        Cleared::Touch {
-            clear_up_to: _,
-            within_by: _,
-            pieces,
-        } => pieces,
-        Cleared::Open {
-            clear_up_to: _,
-            pieces,
-        } => pieces,
+        Cleared::Clear { pieces } | Cleared::Touch { pieces, .. } | Cleared::Open { pieces, .. } =>
+            { pieces }
     }
 }
 
@@ -157,23 +136,20 @@ fn ended_by(answer: Cleared, end: End) -> RouteCleared
 {
     match answer {
         Cleared::Refused(number) => RouteCleared::Refused { end, number },
-        Cleared::Clear { pieces: _ } => RouteCleared::Open {
+        Cleared::Clear { .. } => RouteCleared::Open {
             end,
             clear_up_to: 0,
         },
         Cleared::Touch {
             clear_up_to,
             within_by,
-            pieces: _,
+            ..
         } => RouteCleared::Touch {
             end,
             clear_up_to,
             within_by,
         },
-        Cleared::Open {
-            clear_up_to,
-            pieces: _,
-        } => RouteCleared::Open { end, clear_up_to },
+        Cleared::Open { clear_up_to, .. } => RouteCleared::Open { end, clear_up_to },
     }
 }
 
@@ -219,8 +195,7 @@ fn walk(
     ensures { Looks.Walked cart.now waypoints.now stills.now lengths.now slop pairs result }
 {
     let mut pieces = 0u64;
-    let mut k = 0u32;
-    while k < pairs {
+    for k in 0..pairs {
         let leg = leg_of(outlines, k);
         let outline = outline_of(outlines, k);
         let answer = look_at(cart, waypoints, stills, lengths, slop, leg, outline);
@@ -228,7 +203,6 @@ fn walk(
         if !is_clear(answer) {
             return ended_by(answer, end_at(leg, outline, pieces));
         }
-        k += 1;
     }
     RouteCleared::Clear { pieces }
 }

@@ -2,39 +2,31 @@
 use mathlib.Core.Path.{◌≡◌, refl, sym}
 use mathlib.Core.Bool.{Bool, true, false, not}
 use mathlib.Core.List.{List, [], ◌∷◌, ◌++◌, append_assoc}
-use Prim.Native.Nat.{ℕ, ◌+◌, ◌≤◌, ◌<◌}
+use Prim.Native.Nat.{ℕ, ◌≤◌, ◌<◌}
 use native.Mathlib.Omega.{arith}
 use lib.Ieee.{Float}
-use lib.ListN.{length, take, length-append}
+use lib.ListN.{length, take}
 use Rattle.model.specs.declared.Vector.{Vector}
 use Rattle.model.specs.Support.{point}
 use Rattle.model.specs.Text.{line}
 use Rattle.text.specs.Put.{Put, number}
-use Rattle.text.proofs.Lengths.{length-hex}
-use Rattle.places.specs.Place.{place_bits}
 use Rattle.route_read.specs.declared.Kept.{Kept}
 use Rattle.route_read.specs.declared.Reader.{Reader}
 use Rattle.route_line.specs.Line.{is_route}
 use Rattle.route_read.specs.Read.{next_line}
-use Rattle.route_text.specs.Answer.{least, cut, whole_end, two}
-use Rattle.route_text.proofs.Lines.{length_two, no-route-is}
+use Rattle.route_text.specs.declared.Cuts.{Cuts}
+use Rattle.route_text.specs.Answer.{cut, cuts_of, two}
+use Rattle.route_text.proofs.Lines.{no-route-is}
 use Rattle.route_clearance_legs.specs.declared.End.{End}
 use Rattle.route_clearance_legs.specs.declared.RouteCleared.{RouteCleared}
 use Rattle.route_clearance_legs.specs.Looks.{Told}
 use Rattle.route_clearance_text.specs.Answer.{ToldOf, place, where_told, clear_line, touch_line, open_line, refused_line, answer_line}
-use Rattle.route_clearance_text.specs.Answer.{AnswerOf, no-route, looked}
+use Rattle.route_clearance_text.specs.Answer.{no-route, looked}
 use Rattle.route_clearance_text.specs.Answer.{longest_line, Written}
 
 pub where-is : (e : End) → where_told e ≡ (48 ∷ 32 ∷ []) ++ two e.leg e.outline 32
 unfolding where_told
 where-is e = refl
-
-pub length-where : (e : End) → length (where_told e) ≤ 44
-length-where e =
-    rw (where-is e, length-append (48 ∷ 32 ∷ []) (two e.leg e.outline 32)) (omega (arith, length_two e.leg e.outline 32))
-
-pub length-place : (k : ℕ) → length (place k) ≤ 9
-length-place k = omega (arith, length-hex (place_bits k) 32)
 
 pub clear-is : (pieces : ℕ) → clear_line pieces ≡ (48 ∷ 32 ∷ 67 ∷ 76 ∷ 69 ∷ 65 ∷ 82 ∷ 32 ∷ []) ++ number pieces 10
 unfolding clear_line line
@@ -75,11 +67,8 @@ module _ (reader : Reader) (numbers : List Float) (lengths : List ℕ) {d d' : L
   }
 
 -- ---- the route of what is kept
-module _ (k : Kept) (numbers : List Float) (lengths : List ℕ) where
-  pub route-kept : {used ways cart start n whole : ℕ} {first : Vector} {x : RouteCleared} → used ≡ least k.used (length numbers) →
-      ways ≡ least k.way_end used → cart ≡ least k.cart_end ways → start ≡ least 1 cart → n ≡ least k.outlines (length lengths) →
-      whole ≡ whole_end cart ways → first ≡ point numbers 0 →
-      Told (cut numbers start cart) (cut numbers cart whole) (cut numbers ways used) (take n lengths) first.x x →
-      ToldOf k numbers lengths x
-  unfolding ToldOf
-  route-kept a b c d e g f is = rw (f, g, e, d, c, b, a) at is
+pub route-kept : (k : Kept) (numbers : List Float) (lengths : List ℕ) {c : Cuts} {first : Vector} {x : RouteCleared}
+    → c ≡ cuts_of k (length numbers) (length lengths) → first ≡ point numbers 0
+    → Told (cut numbers c.start c.cart) (cut numbers c.cart c.whole) (cut numbers c.ways c.used) (take c.outlines lengths) first.x x → ToldOf k numbers lengths x
+unfolding ToldOf
+route-kept k numbers lengths is at told = rw (is, at) at told

@@ -1,5 +1,5 @@
 -- What is told of a text that is read part by part is an answer of the whole text, whichever of the answers that may come are told. Assumes nothing.
-use mathlib.Core.Path.{◌≡◌, sym, subst}
+use mathlib.Core.Path.{sym, subst}
 use mathlib.Core.List.{List}
 use Prim.Native.Nat.{ℕ}
 use lib.Ieee.{Float}

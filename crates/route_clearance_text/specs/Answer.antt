@@ -1,6 +1,6 @@
 -- What is told of a text: a line of its route looked at as a whole, or 14 and the number of the first line that is none of a route. Cut into a route as
 -- `route` cuts it. Which of several answers comes is the search's, so what is said here is said of every line that may be written.
-use Rattle.std.specs.Prelude.{◌≡◌, ℕ, ◌≤◌, ◌<◌, Bool, true, false, List, [], ◌∷◌, ◌++◌, length, take, Float}
+use Rattle.std.specs.Prelude.{◌≡◌, ℕ, ◌≤◌, ◌<◌, true, false, List, [], ◌∷◌, ◌++◌, length, take, Float}
 use Rattle.model.specs.Support.{point}
 use Rattle.model.specs.Text.{decimal, hex_by, line}
 use Rattle.text.specs.Put.{Put, hex}
@@ -9,7 +9,7 @@ use Rattle.route_read.specs.declared.Kept.{Kept}
 use Rattle.route_read.specs.declared.Reader.{Reader}
 use Rattle.route_line.specs.Line.{is_route}
 use Rattle.route_read.specs.Read.{Run, next_line}
-use Rattle.route_text.specs.Answer.{least, cut, whole_end, wrong_line, no_route_line, two}
+use Rattle.route_text.specs.Answer.{cut, cuts_of, wrong_line, no_route_line, two}
 use Rattle.route_clearance_legs.specs.declared.End.{End}
 use Rattle.route_clearance_legs.specs.declared.RouteCleared.{RouteCleared}
 use Rattle.route_clearance_legs.specs.declared.RouteCleared.TheVariants.{Clear, Touch, Open, Refused, Wrong}
@@ -19,11 +19,8 @@ use Rattle.route_clearance_legs.specs.Looks.{Told}
 -- one behind another: the slop, the cart, the waypoints, the still outlines
 unfoldable pub ToldOf : Kept → List Float → List ℕ → RouteCleared → Type 0
 ToldOf k floats lengths =
-    let used = least k.used (length floats) in
-    let ways = least k.way_end used in
-    let cart = least k.cart_end ways in
-    Told (cut floats (least 1 cart) cart) (cut floats cart (whole_end cart ways)) (cut floats ways used)
-    (take (least k.outlines (length lengths)) lengths) (point floats 0).x
+    let c = cuts_of k (length floats) (length lengths) in
+    Told (cut floats c.start c.cart) (cut floats c.cart c.whole) (cut floats c.ways c.used) (take c.outlines lengths) (point floats 0).x
 
 -- ---- its line
 -- a place on a leg by the digits of the f32 that it is

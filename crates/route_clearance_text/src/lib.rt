@@ -1,14 +1,15 @@
 // The answer of a route that was read as text and looked at as a whole, as a line.
 #![tactic(auto)]
 
-ghost use Rattle.std.specs.Prelude.{◌≡◌, ◌+◌, ◌≤◌, length};
-ghost use Rattle.text.specs.Put.{Put};
+ghost use Rattle.text.specs.Written.{Room, Wrote};
 ghost use Rattle.route_text.specs.Answer as Route;
 ghost use Rattle.route_clearance_text.specs.Answer as Answer;
 
 use places::place_bits;
 use route_clearance_legs::{End, RouteCleared};
 use route_read::{Kept, Reader};
+use route_text::cuts_of;
+use text::Draft;
 
 // No line is longer.
 const LONGEST_LINE: usize = 128;
@@ -16,117 +17,98 @@ const LONGEST_LINE: usize = 128;
 // A text that is no route.
 const NO_ROUTE: u64 = 14;
 
-fn least(a: usize, b: usize) -> usize
-    ensures { (result ≡ Route.least a b) × (result ≤ a) × (result ≤ b) }
-{
-    if b < a { b } else { a }
-}
-
-// Where the last whole waypoint ends: a text with more numbers than there are places for may end within one.
-fn whole_end(cart: usize, ways: usize) -> usize
-    requires { cart ≤ ways }
-    ensures { (result ≡ Route.whole_end cart ways) × (cart ≤ result) × (result ≤ ways) }
-{
-    cart + (ways - cart) / 4 * 4
-}
-
 // The route that the kept numbers and lengths stand for.
 fn route_of(kept: Kept, floats: &[f32], lengths: &[u32]) -> RouteCleared
     ensures { Answer.ToldOf kept floats.now lengths.now result }
 {
-    let used = least(kept.used, floats.len());
-    let ways = least(kept.way_end, used);
-    let cart = least(kept.cart_end, ways);
-    let start = least(1, cart);
-    let n = least(kept.outlines, lengths.len());
-    let whole = whole_end(cart, ways);
+    let cuts = cuts_of(kept, floats.len(), lengths.len());
     let first = outline::point(floats, 0);
     route_clearance_legs::route_clearance(
-        &floats[start..cart],
-        &floats[cart..whole],
-        &floats[ways..used],
-        &lengths[..n],
+        &floats[cuts.start..cuts.cart],
+        &floats[cuts.cart..cuts.whole],
+        &floats[cuts.ways..cuts.used],
+        &lengths[..cuts.outlines],
         first.x,
     )
 }
 
 // Two numbers with a blank between, and a byte after them.
-fn put_pair(out: &mut [u8], at: usize, a: u64, b: u64, end: u8) -> usize
-    requires { at + 42 ≤ length out.old }
-    ensures { Put out.old at (Route.two a b end) out.new result }
+fn put_pair(draft: &mut Draft<'_>, a: u64, b: u64, end: u8)
+    requires { Room 42 draft.old }
+    ensures { Wrote 42 draft.old (Route.two a b end) draft.new }
 {
-    let e = text::put_number(out, at, a, b' ');
-    text::put_number(out, e, b, end)
+    draft.put_number(a, b' ');
+    draft.put_number(b, end);
 }
 
 // A place on a leg as the f32 that it is, and a blank.
-fn put_place(out: &mut [u8], at: usize, k: u64) -> usize
-    requires { at + 9 ≤ length out.old }
-    ensures { Put out.old at (Answer.place k) out.new result }
+fn put_place(draft: &mut Draft<'_>, k: u64)
+    requires { Room 9 draft.old }
+    ensures { Wrote 9 draft.old (Answer.place k) draft.new }
 {
-    text::put_hex(out, at, place_bits(k), b' ')
+    draft.put_hex(place_bits(k), b' ');
 }
 
 // 0, the leg and the outline.
-fn put_where(out: &mut [u8], end: End) -> usize
-    requires { Answer.longest_line ≤ length out.old }
-    ensures { Put out.old 0 (Answer.where_told end) out.new result }
+fn put_where(draft: &mut Draft<'_>, end: End)
+    requires { Room 44 draft.old }
+    ensures { Wrote 44 draft.old (Answer.where_told end) draft.new }
 {
-    let e = text::put_text(out, 0, b"0 ");
-    put_pair(out, e, end.leg as u64, end.outline as u64, b' ')
+    draft.put(b"0 ");
+    put_pair(draft, end.leg as u64, end.outline as u64, b' ');
 }
 
-fn put_clear(out: &mut [u8], pieces: u64) -> usize
-    requires { Answer.longest_line ≤ length out.old }
-    ensures { Put out.old 0 (Answer.clear_line pieces) out.new result }
+fn put_clear(draft: &mut Draft<'_>, pieces: u64)
+    requires { Room Answer.longest_line draft.old }
+    ensures { Wrote Answer.longest_line draft.old (Answer.clear_line pieces) draft.new }
 {
-    let e = text::put_text(out, 0, b"0 CLEAR ");
-    text::put_number(out, e, pieces, b'\n')
+    draft.put(b"0 CLEAR ");
+    draft.put_number(pieces, b'\n');
 }
 
-fn put_touch(out: &mut [u8], end: End, clear_up_to: u64, within_by: u64) -> usize
-    requires { Answer.longest_line ≤ length out.old }
-    ensures { Put out.old 0 (Answer.touch_line end clear_up_to within_by) out.new result }
+fn put_touch(draft: &mut Draft<'_>, end: End, clear_up_to: u64, within_by: u64)
+    requires { Room Answer.longest_line draft.old }
+    ensures { Wrote Answer.longest_line draft.old (Answer.touch_line end clear_up_to within_by) draft.new }
 {
-    let e1 = put_where(out, end);
-    let e2 = text::put_text(out, e1, b"TOUCH ");
-    let e3 = put_place(out, e2, clear_up_to);
-    let e4 = put_place(out, e3, within_by);
-    text::put_number(out, e4, end.pieces, b'\n')
+    put_where(draft, end);
+    draft.put(b"TOUCH ");
+    put_place(draft, clear_up_to);
+    put_place(draft, within_by);
+    draft.put_number(end.pieces, b'\n');
 }
 
-fn put_open(out: &mut [u8], end: End, clear_up_to: u64) -> usize
-    requires { Answer.longest_line ≤ length out.old }
-    ensures { Put out.old 0 (Answer.open_line end clear_up_to) out.new result }
+fn put_open(draft: &mut Draft<'_>, end: End, clear_up_to: u64)
+    requires { Room Answer.longest_line draft.old }
+    ensures { Wrote Answer.longest_line draft.old (Answer.open_line end clear_up_to) draft.new }
 {
-    let e1 = put_where(out, end);
-    let e2 = text::put_text(out, e1, b"OPEN ");
-    let e3 = put_place(out, e2, clear_up_to);
-    text::put_number(out, e3, end.pieces, b'\n')
+    put_where(draft, end);
+    draft.put(b"OPEN ");
+    put_place(draft, clear_up_to);
+    draft.put_number(end.pieces, b'\n');
 }
 
-fn put_refused(out: &mut [u8], end: End, number: u32) -> usize
-    requires { Answer.longest_line ≤ length out.old }
-    ensures { Put out.old 0 (Answer.refused_line end number) out.new result }
+fn put_refused(draft: &mut Draft<'_>, end: End, number: u32)
+    requires { Room Answer.longest_line draft.old }
+    ensures { Wrote Answer.longest_line draft.old (Answer.refused_line end number) draft.new }
 {
-    let e = put_pair(out, 0, number as u64, end.leg as u64, b' ');
-    put_pair(out, e, end.outline as u64, end.pieces, b'\n')
+    put_pair(draft, number as u64, end.leg as u64, b' ');
+    put_pair(draft, end.outline as u64, end.pieces, b'\n');
 }
 
-fn put_answer(out: &mut [u8], answer: RouteCleared) -> usize
-    requires { Answer.longest_line ≤ length out.old }
-    ensures { Put out.old 0 (Answer.answer_line answer) out.new result }
+fn put_answer(draft: &mut Draft<'_>, answer: RouteCleared)
+    requires { Room Answer.longest_line draft.old }
+    ensures { Wrote Answer.longest_line draft.old (Answer.answer_line answer) draft.new }
 {
     match answer {
-        RouteCleared::Clear { pieces } => put_clear(out, pieces),
+        RouteCleared::Clear { pieces } => put_clear(draft, pieces),
         RouteCleared::Touch {
             end,
             clear_up_to,
             within_by,
-        } => put_touch(out, end, clear_up_to, within_by),
-        RouteCleared::Open { end, clear_up_to } => put_open(out, end, clear_up_to),
-        RouteCleared::Refused { end, number } => put_refused(out, end, number),
-        RouteCleared::Wrong(number) => text::put_number(out, 0, number as u64, b'\n'),
+        } => put_touch(draft, end, clear_up_to, within_by),
+        RouteCleared::Open { end, clear_up_to } => put_open(draft, end, clear_up_to),
+        RouteCleared::Refused { end, number } => put_refused(draft, end, number),
+        RouteCleared::Wrong(number) => draft.put_number(number as u64, b'\n'),
     }
 }
 
@@ -137,10 +119,16 @@ pub fn write_answer(reader: Reader, floats: &[f32], lengths: &[u32], out: &mut [
     if out.len() < LONGEST_LINE {
         return 0;
     }
-    let line = reader.line;
-    if !route_line::is_route(line) {
-        return put_pair(out, 0, NO_ROUTE, route_read::next_line(reader.lines), b'\n');
+    let mut draft = Draft { bytes: out, at: 0 };
+    if !route_line::is_route(reader.line) {
+        put_pair(
+            &mut draft,
+            NO_ROUTE,
+            route_read::next_line(reader.lines),
+            b'\n',
+        );
+        return draft.at;
     }
-    let kept = reader.kept;
-    put_answer(out, route_of(kept, floats, lengths))
+    put_answer(&mut draft, route_of(reader.kept, floats, lengths));
+    draft.at
 }

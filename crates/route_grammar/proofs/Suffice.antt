@@ -17,7 +17,8 @@ use Rattle.route_line.specs.declared.Line.{Line}
 use Rattle.route_line.specs.Line.{line, between}
 use Rattle.route_line.specs.Text.{Way, route_text}
 use Rattle.route_read.specs.Read.{kept, no_text, Run, run, run_over}
-use Rattle.route_text.specs.Answer.{longest_line, least, cut, whole_end, route_of, answer_line, answer_of, answer_text, answer_by}
+use Rattle.std.proofs.Math.Nat.{min-eq_left, min-eq_right}
+use Rattle.route_text.specs.Answer.{longest_line, cut, whole_end, route_of, answer_line, answer_of, answer_text, answer_by}
 use Rattle.route_text.proofs.Run.{run-answers-whole}
 use Rattle.runs.specs.Run.{Cut}
 use Rattle.model.specs.Parts.{together}
@@ -127,7 +128,7 @@ route-of : (u c e o : ℕ) (fl : List Float) (le : List ℕ) → u ≤ length fl
     route_of (kept u c e o) fl le ≡ route binary32 (cut fl 1 c) (cut fl c (whole_end c e)) (cut fl e u) (take o le) (point fl 0).x
 unfolding route_of
 route-of u c e o fl le used ways cart some outlines =
-    rw (le-ltb (length fl) u used, le-ltb u e ways, le-ltb e c cart, le-ltb c 1 some, le-ltb (length le) o outlines)
+    rw (min-eq_left used, min-eq_left ways, min-eq_left cart, min-eq_right some, min-eq_left outlines)
 
 length_cut : (s : List Float) (a b : ℕ) → b ≤ length s → length (cut s a b) ≡ b - a
 length_cut s a b inside = length-take-le (b - a) (drop a s) (rw (length-drop a s) (omega arith))

@@ -1,9 +1,9 @@
 -- A route: a cart goes leg by leg past still outlines, and the first sweep that is not separated ends it.
-use Rattle.std.specs.Prelude.{ℕ, zero, suc, ◌+◌, ◌-◌, ◌*◌, ◌/◌, ◌%◌, Bool, true, false, ◌||◌, cond, List, eqb, ltb, length, get_or, take, drop, Float}
+use Rattle.std.specs.Prelude.{ℕ, zero, suc, ◌+◌, ◌-◌, ◌*◌, ◌/◌, ◌%◌, Bool, true, false, ◌||◌, cond, List, eqb, ltb, length, get_or, take, drop, Float, Result, Ok, Err}
 use Rattle.std.specs.Float.{Format}
 use Rattle.model.specs.declared.Sweep.{Sweep}
-use Rattle.model.specs.declared.Outcome.{Outcome}
-use Rattle.model.specs.declared.Outcome.TheVariants as Told
+use Rattle.model.specs.declared.Verdict.{Verdict}
+use Rattle.model.specs.declared.Refusal.{Refusal}
 use Rattle.model.specs.declared.SweepAnswer.{SweepAnswer}
 use Rattle.model.specs.declared.SweepAnswer.TheVariants as Swept
 use Rattle.model.specs.Ground.{rotation, origin, one}
@@ -61,9 +61,9 @@ calls_of (Swept.Failed c n) = n.distance_calls
 calls_of (Swept.Refused k) = 0
 
 -- with its own status and floats, or its own number; no corners are told
-abbrev pub ended_with : Stop → Outcome → RouteAnswer
-ended_with s (Told.Found v) = Ended s v.status v.contact
-ended_with s (Told.Refused k) = Refused s k
+abbrev pub ended_with : Stop → Result Verdict Refusal → RouteAnswer
+ended_with s (Ok v) = Ended s v.status v.contact
+ended_with s (Err r) = Refused s r.number
 
 abbrev pub ended_by : Format → SweepAnswer → Stop → RouteAnswer
 ended_by f x s = ended_with s (told_by f no_search x)

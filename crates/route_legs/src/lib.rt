@@ -6,8 +6,8 @@ ghost use Rattle.std.specs.Float.{binary32};
 ghost use Rattle.route_legs.specs.Route as Route;
 
 use model::{
-    Contact, Corners, Counts, NO_CORNER, Outcome, Rotation, Status, SupportPair, Sweep,
-    SweepAnswer, Vector,
+    Contact, Corners, Counts, NO_CORNER, Refusal, Rotation, Status, SupportPair, Sweep,
+    SweepAnswer, Vector, Verdict,
 };
 use outline::point;
 use sweep_numbers::turn;
@@ -32,12 +32,23 @@ pub struct Stop {
 }
 
 // Clear, with all distance calls; ended by a sweep that is not separated, or by one that is refused; or no sweep was run.
+// No Result: that a route ended and that it could not be looked at are told apart in one `match`, and each has its own place or number.
 #[derive(Clone, Copy)]
 pub enum RouteAnswer {
     Clear(u32),
     Ended(Stop, Status, Contact),
     Refused(Stop, u32),
     Wrong(u32),
+}
+
+// What a route is made of: a cart, waypoints, and still outlines in one flat list with the length of each.
+#[derive(Clone, Copy)]
+struct Lists<'a> {
+    cart: &'a [f32],
+    waypoints: &'a [f32],
+    stills: &'a [f32],
+    lengths: &'a [u32],
+    slop: f32,
 }
 
 // Leg i of the waypoints, from 0: from one to the next.
@@ -74,16 +85,14 @@ fn still_move() -> Sweep
     }
 }
 
-// How many numbers stand before still outline j.
+// How many numbers stand before still outline j. `route_clearance_legs` has its own, since it asks for few outlines and nothing public asks its caller.
 fn start_of(lengths: &[u32], j: usize) -> usize
     requires { (j ≤ length lengths.now) × (j ≤ 32) }
     ensures { (result ≡ Route.start_of lengths.now j) × (result ≤ 0x1_0000_0000 * j) }
 {
     let mut start: usize = 0;
-    let mut i: usize = 0;
-    while i < j {
-        start += lengths[i] as usize;
-        i += 1;
+    for n in &lengths[..j] {
+        start += *n as usize;
     }
     start
 }
@@ -113,23 +122,23 @@ fn sweep_past(cart: &[f32], waypoints: &[f32], slop: f32, i: u32, still: &[f32])
 }
 
 // The sweep of leg i past still outline j of the flat list.
-fn sweep_at(
-    cart: &[f32],
-    waypoints: &[f32],
-    stills: &[f32],
-    lengths: &[u32],
-    slop: f32,
-    i: u32,
-    j: u32,
-) -> SweepAnswer
-    requires i_bound { (i ≤ 1024) × (j < length lengths.now) × (length lengths.now ≤ 32) }
-    requires lengths_value { Route.start_of lengths.now (length lengths.now) ≡ length stills.now }
-    ensures { result ≡ Route.sweep_at binary32 cart.now waypoints.now stills.now lengths.now slop i j }
+fn sweep_at(lists: Lists, i: u32, j: u32) -> SweepAnswer
+    requires i_bound { (i ≤ 1024) × (j < length lists.lengths.now) × (length lists.lengths.now ≤ 32) }
+    requires lengths_value { Route.start_of lists.lengths.now (length lists.lengths.now) ≡ length lists.stills.now }
+    ensures { result ≡ Route.sweep_at binary32 lists.entry.cart.now lists.entry.waypoints.now lists.entry.stills.now lists.entry.lengths.now lists.entry.slop i j }
 {
+    let lengths = lists.lengths;
+    let stills = lists.stills;
     let k = wide(j);
     let from = start_of(lengths, k);
     let end = from + wide(lengths[k]);
-    sweep_past(cart, waypoints, slop, i, &stills[from..end])
+    sweep_past(
+        lists.cart,
+        lists.waypoints,
+        lists.slop,
+        i,
+        &stills[from..end],
+    )
 }
 
 fn is_separated(answer: SweepAnswer) -> bool
@@ -163,16 +172,16 @@ fn calls_of(answer: SweepAnswer) -> u32
     }
 }
 
-fn ended_with(stop: Stop, outcome: Outcome) -> RouteAnswer
+fn ended_with(stop: Stop, outcome: Result<Verdict, Refusal>) -> RouteAnswer
     ensures { result ≡ Route.ended_with stop outcome }
 {
     match outcome {
-        Outcome::Found(v) => {
+        Ok(v) => {
             let status = v.status;
             let contact = v.contact;
             RouteAnswer::Ended(stop, status, contact)
         }
-        Outcome::Refused(number) => RouteAnswer::Refused(stop, number),
+        Err(refusal) => RouteAnswer::Refused(stop, refusal.number),
     }
 }
 
@@ -216,30 +225,20 @@ fn stop_at(leg: u32, outline: u32, calls: u32) -> Stop
 }
 
 // So many sweeps in their order: leg by leg, and on a leg outline by outline.
-fn walk(
-    cart: &[f32],
-    waypoints: &[f32],
-    stills: &[f32],
-    lengths: &[u32],
-    slop: f32,
-    outlines: u32,
-    sweeps: u32,
-) -> RouteAnswer
-    requires outlines_value { (outlines ≡ length lengths.now) × (1 ≤ outlines) × (outlines ≤ 32) × (sweeps ≤ 1024) }
-    requires lengths_value { Route.start_of lengths.now (length lengths.now) ≡ length stills.now }
-    ensures { result ≡ Route.walk_from binary32 cart.now waypoints.now stills.now lengths.now slop sweeps 0 0 }
+fn walk(lists: Lists, outlines: u32, sweeps: u32) -> RouteAnswer
+    requires outlines_value { (outlines ≡ length lists.lengths.now) × (1 ≤ outlines) × (outlines ≤ 32) × (sweeps ≤ 1024) }
+    requires lengths_value { Route.start_of lists.lengths.now (length lists.lengths.now) ≡ length lists.stills.now }
+    ensures { result ≡ Route.walk_from binary32 lists.entry.cart.now lists.entry.waypoints.now lists.entry.stills.now lists.entry.lengths.now lists.entry.slop sweeps 0 0 }
 {
     let mut calls = 0u32;
-    let mut k = 0u32;
-    while k < sweeps {
+    for k in 0..sweeps {
         let leg = leg_of(outlines, k);
         let outline = outline_of(outlines, k);
-        let answer = sweep_at(cart, waypoints, stills, lengths, slop, leg, outline);
+        let answer = sweep_at(lists, leg, outline);
         calls += calls_of(answer);
         if !is_separated(answer) {
             return ended_by(answer, stop_at(leg, outline, calls));
         }
-        k += 1;
     }
     RouteAnswer::Clear(calls)
 }
@@ -277,13 +276,12 @@ pub fn route(
         return RouteAnswer::Wrong(WRONG_LENGTH);
     }
     let sweeps = (places - 1) * outlines;
-    walk(
+    let lists = Lists {
         cart,
         waypoints,
         stills,
         lengths,
         slop,
-        outlines as u32,
-        sweeps as u32,
-    )
+    };
+    walk(lists, outlines as u32, sweeps as u32)
 }

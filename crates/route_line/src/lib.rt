@@ -114,9 +114,8 @@ fn takes_word(kind: Kind, count: u32) -> bool
     match kind {
         Kind::Nothing => false,
         Kind::Slop => count < 1,
-        Kind::Cart => true,
         Kind::At => count < 4,
-        Kind::Still => true,
+        Kind::Cart | Kind::Still => true,
     }
 }
 
@@ -127,9 +126,8 @@ fn is_whole(kind: Kind, count: u32) -> bool
     match kind {
         Kind::Nothing => false,
         Kind::Slop => count == 1,
-        Kind::Cart => true,
         Kind::At => count == 4,
-        Kind::Still => true,
+        Kind::Cart | Kind::Still => true,
     }
 }
 
@@ -231,13 +229,7 @@ pub fn line_after(line: Line, x: u8) -> Line
 fn has_cart(kind: Kind) -> bool
     ensures { result ≡ Text.has_cart kind }
 {
-    match kind {
-        Kind::Nothing => false,
-        Kind::Slop => false,
-        Kind::Cart => true,
-        Kind::At => true,
-        Kind::Still => true,
-    }
+    matches!(kind, Kind::Cart | Kind::At | Kind::Still)
 }
 
 // Whether a text that ends here is a route.

@@ -7,7 +7,7 @@ ghost use Rattle.route_read.specs.Read as Read;
 use model::COUNT_LIMIT;
 use route_line::{AFTER_WORD, BETWEEN, Kind, LAST_DIGIT, Line, MOST_WORDS, line_after};
 
-// How many numbers and how many lengths are kept, and where among the numbers the cart and the waypoints end.
+// How many numbers and how many lengths are kept, and where among the numbers the cart and the waypoints end: places in lent lists that are still written.
 #[derive(Clone, Copy)]
 pub struct Kept {
     pub used: usize,
@@ -98,12 +98,10 @@ fn ended(line: Line) -> Kind
 fn cart_end(kind: Kind, used: usize, end: usize) -> usize
     ensures { result ≡ Read.cart_end kind used end }
 {
-    match kind {
-        Kind::Nothing => end,
-        Kind::Slop => end,
-        Kind::Cart => used,
-        Kind::At => end,
-        Kind::Still => end,
+    if matches!(kind, Kind::Cart) {
+        used
+    } else {
+        end
     }
 }
 
@@ -111,25 +109,17 @@ fn cart_end(kind: Kind, used: usize, end: usize) -> usize
 fn way_end(kind: Kind, used: usize, end: usize) -> usize
     ensures { result ≡ Read.way_end kind used end }
 {
-    match kind {
-        Kind::Nothing => end,
-        Kind::Slop => end,
-        Kind::Cart => used,
-        Kind::At => used,
-        Kind::Still => end,
+    if matches!(kind, Kind::Cart | Kind::At) {
+        used
+    } else {
+        end
     }
 }
 
 fn is_still(kind: Kind) -> bool
     ensures { result ≡ Read.is_still kind }
 {
-    match kind {
-        Kind::Nothing => false,
-        Kind::Slop => false,
-        Kind::Cart => false,
-        Kind::At => false,
-        Kind::Still => true,
-    }
+    matches!(kind, Kind::Still)
 }
 
 // The length of a still outline is kept with the end of its line.
@@ -197,10 +187,8 @@ pub fn read_part(part: &[u8], reader: Reader, floats: &mut [f32], lengths: &mut 
         result floats.new lengths.new }
 {
     let mut after = reader;
-    let mut i: usize = 0;
-    while i < part.len() {
-        after = read_byte(part[i], after, floats, lengths);
-        i += 1;
+    for x in part {
+        after = read_byte(*x, after, floats, lengths);
     }
     after
 }

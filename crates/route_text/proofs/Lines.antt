@@ -2,11 +2,13 @@
 use mathlib.Core.Path.{◌≡◌, refl, ◌∙◌}
 use mathlib.Core.Bool.{Bool, true, false, not}
 use mathlib.Core.List.{List, [], ◌∷◌, ◌++◌, append_assoc}
-use Prim.Native.Nat.{ℕ, ◌+◌, ◌≤◌}
+use Prim.Native.Nat.{ℕ, ◌≤◌}
 use native.Mathlib.Omega.{arith}
 use borrow.Author.Tests.{le-ltb}
 use lib.Ieee.{Float, binary32}
 use lib.ListN.{length, take, length-append}
+use Rattle.std.specs.Prelude.{min}
+use Rattle.std.proofs.Math.Nat.{min-le_left, min-le_right}
 use Rattle.model.specs.declared.Vector.{Vector}
 use Rattle.model.specs.declared.Contact.{Contact}
 use Rattle.model.specs.declared.Status.{Status}
@@ -21,9 +23,10 @@ use Rattle.route_legs.specs.declared.RouteAnswer.{RouteAnswer}
 use Rattle.route_legs.specs.Route.{route}
 use Rattle.route_read.specs.declared.Kept.{Kept}
 use Rattle.route_read.specs.declared.Reader.{Reader}
+use Rattle.route_text.specs.declared.Cuts.{Cuts}
 use Rattle.route_line.specs.Line.{is_route}
 use Rattle.route_read.specs.Read.{next_line}
-use Rattle.route_text.specs.Answer.{least, cut, whole_end, route_of, two, clear_line, ended_line, refused_line, wrong_line, no_route_line, answer_line}
+use Rattle.route_text.specs.Answer.{cut, cuts_of, route_of, two, clear_line, ended_line, refused_line, wrong_line, no_route_line, answer_line}
 use Rattle.route_text.specs.Answer.{longest_line, text_for}
 
 pub two_is : (a b end : ℕ) → two a b end ≡ number a 32 ++ number b end
@@ -68,11 +71,35 @@ module _ (reader : Reader) (numbers : List Float) (lengths : List ℕ) {d d' : L
   told-route true x is e route p = rw (le-ltb (length d) longest_line room, ← is, ← route) p
 
 -- ---- the route of what is kept
-module _ (k : Kept) (numbers : List Float) (lengths : List ℕ) where
-  pub route-kept : {used ways cart start n whole : ℕ} {first : Vector} {x : RouteAnswer} → used ≡ least k.used (length numbers) →
-      ways ≡ least k.way_end used → cart ≡ least k.cart_end ways → start ≡ least 1 cart → n ≡ least k.outlines (length lengths) →
-      whole ≡ whole_end cart ways → first ≡ point numbers 0 →
-      x ≡ route binary32 (cut numbers start cart) (cut numbers cart whole) (cut numbers ways used) (take n lengths) first.x →
-      x ≡ route_of k numbers lengths
-  unfolding route_of
-  route-kept a b c d e g f is = is ∙ rw (f, g, e, d, c, b, a)
+-- each cut is at most the next
+pub record InOrder (c : Cuts) (numbers lengths : ℕ) : Type 0 where
+  pub start : c.start ≤ c.cart
+  pub cart : c.cart ≤ c.whole
+  pub whole : c.whole ≤ numbers
+  pub ways : c.ways ≤ c.used
+  pub used : c.used ≤ numbers
+  pub outlines : c.outlines ≤ lengths
+
+pub in-order : {c : Cuts} (k : Kept) (numbers lengths : ℕ) → c ≡ cuts_of k numbers lengths → InOrder c numbers lengths
+in-order k numbers lengths is =
+    let used = min k.used numbers in
+    let ways = min k.way_end used in
+    let cart = min k.cart_end ways in
+    let u = min-le_right k.used numbers in
+    let w = min-le_right k.way_end used in
+    let b = min-le_right k.cart_end ways in
+    rw is (record {
+      start = min-le_left cart 1;
+      cart = omega arith;
+      whole = omega (arith, b, w, u);
+      ways = w;
+      used = u;
+      outlines = min-le_right k.outlines lengths;
+    })
+
+pub route-kept : (k : Kept) (numbers : List Float) (lengths : List ℕ) {c : Cuts} {first : Vector} {x : RouteAnswer} → c ≡ cuts_of k (length numbers) (length lengths)
+    → first ≡ point numbers 0
+    → x ≡ route binary32 (cut numbers c.start c.cart) (cut numbers c.cart c.whole) (cut numbers c.ways c.used) (take c.outlines lengths) first.x
+    → x ≡ route_of k numbers lengths
+unfolding route_of
+route-kept k numbers lengths is at so = so ∙ rw (is, at)

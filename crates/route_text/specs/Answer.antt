@@ -1,5 +1,5 @@
 -- The answer of a text: the line of its route, or 14 and the number of the first line that is none of a route.
-use Rattle.std.specs.Prelude.{ℕ, ◌+◌, ◌-◌, ◌*◌, ◌/◌, Bool, true, false, ◌&&◌, cond, List, [], ◌∷◌, ◌++◌, eqb, ltb, length, take, drop, Float}
+use Rattle.std.specs.Prelude.{ℕ, ◌+◌, ◌-◌, ◌*◌, ◌/◌, min, cond, List, [], ◌∷◌, ◌++◌, length, take, drop, Float}
 use Rattle.std.specs.Float.{binary32}
 use Rattle.model.specs.declared.Contact.{Contact}
 use Rattle.model.specs.declared.Status.{Status}
@@ -13,13 +13,11 @@ use Rattle.route_legs.specs.declared.RouteAnswer.TheVariants.{Clear, Ended, Refu
 use Rattle.route_legs.specs.Route.{route}
 use Rattle.route_read.specs.declared.Kept.{Kept}
 use Rattle.route_read.specs.declared.Reader.{Reader}
+use Rattle.route_text.specs.declared.Cuts.{Cuts}
 use Rattle.route_line.specs.Line.{is_route}
-use Rattle.route_read.specs.Read.{Run, run, no_text, next_line, run_over, text_by}
+use Rattle.route_read.specs.Read.{run, no_text, next_line, run_over, text_by}
 
 -- ---- the route
-abbrev pub least : ℕ → ℕ → ℕ
-least a b = cond (ltb b a) b a
-
 -- the numbers from a place to another
 abbrev pub cut : List Float → ℕ → ℕ → List Float
 cut s a b = take (b - a) (drop a s)
@@ -29,13 +27,17 @@ abbrev pub whole_end : ℕ → ℕ → ℕ
 whole_end cart ways = cart + (ways - cart) / 4 * 4
 
 -- one behind another: the slop, the cart, the waypoints, the still outlines
+abbrev pub cuts_of : Kept → ℕ → ℕ → Cuts
+cuts_of k numbers lengths =
+    let used = min k.used numbers in
+    let ways = min k.way_end used in
+    let cart = min k.cart_end ways in
+    record { start = min cart 1; cart = cart; whole = whole_end cart ways; ways = ways; used = used; outlines = min k.outlines lengths }
+
 unfoldable pub route_of : Kept → List Float → List ℕ → RouteAnswer
 route_of k floats lengths =
-    let used = least k.used (length floats) in
-    let ways = least k.way_end used in
-    let cart = least k.cart_end ways in
-    route binary32 (cut floats (least 1 cart) cart) (cut floats cart (whole_end cart ways)) (cut floats ways used)
-    (take (least k.outlines (length lengths)) lengths) (point floats 0).x
+    let c = cuts_of k (length floats) (length lengths) in
+    route binary32 (cut floats c.start c.cart) (cut floats c.cart c.whole) (cut floats c.ways c.used) (take c.outlines lengths) (point floats 0).x
 
 -- ---- its line
 unfoldable pub clear_line : ℕ → List ℕ

@@ -3,17 +3,18 @@
 #![tactic(auto)]
 
 use salvage_walk::Walk;
+use std::env::Env;
 use std::io::{Read, Write};
+use std::ops::ControlFlow;
 use std::os::fd::AsFd;
 use std::process::ExitCode;
 use std::random::RandomSource;
 use std::rt::Files;
 use streams::Stopped;
 
-// Whether the run goes on, how many bytes stand at the start of the buffer, and the walk so far.
+// How many bytes stand at the start of the buffer, and the walk so far.
 #[derive(Clone, Copy)]
 struct Turn {
-    more: bool,
     left: usize,
     walk: Walk,
 }
@@ -27,7 +28,7 @@ fn write_part<W: Write, E: Write, F: Write>(
     buffer: &mut [u8],
     count: usize,
     walk: Walk,
-) -> Result<Turn, Stopped> {
+) -> Result<ControlFlow<Turn, Turn>, Stopped> {
     let mut file = io::large_buffer();
     let mut text = io::large_buffer();
     let more = count == buffer.len();
@@ -36,13 +37,16 @@ fn write_part<W: Write, E: Write, F: Write>(
     if !salvaged.done {
         return Err(Stopped::Told);
     }
-    streams::write_to(to, err, name, &file, salvaged.file)?;
-    streams::write_to_output(out, err, &text, salvaged.text)?;
-    Ok(Turn {
-        more,
+    streams::write_to(to, err, name, &file[..salvaged.file])?;
+    streams::write_to_output(out, err, &text[..salvaged.text])?;
+    let turn = Turn {
         left: salvaged.left,
         walk,
-    })
+    };
+    if more {
+        return Ok(ControlFlow::Continue(turn));
+    }
+    Ok(ControlFlow::Break(turn))
 }
 
 fn next_part<R: Read, W: Write, E: Write, F: Write>(
@@ -52,21 +56,19 @@ fn next_part<R: Read, W: Write, E: Write, F: Write>(
     name: &[u8],
     to: &mut F,
     buffer: &mut [u8],
-    left: usize,
-    walk: Walk,
-) -> Result<Turn, Stopped> {
+    turn: Turn,
+) -> Result<ControlFlow<Turn, Turn>, Stopped> {
+    let left = turn.left;
     if left > buffer.len() {
         return Err(Stopped::Told);
     }
-    let filled = streams::fill_from_input(input, err, &mut buffer[left..]);
-    if filled.failed.is_some() {
-        return Err(Stopped::Told);
-    }
-    write_part(out, err, name, to, buffer, left + filled.count, walk)
+    let read = streams::read_part(input, &mut buffer[left..]);
+    let count = left + streams::told(err, b"standard input", read)?.len();
+    write_part(out, err, name, to, buffer, count, turn.walk)
 }
 
-// The turn that the run ends with. A proved loop has to end, and nothing says that the input does: so the reads are counted, to a number that no run
-// reaches.
+// The turn that the run ends with. No `each_part`: a part stands behind what the one before it left at the start of the buffer, so the buffer is the walk's too.
+// A proved loop has to end, and nothing says that the input does: so the reads are counted, to a number that no run reaches.
 fn walk_all<R: Read, W: Write, E: Write, F: Write>(
     input: &mut R,
     out: &mut W,
@@ -75,19 +77,17 @@ fn walk_all<R: Read, W: Write, E: Write, F: Write>(
     to: &mut F,
 ) -> Result<Turn, Stopped> {
     let mut buffer = io::large_buffer();
-    let mut left: usize = 0;
-    let mut walk = Walk {
+    let walk = Walk {
         kept: 0,
         skipped: 0,
         run: 0,
     };
+    let mut turn = Turn { left: 0, walk };
     for reads in 0..u64::MAX {
-        let turned = next_part(input, out, err, name, to, &mut buffer, left, walk)?;
-        if !turned.more {
-            return Ok(turned);
+        match next_part(input, out, err, name, to, &mut buffer, turn)? {
+            ControlFlow::Continue(next) => turn = next,
+            ControlFlow::Break(last) => return Ok(last),
         }
-        left = turned.left;
-        walk = turned.walk;
     }
     Err(Stopped::Told)
 }
@@ -100,7 +100,7 @@ fn tell_last_run<W: Write, E: Write>(
 ) -> Result<(), Stopped> {
     let mut text = io::buffer();
     let n = salvage_walk::tell_last_run(left, walk, &mut text);
-    streams::write_to_output(out, err, &text, n)
+    streams::write_to_output(out, err, &text[..n])
 }
 
 fn tell_total<W: Write, E: Write>(
@@ -111,7 +111,7 @@ fn tell_total<W: Write, E: Write>(
 ) -> Result<(), Stopped> {
     let mut text = io::buffer();
     let n = salvage_walk::tell_total(left, walk, &mut text);
-    streams::write_to_output(out, err, &text, n)
+    streams::write_to_output(out, err, &text[..n])
 }
 
 // Tells the totals of what was prepared, and then puts it in the place of the file; takes it back where they cannot be told.
@@ -124,19 +124,11 @@ fn finish<W: Write, E: Write, S: Files>(
     file: &mut S::File,
     turned: Turn,
 ) -> Result<(), Stopped> {
-    match tell_total(out, err, turned.left, turned.walk) {
-        Ok(()) => {
-            if outfile::put_in_place(rt, err, name, beside, file) {
-                Ok(())
-            } else {
-                Err(Stopped::Told)
-            }
-        }
-        Err(stopped) => {
-            outfile::abandon(rt, beside);
-            Err(stopped)
-        }
+    if let Err(stopped) = tell_total(out, err, turned.left, turned.walk) {
+        outfile::abandon(rt, beside);
+        return Err(stopped);
     }
+    outfile::put_in_place(rt, err, name, beside, file)
 }
 
 // Walks the input and tells the runs. The totals come when all is written, and then the file takes its place.
@@ -151,9 +143,7 @@ fn salvage<R: Read, W: Write, E: Write, S: Files>(
 ) -> Result<(), Stopped> {
     let turned = walk_all(input, out, err, name, file)?;
     tell_last_run(out, err, turned.left, turned.walk)?;
-    if !outfile::prepare(rt, err, name, beside, file) {
-        return Err(Stopped::Told);
-    }
+    outfile::prepare(rt, err, name, beside, file)?;
     finish(out, err, rt, name, beside, file, turned)
 }
 
@@ -164,42 +154,29 @@ fn replace<R: Read, W: Write, E: Write, S: Files + RandomSource>(
     err: &mut E,
     rt: &S,
     name: &[u8],
-    beside: &mut [u8],
 ) -> Result<(), Stopped> {
-    match outfile::begin(rt, err, name, beside) {
-        Some(begun) => {
-            let mut file = begun;
-            salvage(input, out, err, rt, name, beside, &mut file)
-        }
-        None => Err(Stopped::Told),
-    }
+    outfile::may_be_replaced(rt, err, name)?;
+    let mut room = io::buffer();
+    let size = outfile::name_beside(name, &mut room);
+    let beside = &mut room[..size];
+    let mut file = outfile::begin(rt, err, name, beside)?;
+    salvage(input, out, err, rt, name, beside, &mut file)
 }
 
-fn run<R: Read + AsFd, W: Write + AsFd, E: Write, S: Files + RandomSource>(
+fn run<R: Read + AsFd, W: Write + AsFd, E: Write, S: Env + Files + RandomSource>(
     input: &mut R,
     out: &mut W,
     err: &mut E,
     rt: &S,
-    name: &[u8],
 ) -> Result<(), Stopped> {
-    if !streams::streams_open(input, out, err) {
-        return Err(Stopped::Told);
-    }
-    if !outfile::may_be_replaced(rt, err, name) {
-        return Err(Stopped::Told);
-    }
-    let mut beside = io::buffer();
-    let size = outfile::name_beside(name, &mut beside);
-    replace(input, out, err, rt, name, &mut beside[..size])
+    let mut name = io::buffer();
+    let n = outfile::argument(rt, err, b"salvage", &mut name)?;
+    streams::streams_open(input, out, err)?;
+    replace(input, out, err, rt, &name[..n])
 }
 
 fn main(rt: HostRuntime) -> ExitCode {
     let mut err = rt.stderr();
-    let mut name = io::buffer();
-    let n = outfile::argument(&rt, &mut err, b"salvage", &mut name);
-    if n == 0 {
-        return ExitCode::SUCCESS;
-    }
     let (mut input, mut out) = (rt.stdin(), rt.stdout());
-    streams::status(run(&mut input, &mut out, &mut err, &rt, &name[..n]))
+    streams::status(run(&mut input, &mut out, &mut err, &rt))
 }

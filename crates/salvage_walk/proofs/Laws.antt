@@ -40,13 +40,6 @@ pub and-false : (x : Bool) → (x && false) ≡ false
 and-false true = refl
 and-false false = refl
 
--- a test's answer, and the branch that it took
-pub came-out : {t u : Bool} → t ≡ u → not t ≡ false → u ≡ true
-came-out {t} e h = sym e ∙ not-false t h
-
-pub came-out-not : {t u : Bool} → t ≡ u → not t ≡ true → u ≡ false
-came-out-not {t} e h = sym e ∙ not-true t h
-
 pub small : (size : ℕ) (w : Walk) → countable size w ≡ true → Small size w
 small size w e =
     let third = both (ltb size place_limit && ltb w.kept (place_limit / 512) && ltb w.skipped place_limit) (ltb w.run place_limit) e in
@@ -256,16 +249,6 @@ module _ (b : List ℕ) (w : Walk) (file₀ text₀ : List ℕ) where
       rw all ((so.place, so.walk), ((so.kept, so.told), (so.inside, few)))
 
 -- ---- a part
-module _ (b : List ℕ) (at : ℕ) where
-  abbrev rest : List ℕ
-  rest = take (length b - at) (drop at b)
-
-  pub rest-copied : (z r : List ℕ) → r ≡ take (length rest) rest ++ drop (length rest) z → take (length b - at) r ≡ drop at b
-  rest-copied z r e =
-      let size : length (drop at b) ≡ length b - at = length-drop at b in
-      let whole : rest ≡ drop at b = take_all (length b - at) (drop at b) (omega (arith, size)) in
-      rw (e, take-length rest, whole) (take_at (drop at b) (drop (length (drop at b)) z) (length b - at) size)
-
 module _ (b : List ℕ) (w : Walk) (buffer buffer' file file' text text' : List ℕ) where
   pub no_room : fits (length b) (length file) (length text) w ≡ false
       → SalvagedTo b w buffer buffer file file text text 0 0 0 w false

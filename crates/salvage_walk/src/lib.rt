@@ -21,7 +21,8 @@ pub struct Walk {
     pub run: u64,
 }
 
-// How many bytes go to the file, how many are told, how many are handed on at the start of the buffer; the walk so far; whether there was room.
+// How many bytes go to the file, how many are told, how many are handed on at the start of the buffer; the walk so far; whether there was room. All
+// of them hold either way.
 #[derive(Clone, Copy)]
 pub struct Salvaged {
     pub file: usize,
@@ -83,15 +84,13 @@ fn step(bytes: &[u8], file: &mut [u8], text: &mut [u8], from: Reached) -> Reache
     let walk = from.walk;
     if !passes_at(bytes, at) {
         let walk = Walk {
-            kept: walk.kept,
-            skipped: walk.skipped,
             run: walk.run + 1,
+            ..walk
         };
         return Reached {
             at: at + 1,
-            file: from.file,
-            text: from.text,
             walk,
+            ..from
         };
     }
     let end = at + 512;
@@ -110,7 +109,7 @@ fn step(bytes: &[u8], file: &mut [u8], text: &mut [u8], from: Reached) -> Reache
     }
 }
 
-// As long as 512 bytes are left.
+// As long as 512 bytes are left. The place goes on by one byte or by 512, so that no iterator walks these bytes.
 fn walk_on(bytes: &[u8], walk: Walk, file: &mut [u8], text: &mut [u8]) -> Reached
     requires { Part.fits (length bytes.now) (length file.old) (length text.old) walk ≡ true }
     ensures at_value { (result.at ≡ length (all_bytes (steps_in bytes.now))) × (result.walk ≡ after walk (steps_in bytes.now)) }
@@ -218,9 +217,8 @@ fn skipped_on(left: usize, walk: Walk) -> Walk
     ensures { result ≡ skipped_on left walk }
 {
     Walk {
-        kept: walk.kept,
-        skipped: walk.skipped,
         run: walk.run + left as u64,
+        ..walk
     }
 }
 

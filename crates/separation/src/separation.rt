@@ -39,7 +39,8 @@ fn toward(xf: Pose, local_point: Vector, other: Vector, axis: Vector) -> Vector
     if side < 0.0 { neg(axis) } else { axis }
 }
 
-// Along the axis from a corner of A to a corner of B.
+// Along the axis from a corner of A to a corner of B. Two bodies, each with its list, move and pose, are parameters of their own here and below, as the definitions
+// have them and as the published functions do.
 fn of_points(
     points_a: &[f32],
     sweep_a: Sweep,

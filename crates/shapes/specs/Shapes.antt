@@ -1,14 +1,13 @@
 -- Plates and bars: which corners they have, what is refused, and what a build answers and leaves in the lent list.
-use Rattle.std.specs.Prelude.{ℕ, zero, suc, ◌*◌, ◌/◌, ◌%◌, cond, ◌||◌, List, [], ◌∷◌, ◌++◌, eqb, ltb, length, drop, Float}
+use Rattle.std.specs.Prelude.{ℕ, zero, suc, ◌*◌, ◌/◌, ◌%◌, cond, ◌||◌, List, [], ◌∷◌, ◌++◌, eqb, ltb, length, drop, Float, Result, Ok, Err}
 use Rattle.std.specs.Float.{Format}
 use Rattle.std.specs.Float.Ieee.{neg, lt}
 use Rattle.model.specs.declared.Vector.{Vector}
 use Rattle.model.specs.declared.Pose.{Pose}
+use Rattle.model.specs.declared.Refusal.{Refusal}
 use Rattle.model.specs.Ground.{vector, on_point}
 use Rattle.model.specs.Ground as Ground
-use Rattle.model.specs.Domain.{bad_vector, pose_refusal, or_else}
-use Rattle.shapes.specs.declared.Built.{Built}
-use Rattle.shapes.specs.declared.Built.TheVariants.{Corners, Refused}
+use Rattle.model.specs.Domain.{bad_vector, pose_refusal, or_else, numbered}
 
 -- ---- corners
 -- negated where the bit is 1: a zero's sign turns too
@@ -48,9 +47,9 @@ module _ (f : Format) where
   placed_refusal own p = or_else own (pose_refusal f p)
 
 -- ---- a build: by the number of an earlier refusal, the corners and the lent list
-unfoldable pub told : ℕ → List Vector → List Float → Built
-told zero corners out = cond (ltb (length out) (2 * length corners)) (Refused 15) (Corners (length corners))
-told (suc n) corners out = Refused (suc n)
+unfoldable pub told : ℕ → List Vector → List Float → Result ℕ Refusal
+told zero corners out = cond (ltb (length out) (2 * length corners)) (Err (numbered 15)) (Ok (length corners))
+told (suc n) corners out = Err (numbered (suc n))
 
 -- the list afterwards: the corners at its front and the rest as it was, or all of it as it was
 unfoldable pub left : ℕ → List Vector → List Float → List Float
@@ -60,26 +59,26 @@ left (suc n) corners out = out
 -- ---- the four shapes
 module _ (f : Format) where
   module _ (half_x half_y : Float) where
-    abbrev pub plate_told : List Float → Built
+    abbrev pub plate_told : List Float → Result ℕ Refusal
     plate_told = told (plate_refusal f half_x half_y) (plate_corners half_x half_y)
 
     abbrev pub plate_left : List Float → List Float
     plate_left = left (plate_refusal f half_x half_y) (plate_corners half_x half_y)
 
-    abbrev pub placed_plate_told : Pose → List Float → Built
+    abbrev pub placed_plate_told : Pose → List Float → Result ℕ Refusal
     placed_plate_told p = told (placed_refusal f (plate_refusal f half_x half_y) p) (placed f p (plate_corners half_x half_y))
 
     abbrev pub placed_plate_left : Pose → List Float → List Float
     placed_plate_left p = left (placed_refusal f (plate_refusal f half_x half_y) p) (placed f p (plate_corners half_x half_y))
 
   module _ (a b : Vector) where
-    abbrev pub bar_told : List Float → Built
+    abbrev pub bar_told : List Float → Result ℕ Refusal
     bar_told = told (bar_refusal f a b) (bar_corners a b)
 
     abbrev pub bar_left : List Float → List Float
     bar_left = left (bar_refusal f a b) (bar_corners a b)
 
-    abbrev pub placed_bar_told : Pose → List Float → Built
+    abbrev pub placed_bar_told : Pose → List Float → Result ℕ Refusal
     placed_bar_told p = told (placed_refusal f (bar_refusal f a b) p) (placed f p (bar_corners a b))
 
     abbrev pub placed_bar_left : Pose → List Float → List Float

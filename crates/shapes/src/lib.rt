@@ -1,177 +1,136 @@
 // Outlines without typing corners: a plate from two half sizes, a bar from two ends, and both placed by a pose. The corners go to the front of a
-// lent list, x y each, and the rest of it stays; a refused build writes nothing.
+// lent list, x y each, and the rest of it stays. A build answers how many corners it wrote; a refused one writes nothing.
 #![tactic(auto)]
 
-ghost use Rattle.std.specs.Prelude.{◌≡◌, [], ◌∷◌};
+ghost use Rattle.std.specs.Prelude.{◌≡◌};
 ghost use Rattle.std.specs.Float.{binary32};
+ghost use Rattle.model.specs.Domain.{checked};
 ghost use Rattle.shapes.specs.Shapes as Shapes;
 
 use domain::{bad_vector, check_pose, pose_refusal};
 use ground::transform_point;
-use model::{Pose, Vector};
-
-// The number of corners written, or the number of the refusal.
-#[derive(Clone, Copy)]
-pub enum Built {
-    Corners(usize),
-    Refused(u32),
-}
+use model::{BAD_PART, NO_ROOM, Pose, Refusal, Vector};
 
 // 3 for a half size that is no part of a point, or below 0.
-fn plate_refusal(half_x: f32, half_y: f32) -> u32
-    ensures { result ≡ Shapes.plate_refusal binary32 half_x half_y }
+fn check_plate(half_x: f32, half_y: f32) -> Result<(), Refusal>
+    ensures { result ≡ checked (Shapes.plate_refusal binary32 half_x half_y) }
 {
     let half = Vector {
         x: half_x,
         y: half_y,
     };
     if bad_vector(half) | (half_x < 0.0) | (half_y < 0.0) {
-        3
+        Err(BAD_PART)
     } else {
-        0
+        Ok(())
     }
 }
 
 // 3 for an end that is no point.
-fn bar_refusal(a: Vector, b: Vector) -> u32
-    ensures { result ≡ Shapes.bar_refusal binary32 a b }
+fn check_bar(a: Vector, b: Vector) -> Result<(), Refusal>
+    ensures { result ≡ checked (Shapes.bar_refusal binary32 a b) }
 {
-    if bad_vector(a) | bad_vector(b) { 3 } else { 0 }
+    if bad_vector(a) | bad_vector(b) {
+        Err(BAD_PART)
+    } else {
+        Ok(())
+    }
 }
 
-// The shape's own refusal, then 5 and 6 for its pose.
-fn placed_refusal(own: u32, pose: Pose) -> u32
-    ensures { result ≡ Shapes.placed_refusal binary32 own pose }
+// The corners; 15 where there is no room.
+fn build(corners: &[Vector], out: &mut [f32]) -> Result<usize, Refusal>
+    ensures { (result ≡ Shapes.told 0 corners.now out.old) × (out.new ≡ Shapes.left 0 corners.now out.old) }
 {
-    if own != 0 {
-        return own;
+    if out.len() / 2 < corners.len() {
+        return Err(NO_ROOM);
     }
-    pose_refusal(check_pose(pose))
+    for (i, p) in corners.iter().enumerate() {
+        out[2 * i] = p.x;
+        out[2 * i + 1] = p.y;
+    }
+    Ok(corners.len())
 }
 
-// Four corners, unless something was refused before; 15 where there is no room.
-fn build_four(
-    refused: u32,
-    p0: Vector,
-    p1: Vector,
-    p2: Vector,
-    p3: Vector,
-    out: &mut [f32],
-) -> Built
-    ensures { (result ≡ Shapes.told refused (p0 ∷ p1 ∷ p2 ∷ p3 ∷ []) out.old)
-        × (out.new ≡ Shapes.left refused (p0 ∷ p1 ∷ p2 ∷ p3 ∷ []) out.old) }
+// Corner k has the half sizes, x negated where bit 0 of k is set and y where bit 1 is.
+fn plate_corners(half_x: f32, half_y: f32) -> [Vector; 4]
+    ensures { result ≡ Shapes.plate_corners half_x half_y }
 {
-    if refused != 0 {
-        return Built::Refused(refused);
-    }
-    if out.len() < 8 {
-        return Built::Refused(15);
-    }
-    out[0] = p0.x;
-    out[1] = p0.y;
-    out[2] = p1.x;
-    out[3] = p1.y;
-    out[4] = p2.x;
-    out[5] = p2.y;
-    out[6] = p3.x;
-    out[7] = p3.y;
-    Built::Corners(4)
+    [
+        Vector {
+            x: half_x,
+            y: half_y,
+        },
+        Vector {
+            x: -half_x,
+            y: half_y,
+        },
+        Vector {
+            x: half_x,
+            y: -half_y,
+        },
+        Vector {
+            x: -half_x,
+            y: -half_y,
+        },
+    ]
 }
 
-// Two corners in the same way.
-fn build_two(refusal: u32, p0: Vector, p1: Vector, out: &mut [f32]) -> Built
-    ensures { (result ≡ Shapes.told refusal (p0 ∷ p1 ∷ []) out.old) × (out.new ≡ Shapes.left refusal (p0 ∷ p1 ∷ []) out.old) }
+// Moves each corner by the pose.
+fn place(pose: Pose, corners: &mut [Vector])
+    ensures { corners.new ≡ Shapes.placed binary32 pose corners.old }
 {
-    if refusal != 0 {
-        return Built::Refused(refusal);
+    for corner in corners.iter_mut() {
+        *corner = transform_point(pose, *corner);
     }
-    if out.len() < 4 {
-        return Built::Refused(15);
-    }
-    out[0] = p0.x;
-    out[1] = p0.y;
-    out[2] = p1.x;
-    out[3] = p1.y;
-    Built::Corners(2)
 }
 
-// A plate about the origin. Corner k has the half sizes, x negated where bit 0 of k is set and y where bit 1 is.
-pub fn plate(half_x: f32, half_y: f32, out: &mut [f32]) -> Built
+// A plate about the origin.
+pub fn plate(half_x: f32, half_y: f32, out: &mut [f32]) -> Result<usize, Refusal>
     ensures { (result ≡ Shapes.plate_told binary32 half_x half_y out.old)
         × (out.new ≡ Shapes.plate_left binary32 half_x half_y out.old) }
 {
-    let refused = plate_refusal(half_x, half_y);
-    let p0 = Vector {
-        x: half_x,
-        y: half_y,
-    };
-    let p1 = Vector {
-        x: -half_x,
-        y: half_y,
-    };
-    let p2 = Vector {
-        x: half_x,
-        y: -half_y,
-    };
-    let p3 = Vector {
-        x: -half_x,
-        y: -half_y,
-    };
-    build_four(refused, p0, p1, p2, p3, out)
+    check_plate(half_x, half_y)?;
+    let corners = plate_corners(half_x, half_y);
+    build(&corners, out)
 }
 
 // A bar from a to b.
-pub fn bar(a: Vector, b: Vector, out: &mut [f32]) -> Built
+pub fn bar(a: Vector, b: Vector, out: &mut [f32]) -> Result<usize, Refusal>
     ensures { (result ≡ Shapes.bar_told binary32 a b out.old) × (out.new ≡ Shapes.bar_left binary32 a b out.old) }
 {
-    let refused = bar_refusal(a, b);
-    build_two(refused, a, b, out)
+    check_bar(a, b)?;
+    let corners = [a, b];
+    build(&corners, out)
 }
 
 // The plate, each corner moved by the pose.
-pub fn placed_plate(half_x: f32, half_y: f32, pose: Pose, out: &mut [f32]) -> Built
+pub fn placed_plate(half_x: f32, half_y: f32, pose: Pose, out: &mut [f32]) -> Result<usize, Refusal>
     ensures { (result ≡ Shapes.placed_plate_told binary32 half_x half_y pose out.old)
         × (out.new ≡ Shapes.placed_plate_left binary32 half_x half_y pose out.old) }
 {
-    let refused = placed_refusal(plate_refusal(half_x, half_y), pose);
-    let q0 = transform_point(
-        pose,
-        Vector {
-            x: half_x,
-            y: half_y,
-        },
-    );
-    let q1 = transform_point(
-        pose,
-        Vector {
-            x: -half_x,
-            y: half_y,
-        },
-    );
-    let q2 = transform_point(
-        pose,
-        Vector {
-            x: half_x,
-            y: -half_y,
-        },
-    );
-    let q3 = transform_point(
-        pose,
-        Vector {
-            x: -half_x,
-            y: -half_y,
-        },
-    );
-    build_four(refused, q0, q1, q2, q3, out)
+    check_plate(half_x, half_y)?;
+    let posed = check_pose(pose);
+    let Ok(good) = posed else {
+        let number = pose_refusal(posed);
+        return Err(Refusal { number });
+    };
+    let mut corners = plate_corners(half_x, half_y);
+    place(good, &mut corners);
+    build(&corners, out)
 }
 
 // The bar, both ends moved by the pose.
-pub fn placed_bar(a: Vector, b: Vector, pose: Pose, out: &mut [f32]) -> Built
+pub fn placed_bar(a: Vector, b: Vector, pose: Pose, out: &mut [f32]) -> Result<usize, Refusal>
     ensures { (result ≡ Shapes.placed_bar_told binary32 a b pose out.old)
         × (out.new ≡ Shapes.placed_bar_left binary32 a b pose out.old) }
 {
-    let refused = placed_refusal(bar_refusal(a, b), pose);
-    let q0 = transform_point(pose, a);
-    let q1 = transform_point(pose, b);
-    build_two(refused, q0, q1, out)
+    check_bar(a, b)?;
+    let posed = check_pose(pose);
+    let Ok(good) = posed else {
+        let number = pose_refusal(posed);
+        return Err(Refusal { number });
+    };
+    let mut corners = [a, b];
+    place(good, &mut corners);
+    build(&corners, out)
 }

@@ -4,60 +4,37 @@
 
 use model::Totals;
 use std::io::{Read, Write};
+use std::ops::ControlFlow;
 use std::process::ExitCode;
 use streams::Stopped;
 
-// Whether the run goes on, and the totals so far.
-#[derive(Clone, Copy)]
-struct Worked {
-    more: bool,
-    totals: Totals,
-}
-
-// Writes the text of a part, by room lent for it.
+// Writes the text of a part, by room lent for it, and counts its blocks.
 fn work_part<W: Write, E: Write>(
     out: &mut W,
     err: &mut E,
     part: &[u8],
     text: &mut [u8],
-    t: Totals,
-) -> Result<Worked, Stopped> {
-    let written = sheet_lines::write_part(part, text, t);
-    let totals = written.totals;
-    streams::write_to_output(out, err, text, written.at)?;
-    if written.last & (totals.blocks == 0) {
-        streams::write_to_error(err, b"standard input: no block came\n", 30)?;
+    totals: &mut Totals,
+) -> Result<ControlFlow<()>, Stopped> {
+    let written = sheet_lines::write_part(part, text, *totals);
+    *totals = written.totals;
+    streams::write_to_output(out, err, &text[..written.at])?;
+    if !written.last {
+        return Ok(ControlFlow::Continue(()));
     }
-    Ok(Worked {
-        more: !written.last,
-        totals,
-    })
+    if totals.blocks == 0 {
+        streams::write_to_error(err, b"standard input: no block came\n")?;
+    }
+    Ok(ControlFlow::Break(()))
 }
 
-// Reads a part into a lent buffer and works it. What an earlier part left there, and in the text, is not looked at.
-fn next_part<R: Read, W: Write, E: Write>(
-    input: &mut R,
-    out: &mut W,
-    err: &mut E,
-    buffer: &mut [u8],
-    text: &mut [u8],
-    t: Totals,
-) -> Result<Worked, Stopped> {
-    let filled = streams::fill_from_input(input, err, buffer);
-    if filled.failed.is_some() {
-        return Err(Stopped::Told);
-    }
-    let n = filled.count;
-    work_part(out, err, &buffer[..n], text, t)
-}
-
-// The whole run. A proved loop has to end, and nothing says that the input does: so the reads are counted, to a number that no run reaches.
+// The whole run. What an earlier part left in the buffer, and in the text, is not looked at.
 fn run<R: Read, W: Write, E: Write>(
     input: &mut R,
     out: &mut W,
     err: &mut E,
 ) -> Result<(), Stopped> {
-    let mut t = Totals {
+    let mut totals = Totals {
         blocks: 0,
         clear: 0,
         contact: 0,
@@ -66,13 +43,10 @@ fn run<R: Read, W: Write, E: Write>(
     };
     let mut buffer = io::large_buffer();
     let mut text = io::large_buffer();
-    for reads in 0..u64::MAX {
-        let worked = next_part(input, out, err, &mut buffer, &mut text, t)?;
-        t = worked.totals;
-        if !worked.more {
-            return Ok(());
-        }
-    }
+    streams::each_part(input, &mut buffer, |part| {
+        let part = streams::told(err, b"standard input", part)?;
+        work_part(out, err, part, &mut text, &mut totals)
+    })?;
     Ok(())
 }
 

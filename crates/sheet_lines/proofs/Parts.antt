@@ -1,28 +1,27 @@
 -- Lines one after the other, what there is room for, and that no count overflows. Assumes nothing.
+use Rattle.std.proofs.Common.{Ok, Err}
 use mathlib.Core.Path.{◌≡◌, ◌∙◌}
-use mathlib.Core.Bool.{Bool, true, false, ◌&&◌, cond}
+use mathlib.Core.Bool.{true, ◌&&◌}
 use mathlib.Core.List.{List, [], ◌∷◌, ◌++◌, append-nil}
 use Prim.Native.Nat.{ℕ, ◌+◌, ◌*◌, ◌/◌, ◌%◌, ◌≤◌}
 use native.Mathlib.Omega.{arith}
 use native.Mathlib.Numerals.{add-one}
 use borrow.Author.Tests.{ltb-true, leb-true}
-use lib.Dec.{eqb, ltb, leb}
+use lib.Dec.{ltb, leb}
 use lib.Ieee.{binary32}
 use lib.ListN.{length, take, drop}
 use Rattle.model.specs.declared.Status.{Status}
 use Rattle.model.specs.declared.Status.TheVariants.{Overlapped, Hit, Separated, Failed}
-use Rattle.model.specs.declared.BlockAnswer.{BlockAnswer}
-use Rattle.model.specs.declared.BlockAnswer.TheVariants.{Worked, Refused}
 use Rattle.model.specs.declared.Totals.{Totals}
-use Rattle.model.specs.Work.{block_answer}
+use Rattle.model.specs.Work.{block_answer, BlockAnswer}
 use Rattle.model.specs.Sheet.{whole_answers, rest_answer, answers, answer_line, lines_from, one_worked, counted, totals_from}
 use Rattle.model.proofs.DistanceCall.{both}
 use Rattle.model.proofs.Sheet.{lines-append, totals-append, blocks-counted, answers-more, answers-cut}
-use Rattle.text.specs.Put.{Put}
+use Rattle.text.specs.declared.draft.Draft.{Draft}
+use Rattle.text.specs.Written.{Wrote}
 use Rattle.model.specs.Parts.{count_limit}
 use Rattle.sheet_lines.specs.Part.{Below, countable, fits, longest_line}
-use Rattle.text.proofs.Pasted.{put_then}
-use Rattle.sheet_lines.proofs.Pieces.{length-line}
+use Rattle.text.proofs.Written.{wrote-then}
 
 -- ---- the totals
 pub below_less : {m n : ℕ} {t : Totals} → m ≤ n → Below m t → Below n t
@@ -37,7 +36,7 @@ below_less le h =
 
 -- an answer adds at most one to each
 pub below_more : (n : ℕ) (t : Totals) (x : BlockAnswer) → Below n t → Below (n + 1) (counted t x)
-below_more n t (Refused job number) h =
+below_more n t (Err r) h =
     record {
       blocks = omega (arith, h.blocks);
       clear = omega (arith, h.clear);
@@ -45,7 +44,7 @@ below_more n t (Refused job number) h =
       undecided = omega (arith, h.undecided);
       refused = omega (arith, h.refused);
     }
-below_more n t (Worked job v) h = go v.status
+below_more n t (Ok w) h = go w.verdict.status
   where
     go : (s : Status) → Below (n + 1) (one_worked t s)
     go Overlapped = record {
@@ -123,33 +122,26 @@ module _ (t₀ t : Totals) (b : List ℕ) (i n : ℕ) (whole : n ≡ 512) (so_fa
   number : t.blocks ≡ t₀.blocks + length (whole_answers binary32 i b)
   number = rw so_far (blocks-counted t₀ (whole_answers binary32 i b))
 
-  pub line_step : {d₀ d d' : List ℕ} {at at' : ℕ} → Put d₀ 0 (lines_from binary32 t₀.blocks (whole_answers binary32 i b)) d at
-      → Put d at (answer_line binary32 (t.blocks + 1) x) d' at' → Put d₀ 0 (lines_from binary32 t₀.blocks (whole_answers binary32 (i + 1) b)) d' at'
+  pub line_step : {k m : ℕ} {p₀ p p' : Draft} → p₀.at ≤ length p₀.bytes.now → Wrote k p₀ (lines_from binary32 t₀.blocks (whole_answers binary32 i b)) p
+      → Wrote m p (answer_line binary32 (t.blocks + 1) x) p' → Wrote (k + m) p₀ (lines_from binary32 t₀.blocks (whole_answers binary32 (i + 1) b)) p'
   unfolding lines_from
-  line_step p q =
+  line_step inside v w =
       rw (more, lines-append binary32 t₀.blocks (whole_answers binary32 i b) (x ∷ []), ← number, append-nil (answer_line binary32 (t.blocks + 1) x))
-      (put_then (omega arith) p q)
+      (wrote-then inside v w)
 
   pub totals-step : {t' : Totals} → t' ≡ counted t x → t' ≡ totals_from t₀ (whole_answers binary32 (i + 1) b)
   unfolding totals_from
   totals-step e = e ∙ rw (more, totals-append t₀ (whole_answers binary32 i b) (x ∷ []), ← so_far)
 
 -- ---- the blocks and the rest are the answers of the part
-pub length_rest : (n rest : ℕ) → length (lines_from binary32 n (rest_answer rest)) ≤ longest_line
-unfolding lines_from
-length_rest n rest = go (eqb rest 0)
-  where
-    go : (b : Bool) → length (lines_from binary32 n (cond b [] (Refused 0 9 ∷ []))) ≤ longest_line
-    go true = omega arith
-    go false = rw append-nil (length-line (n + 1) (Refused 0 9))
-
 module _ (t₀ t : Totals) (b : List ℕ) (so_far : t ≡ totals_from t₀ (whole_answers binary32 (length b / 512) b)) where
-  pub all_lines : {d₀ d d' : List ℕ} {at at' : ℕ} → Put d₀ 0 (lines_from binary32 t₀.blocks (whole_answers binary32 (length b / 512) b)) d at
-      → Put d at (lines_from binary32 t.blocks (rest_answer (length b % 512))) d' at' → Put d₀ 0 (lines_from binary32 t₀.blocks (answers binary32 b)) d' at'
-  all_lines p q =
+  pub all_lines : {k m : ℕ} {p₀ p p' : Draft} → p₀.at ≤ length p₀.bytes.now
+      → Wrote k p₀ (lines_from binary32 t₀.blocks (whole_answers binary32 (length b / 512) b)) p
+      → Wrote m p (lines_from binary32 t.blocks (rest_answer (length b % 512))) p' → Wrote (k + m) p₀ (lines_from binary32 t₀.blocks (answers binary32 b)) p'
+  all_lines inside v w =
       let xs = whole_answers binary32 (length b / 512) b in
       let number : t.blocks ≡ t₀.blocks + length xs = rw so_far (blocks-counted t₀ xs) in
-      rw (answers-cut binary32 b, lines-append binary32 t₀.blocks xs (rest_answer (length b % 512)), ← number) (put_then (omega arith) p q)
+      rw (answers-cut binary32 b, lines-append binary32 t₀.blocks xs (rest_answer (length b % 512)), ← number) (wrote-then inside v w)
 
   pub all-totals : {t' : Totals} → t' ≡ totals_from t (rest_answer (length b % 512)) → t' ≡ totals_from t₀ (answers binary32 b)
   all-totals e = e ∙ rw (answers-cut binary32 b, totals-append t₀ (whole_answers binary32 (length b / 512) b) (rest_answer (length b % 512)), ← so_far)

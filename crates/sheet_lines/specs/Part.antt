@@ -1,11 +1,11 @@
 -- A part of the input worked into lent bytes: what there is room for, what is written, and whether it was the last part.
 use Rattle.std.specs.Prelude.{ℕ, ◌+◌, ◌/◌, ◌<◌, Bool, true, ◌&&◌, cond, List, [], ltb, leb, length}
 use Rattle.std.specs.Float.{binary32}
-use Rattle.model.specs.declared.BlockAnswer.{BlockAnswer}
 use Rattle.model.specs.declared.Totals.{Totals}
 use Rattle.model.specs.Block.{block_size}
 use Rattle.model.specs.Parts.{count_limit, is_last}
 use Rattle.model.specs.Sheet.{answers, answer_line, totals_from, part_text}
+use Rattle.model.specs.Work.{BlockAnswer}
 use Rattle.runs.specs.Run.{text_run}
 
 -- no line is longer: nine numbers of up to 20 digits and a byte after each (block, job, three counts, four corners), five floats of eight and a blank,

@@ -89,10 +89,7 @@ pub fn counted(t: Totals, answer: BlockAnswer) -> Totals
     ensures { result ≡ Sheet.counted t answer }
 {
     match answer {
-        BlockAnswer::Worked(_, verdict) => {
-            let status = verdict.status;
-            one_worked(t, status)
-        }
-        BlockAnswer::Refused(_, _) => one_refused(t),
+        Ok(worked) => one_worked(t, worked.verdict.status),
+        Err(_) => one_refused(t),
     }
 }

@@ -5,29 +5,25 @@ ghost use Rattle.model.specs.Block.{block_size};
 ghost use Rattle.model.specs.Sheet.{answer_line, whole_answers, rest_answer, lines_from, totals_from};
 ghost use Rattle.model.specs.Sheet as Sheet;
 ghost use Rattle.text.specs.Put.{Put};
+ghost use Rattle.text.specs.Written.{Room, Wrote};
 ghost use Rattle.model.specs.Parts.{count_limit};
 ghost use Rattle.sheet_lines.specs.Part.{Below, longest_line, line_for, text_for, totals_for, last_for};
 ghost use Rattle.sheet_lines.specs.Part as Part;
 
 use crate::answer::{countable, counted};
 use crate::write::{put_answer, put_total};
-use model::{BlockAnswer, PART_SIZE, Totals};
+use model::{BlockAnswer, BlockRefusal, PART_SIZE, Totals};
+use text::Draft;
 
 // No line is longer.
 const LONGEST_LINE: usize = 240;
 
-// The place after what was written, the totals after it, and whether the part was the last.
+// The place after what was written, the totals after it, and whether the part was the last. Both hold either way, so it is no Option.
 #[derive(Clone, Copy)]
 pub struct Written {
     pub at: usize,
     pub totals: Totals,
     pub last: bool,
-}
-
-#[derive(Clone, Copy)]
-struct Lines {
-    at: usize,
-    totals: Totals,
 }
 
 // The line of an answer as block n, at the start of out, and its length; nothing where out has fewer bytes than the longest line.
@@ -37,55 +33,49 @@ pub fn write_line(n: u64, answer: BlockAnswer, out: &mut [u8]) -> usize
     if out.len() < LONGEST_LINE {
         return 0;
     }
-    put_answer(out, 0, n, answer)
+    let mut draft = Draft { bytes: out, at: 0 };
+    put_answer(&mut draft, n, answer);
+    draft.at
 }
 
-// The line of one answer more, whose number follows those counted before.
-fn write_answer(out: &mut [u8], at: usize, t: Totals, answer: BlockAnswer) -> Lines
-    requires { (at + longest_line ≤ length out.old) × Below 0xffff_ffff_ffff_ffff t }
-    ensures { Put out.old at (answer_line binary32 (t.blocks + 1) answer) out.new result.at × (result.totals ≡ Sheet.counted t answer) }
+// The line of one answer more, whose number follows those counted before, and the totals after it.
+fn write_answer(draft: &mut Draft<'_>, t: Totals, answer: BlockAnswer) -> Totals
+    requires { Room longest_line draft.old × Below 0xffff_ffff_ffff_ffff t }
+    ensures line { Wrote longest_line draft.old (answer_line binary32 (t.blocks + 1) answer) draft.new }
+    ensures totals_value { result ≡ Sheet.counted t answer }
 {
-    let end = put_answer(out, at, t.blocks + 1, answer);
-    let totals = counted(t, answer);
-    Lines { at: end, totals }
+    put_answer(draft, t.blocks + 1, answer);
+    counted(t, answer)
 }
 
 // The lines of the whole blocks of a part, each from its own 512 bytes, with the totals carried on.
-fn write_blocks(part: &[u8], out: &mut [u8], t: Totals) -> Lines
-    requires { (longest_line * (length part.now / block_size) ≤ length out.old) × Below count_limit t }
-    ensures put { Put out.old 0
-        (lines_from binary32 t.blocks (whole_answers binary32 (length part.now / block_size) part.now)) out.new result.at }
-    ensures totals_value { result.totals ≡ totals_from t (whole_answers binary32 (length part.now / block_size) part.now) }
-    ensures at_bound { (result.at ≤ longest_line * (length part.now / block_size)) × Below (count_limit + length part.now / block_size)
-        result.totals }
+fn write_blocks(part: &[u8], draft: &mut Draft<'_>, t: Totals) -> Totals
+    requires { Room (longest_line * (length part.now / block_size)) draft.old × Below count_limit t }
+    ensures lines { Wrote (longest_line * (length part.now / block_size)) draft.old
+        (lines_from binary32 t.blocks (whole_answers binary32 (length part.now / block_size) part.now)) draft.new }
+    ensures totals_value { result ≡ totals_from t (whole_answers binary32 (length part.now / block_size) part.now) }
+    ensures bound { Below (count_limit + length part.now / block_size) result }
 {
     let k = part.len() / 512;
     let mut totals = t;
-    let mut at: usize = 0;
-    let mut i: usize = 0;
-    while i < k {
+    for i in 0..k {
         let from = 512 * i;
-        let end = from + 512;
-        let answer = work::answer_block(&part[from..end]);
-        let written = write_answer(out, at, totals, answer);
-        let next = written.totals;
-        at = written.at;
-        totals = next;
-        i += 1;
+        let answer = work::answer_block(&part[from..from + 512]);
+        totals = write_answer(draft, totals, answer);
     }
-    Lines { at, totals }
+    totals
 }
 
 // The line of a rest of fewer bytes than a block, where there is one.
-fn write_rest(out: &mut [u8], at: usize, t: Totals, rest: usize) -> Lines
-    requires { (at + longest_line ≤ length out.old) × Below 0xffff_ffff_ffff_ffff t }
-    ensures { Put out.old at (lines_from binary32 t.blocks (rest_answer rest)) out.new result.at
-        × (result.totals ≡ totals_from t (rest_answer rest)) }
+fn write_rest(draft: &mut Draft<'_>, t: Totals, rest: usize) -> Totals
+    requires { Room longest_line draft.old × Below 0xffff_ffff_ffff_ffff t }
+    ensures lines { Wrote longest_line draft.old (lines_from binary32 t.blocks (rest_answer rest)) draft.new }
+    ensures totals_value { result ≡ totals_from t (rest_answer rest) }
 {
     if rest == 0 {
-        return Lines { at, totals: t };
+        return t;
     }
-    write_answer(out, at, t, BlockAnswer::Refused(0, 9))
+    write_answer(draft, t, Err(BlockRefusal { job: 0, number: 9 }))
 }
 
 // Whether there is room for a line of each block, of a rest and of the totals, and the totals can be counted on.
@@ -109,19 +99,19 @@ pub fn write_part(part: &[u8], out: &mut [u8], t: Totals) -> Written
             last: true,
         };
     }
-    let blocks = write_blocks(part, out, t);
-    let lines = write_rest(out, blocks.at, blocks.totals, part.len() % 512);
-    let totals = lines.totals;
+    let mut draft = Draft { bytes: out, at: 0 };
+    let blocks = write_blocks(part, &mut draft, t);
+    let totals = write_rest(&mut draft, blocks, part.len() % 512);
     if part.len() < PART_SIZE {
-        let end = put_total(out, lines.at, totals);
+        put_total(&mut draft, totals);
         return Written {
-            at: end,
+            at: draft.at,
             totals,
             last: true,
         };
     }
     Written {
-        at: lines.at,
+        at: draft.at,
         totals,
         last: false,
     }

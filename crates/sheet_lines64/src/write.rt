@@ -1,66 +1,53 @@
 // Written by tests/written/wide.py from sheet_lines, in f64.
 // Whole lines: an answer's, and the last.
-ghost use Rattle.std.specs.Prelude.{◌+◌, ◌≤◌, length};
 ghost use Rattle.std.specs.Float.{binary64};
 ghost use Rattle.model.specs.Sheet.{total_line};
 ghost use Rattle.model64.specs.Sheet.{worked_line, answer_line};
-ghost use Rattle.text.specs.Put.{Put};
+ghost use Rattle.text.specs.Written.{Room, Wrote};
 ghost use Rattle.sheet_lines64.specs.Part.{longest_line};
 
-use crate::put::{put, put_contact, put_corners, put_number, put_three};
-use fields64::letter_of;
+use crate::put::{put_corners, put_three};
+use fields64::{letter_of, put_contact};
 use model::Totals;
 use model64::{BlockAnswer, Verdict};
+use text::Draft;
 
-fn put_worked(out: &mut [u8], at: usize, n: u64, job: u32, v: Verdict) -> usize
-    requires { at + longest_line ≤ length out.old }
-    ensures { Put out.old at (worked_line binary64 n job v) out.new result }
+fn put_worked(draft: &mut Draft<'_>, n: u64, job: u32, v: Verdict)
+    requires { Room longest_line draft.old }
+    ensures { Wrote longest_line draft.old (worked_line binary64 n job v) draft.new }
 {
-    let status = v.status;
-    let letter = letter_of(status);
-    let contact = v.contact;
-    let corners = v.corners;
-    let e1 = put_number(out, at, n, b' ');
-    let e2 = put_number(out, e1, job as u64, b' ');
-    let ending = [b'0', b' ', letter, b' '];
-    let e3 = put(out, e2, &ending);
-    let e4 = put_contact(out, e3, contact);
-    let e5 = put_three(
-        out,
-        e4,
+    draft.put_number(n, b' ');
+    draft.put_number(job as u64, b' ');
+    draft.put(&[b'0', b' ', letter_of(v.status), b' ']);
+    put_contact(draft, v.contact);
+    put_three(
+        draft,
         v.counts.distance_calls as u64,
         v.counts.searches as u64,
         v.counts.root_steps as u64,
         b' ',
     );
-    put_corners(out, e5, corners)
+    put_corners(draft, v.corners);
 }
 
 // The line of block n.
-pub fn put_answer(out: &mut [u8], at: usize, n: u64, answer: BlockAnswer) -> usize
-    requires { at + longest_line ≤ length out.old }
-    ensures { Put out.old at (answer_line binary64 n answer) out.new result }
+pub fn put_answer(draft: &mut Draft<'_>, n: u64, answer: BlockAnswer)
+    requires { Room longest_line draft.old }
+    ensures { Wrote longest_line draft.old (answer_line binary64 n answer) draft.new }
 {
     match answer {
-        BlockAnswer::Worked(job, verdict) => put_worked(out, at, n, job, verdict),
-        BlockAnswer::Refused(job, number) => put_three(
-            out,
-            at,
-            n,
-            job as u64,
-            number as u64,
-            b'\n',
-        ),
+        Ok(worked) => put_worked(draft, n, worked.job, worked.verdict),
+        Err(refusal) => put_three(draft, n, refusal.job as u64, refusal.number as u64, b'\n'),
     }
 }
 
 // The last line.
-pub fn put_total(out: &mut [u8], at: usize, t: Totals) -> usize
-    requires { at + longest_line ≤ length out.old }
-    ensures { Put out.old at (total_line t) out.new result }
+pub fn put_total(draft: &mut Draft<'_>, t: Totals)
+    requires { Room longest_line draft.old }
+    ensures { Wrote longest_line draft.old (total_line t) draft.new }
 {
-    let e1 = put(out, at, b"TOTAL ");
-    let e2 = put_number(out, e1, t.blocks, b' ');
-    let e3 = put_number(out, e2, t.clear, b' ');
-    put_three(out, e3, t.contact, t.undecided, t.refused, b'\n')
+    draft.put(b"TOTAL ");
+    draft.put_number(t.blocks, b' ');
+    draft.put_number(t.clear, b' ');
+    put_three(draft, t.contact, t.undecided, t.refused, b'\n');
 }

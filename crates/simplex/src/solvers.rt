@@ -45,6 +45,7 @@ pub fn solve_simplex2(simplex: [SimplexVertex; 3]) -> Solved
     let d12_1 = dot(w2, e12);
     if d12_1 <= 0.0 {
         simplex[1].a = 1.0;
+        // a vertex that goes to another slot takes its weight along
         simplex[0] = simplex[1];
         let direction = neg(w2);
         return Solved {

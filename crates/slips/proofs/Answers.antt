@@ -5,14 +5,16 @@ use mathlib.Core.Bool.{true, false}
 use mathlib.Core.List.{List, [], ◌∷◌, map}
 use lib.ListN.{replicate}
 use lib.Ieee.{Float, nan, binary32, binary64, of_bits, to_bits, add, sub, mul, div, neg, lt, le}
+use Rattle.std.proofs.Common.{Result, Ok, Err}
 use Rattle.model.specs.declared.Sweep.{Sweep}
-use Rattle.model.specs.declared.CheckedPose.{CheckedPose}
 use Rattle.model.specs.declared.SweepAnswer.TheVariants as Swept
 use Rattle.model.specs.declared.Status.TheVariants.{Failed}
+use Rattle.model.specs.declared.Refusal.{Refusal}
+use Rattle.model.specs.declared.Pose.{Pose}
 use Rattle.model.specs.Root.{root}
 use Rattle.model.specs.Ground.{vector, rotation, pose, abs}
 use Rattle.model.specs.Support.{support_from}
-use Rattle.model.specs.Domain.{bad_parts}
+use Rattle.model.specs.Domain.{bad_parts, numbered}
 use Rattle.model.specs.Simplex.{solve}
 use Rattle.model.specs.Distance.{all_below, replaced, held, vertex, start_simplex, rounds_from, witness_points, measure, proxy_distance}
 use Rattle.model.specs.Sweep.{transform_at, shifted}
@@ -23,9 +25,7 @@ use Rattle.model.specs.Block.{sum_of_words, checked_block}
 use Rattle.model.specs.Text.{decimal_by, line}
 use Rattle.model.specs.Work.{move_at, sweep_for, block_answer}
 use Rattle.model.specs.Sheet.{refused_line}
-use Rattle.at_fraction.specs.declared.GapAnswer.TheVariants as Gap
 use Rattle.at_fraction.specs.Moment.{pose_at, gap, gap_at}
-use Rattle.shapes.specs.declared.Built.TheVariants as Built
 use Rattle.shapes.specs.Shapes.{told, left, plate_told, plate_left, bar_left}
 use Rattle.route_legs.specs.declared.RouteAnswer.TheVariants.{Refused}
 use Rattle.route_legs.specs.Route.{stop, stop_at, start_of, leg_move, sweep_at, walk_from, wrong, route}
@@ -53,7 +53,7 @@ unfolding gap shifted transform_at root support_from solve vertex start_simplex 
 gap-seen-from-the-centre-of-b = refl
 
 -- B has no point
-pub outline-b-not-checked : gap_at binary32 there (along n0 n0) [] (along n0 n0) n0 ≡ Gap.Refused 2
+pub outline-b-not-checked : gap_at binary32 there (along n0 n0) [] (along n0 n0) n0 ≡ Err (numbered 2)
 unfolding gap_at bad_parts abs le of_bits
 outline-b-not-checked = refl
 
@@ -65,9 +65,9 @@ unfolding move_at gap_at gap shifted transform_at root support_from solve vertex
 gap-of-one-move = refl
 
 -- from 2 to 3: at 0 it stands at 2
-abbrev x_bits : CheckedPose → ℕ
-x_bits (CheckedPose.Good p) = bits p.translation.x
-x_bits (CheckedPose.Refused n) = n
+abbrev x_bits : Result Pose Refusal → ℕ
+x_bits (Ok p) = bits p.translation.x
+x_bits (Err r) = r.number
 
 pub pose-at-the-end : x_bits (pose_at binary32 (along n2 n3) n0) ≡ 0x4000_0000
 unfolding pose_at transform_at root abs bad_parts add sub neg mul div lt le of_bits to_bits
@@ -91,7 +91,7 @@ unfolding left abs neg lt le of_bits to_bits
 counter-clockwise = refl
 
 -- there is room for a plate, so it is not answered by 15
-pub refused-build-writes : plate_told binary32 n1 n2 (replicate 8 n0) ≡ Built.Corners 4
+pub refused-build-writes : plate_told binary32 n1 n2 (replicate 8 n0) ≡ Ok 4
 unfolding told abs lt le of_bits
 refused-build-writes = refl
 

@@ -4,6 +4,7 @@ use Prim.Native.Nat.{ℕ}
 use mathlib.Core.Bool.{false}
 use mathlib.Core.List.{List, [], ◌∷◌}
 use lib.Ieee.{Float, nan, binary32, of_bits, to_bits, add, sub, mul, div, neg, lt, le, is_nan}
+use Rattle.std.proofs.Common.{Err}
 use Rattle.model.specs.declared.Pose.{Pose}
 use Rattle.model.specs.declared.Sweep.{Sweep}
 use Rattle.model.specs.declared.SimplexVertex.{SimplexVertex}
@@ -14,13 +15,10 @@ use Rattle.model.specs.declared.SweepTask.{SweepTask}
 use Rattle.model.specs.declared.Closest.{Closest}
 use Rattle.model.specs.declared.SweepAnswer.{SweepAnswer}
 use Rattle.model.specs.declared.SweepAnswer.TheVariants as Swept
-use Rattle.model.specs.declared.DistanceAnswer.TheVariants.{Refused}
-use Rattle.model.specs.declared.CheckedPose.TheVariants as CheckedPose
-use Rattle.model.specs.declared.BlockAnswer.TheVariants as Answer
 use Rattle.model.specs.Root.{root}
 use Rattle.model.specs.Ground.{vector, rotation, pose, abs}
 use Rattle.model.specs.Support.{support_from}
-use Rattle.model.specs.Domain.{bad_parts, refusal_of_pose}
+use Rattle.model.specs.Domain.{bad_parts, refusal_of_pose, numbered}
 use Rattle.model.specs.Simplex.{region2, kept, solve, solve_simplex2}
 use Rattle.model.specs.Distance.{cache, all_below, replaced, held, vertex, start_simplex, rounds_from, witness_points, measure, proxy_distance}
 use Rattle.model.specs.Sweep.{transform_at, shifted}
@@ -31,6 +29,7 @@ use Rattle.model.specs.Corners.{corners_a}
 use Rattle.model.specs.Blocks.{whole_blocks, blocks}
 use Rattle.model.specs.Sheet.{answers}
 use Rattle.model.specs.Work.{move_at}
+use Rattle.model.specs.Block.{refused}
 use Rattle.slips.proofs.Ground.{n0, n1, n2, n3, n4, n5, -n1, bits, both}
 use Rattle.slips.proofs.Geometry as Geometry
 
@@ -80,11 +79,11 @@ unfolding measure start_simplex vertex rounds_from support_from held solve witne
 written-cache-keeps-number = refl
 
 -- outline B has no point; 2 modulo 2 would let the call go on
-pub pair-number-lost : (proxy_distance binary32 upright there n0 [] n0 false 7 (empty 7)).answer ≡ Refused 2
+pub pair-number-lost : (proxy_distance binary32 upright there n0 [] n0 false 7 (empty 7)).answer ≡ Err (numbered 2)
 unfolding proxy_distance bad_parts abs le of_bits
 pair-number-lost = refl
 
-pub pose-number-lost : refusal_of_pose (CheckedPose.Refused 6) ≡ 6
+pub pose-number-lost : refusal_of_pose (Err (numbered 6)) ≡ 6
 pose-number-lost = refl
 
 -- ---- the separation, of a corner (0, 3) of A above the face of B through (0, 0): turned round it is -3
@@ -182,7 +181,7 @@ one-repeat-too-few = refl
 
 -- ---- a block's work
 -- a short block is refused by 9, in a sheet and in a report
-pub short-rest-as-10 : answers binary32 (1 ∷ []) ≡ Answer.Refused 0 9 ∷ []
+pub short-rest-as-10 : answers binary32 (1 ∷ []) ≡ refused 0 9 ∷ []
 unfolding answers blocks whole_blocks
 short-rest-as-10 = refl
 

@@ -4,14 +4,14 @@ use Prim.Native.Nat.{ℕ}
 use mathlib.Core.Bool.{false}
 use mathlib.Core.List.{[], ◌∷◌}
 use lib.Ieee.{Float, nan, binary32, of_bits, to_bits, add, sub, mul, div, neg, lt, le}
+use Rattle.std.proofs.Common.{Err}
 use Rattle.model.specs.declared.Sweep.{Sweep}
 use Rattle.model.specs.declared.SimplexVertex.{SimplexVertex}
-use Rattle.model.specs.declared.SupportAnswer.TheVariants.{Refused}
 use Rattle.model.specs.Root.{root}
 use Rattle.model.specs.Ground.{vector, rotation, pose, abs}
 use Rattle.model.specs.Support.{point, support_from, support}
 use Rattle.model.specs.Second.{support_answer}
-use Rattle.model.specs.Domain.{bad_parts}
+use Rattle.model.specs.Domain.{bad_parts, numbered}
 use Rattle.model.specs.Simplex.{region2, kept, solve_simplex2}
 use Rattle.model.specs.Distance.{cache, all_below, cache_is_valid}
 use Rattle.model.specs.Sweep.{transform_at, shifted}
@@ -37,7 +37,7 @@ pub point-y-of-next : both (point (n0 ∷ n1 ∷ n2 ∷ n3 ∷ []) 0) ≡ (0 ∷
 unfolding of_bits to_bits
 point-y-of-next = refl
 
-pub support-number-lost : support_answer binary32 (nan ∷ n0 ∷ []) (vector n1 n0) ≡ Refused 3
+pub support-number-lost : support_answer binary32 (nan ∷ n0 ∷ []) (vector n1 n0) ≡ Err (numbered 3)
 unfolding support_answer bad_parts abs le of_bits
 support-number-lost = refl
 

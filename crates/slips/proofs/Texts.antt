@@ -1,4 +1,5 @@
 -- First contacts, reports and lines: what each slip would change. By computing.
+use Rattle.std.proofs.Common.{None}
 use mathlib.Core.Path.{◌≡◌, refl}
 use Prim.Native.Nat.{ℕ}
 use native.Mathlib.Omega.{arith}
@@ -8,9 +9,8 @@ use mathlib.Core.List.{List, [], ◌∷◌}
 use lib.ListN.{length}
 use lib.Ieee.{nan, of_bits, lt, eq}
 use Rattle.model.specs.declared.Status.TheVariants.{Hit}
-use Rattle.model.specs.declared.BlockAnswer.{BlockAnswer}
-use Rattle.model.specs.declared.BlockAnswer.TheVariants.{Worked}
-use Rattle.model64.specs.declared.BlockAnswer.TheVariants as Wide
+use Rattle.model.specs.Block.{refused}
+use Rattle.model.specs.Work.{BlockAnswer, worked}
 use Rattle.model.specs.Ground.{vector}
 use Rattle.model.specs.Corners.{no_search}
 use Rattle.model.specs.SweepToi.{counts, contact}
@@ -19,9 +19,8 @@ use Rattle.model.specs.Text.{decimal_by, line}
 use Rattle.model.specs.Sheet.{totals, total_line}
 use Rattle.any_contact_search.specs.First.{first_from, said}
 use Rattle.any_contact_search.specs.Search.{searched_to}
-use Rattle.report_counts.specs.declared.most.Most.TheVariants.{Nowhere, At}
 use Rattle.report_counts.specs.Rows.{hit_row, rows_in, times_in}
-use Rattle.report_counts.specs.Largest.{larger, largest_from, largest_in, moved}
+use Rattle.report_counts.specs.Largest.{larger, largest_from, largest_in, moved, seen_at}
 use Rattle.report_counts.specs.Report.{report, every_answer, tally_from, counted, together}
 use Rattle.report_lines.specs.Text.{most_text}
 use Rattle.job_text.specs.Job.{count_at}
@@ -30,7 +29,7 @@ use Rattle.slips.proofs.Ground.{n0, n1}
 
 -- a hit at 1 with 3 calls, 2 searches and 1 step
 abbrev at_one : BlockAnswer
-at_one = Worked 7 (record { status = Hit; contact = contact n1 (vector n0 n0) (vector n0 n0); counts = counts 3 2 1; corners = no_search })
+at_one = worked 7 (record { status = Hit; contact = contact n1 (vector n0 n0) (vector n0 n0); counts = counts 3 2 1; corners = no_search })
 
 -- ---- first contacts
 pub none-capitalised : said 0 ≡ 110 ∷ 111 ∷ 110 ∷ 101 ∷ 10 ∷ []
@@ -54,12 +53,12 @@ pub batch-begins-uncounted : (report ([] ∷ [])).batches ≡ 1
 unfolding report
 batch-begins-uncounted = refl
 
-pub blocks-from-zero : (counted (report ([] ∷ [])) at_one).largest.calls ≡ At 3 1 1
+pub blocks-from-zero : (counted (report ([] ∷ [])) at_one).largest.calls ≡ seen_at 3 1 1
 unfolding counted report every_answer tally_from rows_in times_in largest_in largest_from larger
 blocks-from-zero = refl
 
 -- the second report's batches follow the first's: its one batch is number 2
-pub second-batches-not-moved : (together (report ([] ∷ [])) (counted (report ([] ∷ [])) at_one)).largest.calls ≡ At 3 2 1
+pub second-batches-not-moved : (together (report ([] ∷ [])) (counted (report ([] ∷ [])) at_one)).largest.calls ≡ seen_at 3 2 1
 unfolding together counted report every_answer tally_from rows_in times_in largest_in largest_from larger moved
 second-batches-not-moved = refl
 
@@ -73,7 +72,7 @@ unfolding hit_row lt eq of_bits
 nan-counted-as-above = refl
 
 -- where no block was worked: `0 0 0`, not `0 1 1`
-pub no-maximum-told-as-block-1 : most_text Nowhere ≡ 48 ∷ 32 ∷ 48 ∷ 32 ∷ 48 ∷ 10 ∷ []
+pub no-maximum-told-as-block-1 : most_text None ≡ 48 ∷ 32 ∷ 48 ∷ 32 ∷ 48 ∷ 10 ∷ []
 unfolding decimal_by
 no-maximum-told-as-block-1 = refl
 
@@ -89,5 +88,5 @@ pub line-of-17-points-passed : count_at (7 ∷ 17 ∷ 1 ∷ []) 1 ≡ 16
 line-of-17-points-passed = refl
 
 -- of f64: where an f32 line has room there is none
-pub longest-line-of-f32 : line_for 1 (Wide.Refused 0 9) 240 ≡ []
+pub longest-line-of-f32 : line_for 1 (refused 0 9) 240 ≡ []
 longest-line-of-f32 = refl

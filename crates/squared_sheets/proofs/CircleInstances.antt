@@ -7,13 +7,13 @@ use Prim.Native.Nat.{ℕ, zero, suc, ◌<◌}
 use lib.Dec.{lit<, lit≤}
 use lib.IntN.{pos}
 use lib.Ieee.{binary32, of_bits, of_int, add, sub, mul, div, neg, lt, le, eq, round}
+use Rattle.std.proofs.Common.{Ok}
 use Rattle.integers.specs.Signed.{of_nat, ◌⊠◌, ◌≼◌}
 use Rattle.model.specs.declared.Solved.{Solved}
 use Rattle.model.specs.declared.Rounds.{Rounds}
 use Rattle.model.specs.declared.Ending.{Ending}
 use Rattle.model.specs.declared.Ending.TheVariants.{Settled}
 use Rattle.model.specs.declared.ProxyDistanceOutput.{ProxyDistanceOutput}
-use Rattle.model.specs.declared.DistanceAnswer.TheVariants.{Measured}
 use Rattle.model.specs.Ground.{abs}
 use Rattle.model.specs.Ground as Ground
 use Rattle.model.specs.Root.{root}
@@ -135,7 +135,7 @@ module _ (s : Sheet) where
   abbrev NearerAt : OnPaper s 16 → Ending → ℕ → ℕ → Type 0
   NearerAt paper ending rounds n = Nearer binary32 (on-squared-paper binary32 s 16 paper) ending rounds (at s n)
 
-  says : (paper : OnPaper s 16) (o : ProxyDistanceOutput) → (call s none).answer ≡ Measured o → (k n : ℕ) → CallReaches (suc (suc k)) n → On s n
+  says : (paper : OnPaper s 16) (o : ProxyDistanceOutput) → (call s none).answer ≡ Ok o → (k n : ℕ) → CallReaches (suc (suc k)) n → On s n
       → NearerAt paper o.ending o.iterations n
   says paper o answered k n r g =
       no-circles-on-squared-paper binary32 (drawn_pose binary32 s) (drawn binary32 s.a) (Ground.zero binary32) (drawn binary32 s.b)

@@ -8,17 +8,18 @@ use Prim.Native.Nat.{ℕ}
 use lib.ListN.{length}
 use lib.IntN.{pos, negsuc}
 use lib.Ieee.{Float, Format, binary32, binary64, of_bits, of_int, add, sub, mul, div, neg, lt, le, eq, round}
+use Rattle.std.proofs.Common.{Result, Ok, Err}
 use Rattle.integers.specs.Signed.{◌⊠◌}
 use Rattle.model.specs.declared.SimplexCache.{SimplexCache}
 use Rattle.model.specs.declared.Ending.{Ending}
 use Rattle.model.specs.declared.Ending.TheVariants.{Touching, Settled, RoundLimit}
-use Rattle.model.specs.declared.DistanceAnswer.{DistanceAnswer}
-use Rattle.model.specs.declared.DistanceAnswer.TheVariants.{Measured, Refused}
 use Rattle.model.specs.declared.Distance.{Distance}
+use Rattle.model.specs.declared.Refusal.{Refusal}
+use Rattle.model.specs.declared.ProxyDistanceOutput.{ProxyDistanceOutput}
 use Rattle.model.specs.Ground.{abs}
 use Rattle.model.specs.Ground as Ground
 use Rattle.model.specs.Root.{root}
-use Rattle.model.specs.Domain.{bad_parts}
+use Rattle.model.specs.Domain.{bad_parts, numbered}
 use Rattle.model.specs.Support.{support_from}
 use Rattle.model.specs.Simplex.{region2, region3, kept, solve_simplex2, solve_simplex3, solve}
 use Rattle.model.specs.Distance.{cache, all_below, replaced, held, vertex, start_simplex, rounds_from, witness_points, measure, proxy_distance}
@@ -41,9 +42,9 @@ call_at f s c = proxy_distance f (drawn_pose f s) (drawn f s.a) (Ground.zero f) 
 abbrev pub call : Sheet → SimplexCache → Distance
 call = call_at binary32
 
-abbrev pub endings : DistanceAnswer → List Ending
-endings (Measured o) = o.ending ∷ []
-endings (Refused n) = []
+abbrev pub endings : Result ProxyDistanceOutput Refusal → List Ending
+endings (Ok o) = o.ending ∷ []
+endings (Err r) = []
 
 -- ---- the sheets
 -- a square, and a triangle to its right with a corner toward it
@@ -104,7 +105,7 @@ from_stale = cache ours 2 (1 ∷ 2 ∷ 3 ∷ []) (0 ∷ 0 ∷ 2 ∷ [])
 pub record ComputedAt (f : Format) : Type 0 where
   pub stale_ends : endings (call_at f apart stale).answer ≡ (Settled ∷ [])
   pub stale_cache : (call_at f apart stale).cache ≡ from_stale
-  pub misfiled_refused : call_at f apart misfiled ≡ record { answer = Refused 12; cache = misfiled }
+  pub misfiled_refused : call_at f apart misfiled ≡ record { answer = Err (numbered 12); cache = misfiled }
 
 pub computed-at : (f : Format) → ComputedAt f
 unfolding proxy_distance measure rounds_from start_simplex vertex held solve solve_simplex2 solve_simplex3 region2 region3 kept support_from witness_points all_below
@@ -131,16 +132,16 @@ tells : (f : Format) (s : Sheet) (paper : OnPaper s (bound_of f)) (c : SimplexCa
     Exact (outline_a drawing) (posed_b drawing) e (call_at f s c).cache
 tells f s paper c arrays e h n = go (call_at f s c).answer refl h
   where
-    go : (x : DistanceAnswer) → (call_at f s c).answer ≡ x → endings x ≡ (e ∷ [])
+    go : (x : Result ProxyDistanceOutput Refusal) → (call_at f s c).answer ≡ x → endings x ≡ (e ∷ [])
         → let drawing = on-squared-paper f s (bound_of f) paper in
         Exact (outline_a drawing) (posed_b drawing) e (call_at f s c).cache
-    go (Measured o) is h =
+    go (Ok o) is h =
         let drawing = on-squared-paper f s (bound_of f) paper in
         let ends : o.ending ≡ e = cc in
         subst (λ (x : Ending). Exact (outline_a drawing) (posed_b drawing) x (call_at f s c).cache) ends
         (exact-on-squared-paper f (drawn_pose f s) (drawn f s.a) (Ground.zero f) (drawn f s.b) (Ground.zero f) false ours c drawing o arrays is
         (λ x. n (sym ends ∙ x)))
-    go (Refused k) is h = absurd (refused h)
+    go (Err r) is h = absurd (refused h)
       where
         refused : ◌≡◌ {A = List Ending} [] (e ∷ []) → ⊥
         refused h = let z : ◌≡◌ {A = ℕ} 0 1 = cc in omega arith

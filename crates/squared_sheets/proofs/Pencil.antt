@@ -7,10 +7,11 @@ use Prim.Native.Nat.{ℕ, zero, suc}
 use lib.Dec.{lit<, lit≤}
 use lib.IntN.{pos, negsuc}
 use lib.Ieee.{Float, binary32, of_bits, of_int, add, sub, mul, div, neg, lt, le, eq, round}
+use Rattle.std.proofs.Common.{Result, Ok, Err}
 use Rattle.integers.specs.Signed.{of_nat, ◌⊠◌}
 use Rattle.model.specs.declared.Ending.TheVariants.{Settled}
-use Rattle.model.specs.declared.DistanceAnswer.{DistanceAnswer}
-use Rattle.model.specs.declared.DistanceAnswer.TheVariants.{Measured, Refused}
+use Rattle.model.specs.declared.Refusal.{Refusal}
+use Rattle.model.specs.declared.ProxyDistanceOutput.{ProxyDistanceOutput}
 use Rattle.model.specs.Ground.{abs}
 use Rattle.model.specs.Ground as Ground
 use Rattle.model.specs.Root.{root}
@@ -47,13 +48,13 @@ pencil-on-paper = record { numbers_a = tt; numbers_b = tt; quarter_turn = tt; sh
 
 -- What the call tells: corners 0 and 1 of A against corner 0 of B, after two rounds; and the points and the distance as floats, which are off by a few last
 -- digits, since the weights 2/5 and 3/5 are rounded: 2.3999999, 1.8, 0, 4.9999995 and 3.9999995.
-abbrev rounds : DistanceAnswer → ℕ
-rounds (Measured o) = o.iterations
-rounds (Refused n) = 0
+abbrev rounds : Result ProxyDistanceOutput Refusal → ℕ
+rounds (Ok o) = o.iterations
+rounds (Err r) = 0
 
-abbrev floats : DistanceAnswer → List Float
-floats (Measured o) = o.point_a.x ∷ o.point_a.y ∷ o.point_b.x ∷ o.point_b.y ∷ o.distance ∷ []
-floats (Refused n) = []
+abbrev floats : Result ProxyDistanceOutput Refusal → List Float
+floats (Ok o) = o.point_a.x ∷ o.point_a.y ∷ o.point_b.x ∷ o.point_b.y ∷ o.distance ∷ []
+floats (Err r) = []
 
 pub record Computed : Type 0 where
   pub ends : endings (call pencil none).answer ≡ (Settled ∷ [])

@@ -8,12 +8,13 @@ use native.Mathlib.Omega.{arith}
 use lib.Dec.{lit≤, lit<}
 use lib.IntN.{ℤ, pos, negsuc}
 use lib.Ieee.{Format, binary32, binary64, of_bits, of_int, add, sub, mul, div, neg, lt, le, eq, round}
+use Rattle.std.proofs.Common.{Result, Ok, Err}
 use Rattle.integers.specs.Signed.{◌⊠◌}
 use Rattle.model.specs.declared.Ending.TheVariants.{Settled, RoundLimit}
-use Rattle.model.specs.declared.DistanceAnswer.{DistanceAnswer}
-use Rattle.model.specs.declared.DistanceAnswer.TheVariants.{Measured, Refused}
 use Rattle.model.specs.declared.Distance.{Distance}
 use Rattle.model.specs.declared.Rounds.{Rounds}
+use Rattle.model.specs.declared.Refusal.{Refusal}
+use Rattle.model.specs.declared.ProxyDistanceOutput.{ProxyDistanceOutput}
 use Rattle.model.specs.Ground.{abs}
 use Rattle.model.specs.Ground as Ground
 use Rattle.model.specs.Root.{root}
@@ -90,6 +91,6 @@ nine-exact =
 pub not-at-2048 : LimitNeverReached binary64 2048 → ⊥
 not-at-2048 never = go call.answer refl computed.limit
   where
-    go : (x : DistanceAnswer) → call.answer ≡ x → endings x ≡ (RoundLimit ∷ []) → ⊥
-    go (Measured o) is h = never _ _ _ _ _ _ _ _ (on-squared-paper binary64 flat 2048 flat-on-paper) o is cc
-    go (Refused n) is h = let z : ◌≡◌ {A = ℕ} 0 1 = cc in omega arith
+    go : (x : Result ProxyDistanceOutput Refusal) → call.answer ≡ x → endings x ≡ (RoundLimit ∷ []) → ⊥
+    go (Ok o) is h = never _ _ _ _ _ _ _ _ (on-squared-paper binary64 flat 2048 flat-on-paper) o is cc
+    go (Err r) is h = let z : ◌≡◌ {A = ℕ} 0 1 = cc in omega arith

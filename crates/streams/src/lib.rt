@@ -1,18 +1,21 @@
 // What the programs share: reading until a buffer is full, writing, and taking no arguments, with every fault told on standard error.
 #![tactic(auto)]
 
-ghost use Rattle.std.specs.Prelude.{◌≤◌, ◌<◌, ◌≡◌, length, take, IsNone, IsTrue, OnOk, Err};
+ghost use Rattle.std.specs.Prelude.{◌≤◌, ◌<◌, ◌≡◌, length, take, IsNone, IsTrue, OnOk, MatchResult, Ok, Err};
 ghost use Rattle.std.specs.Process.{exit_status};
 ghost use Rattle.io.specs.Counts.{IsPrefixLen};
 ghost use Rattle.std.specs.Io.KnownBytes.{Appends, Consumes, IsAtEnd};
+ghost use Rattle.streams.specs.Parts.{IsNextPart, Runs};
 
 use std::env::{Env, FillError};
 use std::io::{Cursor, Error, ErrorKind, Read, Write};
+use std::ops::ControlFlow;
 use std::os::fd::AsFd;
 use std::process::ExitCode;
 use std::str::from_utf8;
 
-// How many bytes stand at the start of the buffer, and the error of a read that failed.
+// How many bytes stand at the start of the buffer, and the error of a read that failed. No Result: the bytes before a failure are taken from the reader, and so
+// they are counted with it too.
 #[derive(Clone, Copy)]
 pub struct Filled {
     pub count: usize,
@@ -26,6 +29,7 @@ pub fn fill<R: Read>(reader: &mut R, buf: &mut [u8]) -> Filled
     ensures end { IsNone result.failed → result.count < length buf.new → IsAtEnd (R.remaining reader.new) }
 {
     let mut count: usize = 0;
+    // a read says itself how far it came: nothing to iterate over
     while count < buf.len() {
         match reader.read(&mut buf[count..]) {
             Ok(0) => {
@@ -49,18 +53,34 @@ pub fn fill<R: Read>(reader: &mut R, buf: &mut [u8]) -> Filled
     }
 }
 
-// The same from standard input, a failed read told.
-pub fn fill_from_input<R: Read, E: Write>(input: &mut R, err: &mut E, buf: &mut [u8]) -> Filled
-    ensures count { IsPrefixLen result.count buf.new }
-    ensures bytes { Consumes (R.remaining input.old) (R.remaining input.new) (take result.count buf.new) }
-    ensures end { IsNone result.failed → result.count < length buf.new → IsAtEnd (R.remaining input.new) }
-    ensures quiet { IsNone result.failed → err.new ≡ err.old }
+// Reads the next part into the buffer, as much as there is room for, or less at the input's end.
+pub fn read_part<'a, R: Read>(input: &mut R, buffer: &'a mut [u8]) -> std::io::Result<&'a [u8]>
+    ensures { IsNextPart (length buffer.old) (R.remaining input.old) (R.remaining input.new) result }
 {
-    let filled = fill(input, buf);
-    if let Some(failure) = filled.failed {
-        tell_failure(err, b"standard input", failure);
+    let filled = fill(input, buffer);
+    match filled.failed {
+        None => Ok(&buffer[..filled.count]),
+        Some(failure) => Err(failure),
     }
-    filled
+}
+
+// Reads part after part into the buffer, and calls work at each, or at the error of a read that failed, until it breaks off or gives an error. A proved loop
+// has to end, and nothing says that the input does: so the reads are counted, to a number that no run reaches; there the answer is None.
+pub fn each_part<
+    R: Read,
+    B,
+    X,
+    F: FnMut(std::io::Result<&[u8]>) -> Result<ControlFlow<B>, X> + Drop,
+>(input: &mut R, buffer: &mut [u8], mut work: F) -> Result<Option<B>, X>
+    requires { F.IsAlwaysCallable work }
+    ensures { Runs F.FnMut (length buffer.old) (work, R.remaining input.old) (R.remaining input.new) result }
+{
+    for reads in 0..u64::MAX {
+        if let ControlFlow::Break(end) = work(read_part(input, buffer))? {
+            return Ok(Some(end));
+        }
+    }
+    Ok(None)
 }
 
 // Tells a text. Where standard error takes none of it, there is nobody to tell that to.
@@ -115,41 +135,45 @@ pub fn status(run: Result<(), Stopped>) -> ExitCode
     }
 }
 
-// Tells a write that failed under a name, but for that to a closed pipe.
-fn stop<E: Write>(err: &mut E, name: &[u8], failure: Error) -> Stopped {
-    if failure.kind() == ErrorKind::BrokenPipe {
-        return Stopped::PipeClosed;
-    }
-    tell_failure(err, name, failure);
-    Stopped::Told
-}
-
-// Writes the first n bytes of a text; an error where it has not so many, or they could not all be written.
-fn write_first<W: Write>(to: &mut W, text: &[u8], n: usize) -> std::io::Result<()>
-    ensures { OnOk result (n ≤ length text.now × Appends (W.contents to.old) (W.contents to.new) (take n text.now)) }
+// What was done; where it failed that is told under a name. No map_err: of a closure that was not called nothing says that it left `err` as it was.
+pub fn told<T, E: Write>(err: &mut E, name: &[u8], done: std::io::Result<T>) -> Result<T, Stopped>
+    ensures { MatchResult done (λ x. (result ≡ Ok x) × (err.new ≡ err.old)) (λ _. result ≡ Err Stopped.Told) }
 {
-    if n <= text.len() {
-        to.write_all(&text[..n])
-    } else {
-        Err(Error::from(ErrorKind::InvalidInput))
+    match done {
+        Ok(x) => Ok(x),
+        Err(failure) => {
+            tell_failure(err, name, failure);
+            Err(Stopped::Told)
+        }
     }
 }
 
-// Writes the first n bytes of a text; an error, and told under a name, where they could not all be written.
+// A failed write is told under a name, but for that to a closed pipe.
+fn told_if_open<E: Write>(
+    err: &mut E,
+    name: &[u8],
+    written: std::io::Result<()>,
+) -> Result<(), Stopped>
+    ensures written { OnOk result (written ≡ Ok tt) }
+    ensures quiet { OnOk result (err.new ≡ err.old) }
+{
+    match written {
+        Err(failure) if failure.kind() == ErrorKind::BrokenPipe => Err(Stopped::PipeClosed),
+        _ => told(err, name, written),
+    }
+}
+
+// Writes a text; an error, and told under a name, where it could not all be written.
 pub fn write_to<W: Write, E: Write>(
     to: &mut W,
     err: &mut E,
     name: &[u8],
     text: &[u8],
-    n: usize,
 ) -> Result<(), Stopped>
-    ensures written { OnOk result (n ≤ length text.now × Appends (W.contents to.old) (W.contents to.new) (take n text.now)) }
+    ensures written { OnOk result (Appends (W.contents to.old) (W.contents to.new) text.now) }
     ensures quiet { OnOk result (err.new ≡ err.old) }
 {
-    match write_first(to, text, n) {
-        Ok(()) => Ok(()),
-        Err(failure) => Err(stop(err, name, failure)),
-    }
+    told_if_open(err, name, to.write_all(text))
 }
 
 // The same to standard output.
@@ -157,67 +181,60 @@ pub fn write_to_output<W: Write, E: Write>(
     out: &mut W,
     err: &mut E,
     text: &[u8],
-    n: usize,
 ) -> Result<(), Stopped>
-    ensures written { OnOk result (n ≤ length text.now × Appends (W.contents out.old) (W.contents out.new) (take n text.now)) }
+    ensures written { OnOk result (Appends (W.contents out.old) (W.contents out.new) text.now) }
     ensures quiet { OnOk result (err.new ≡ err.old) }
 {
-    write_to(out, err, b"standard output", text, n)
+    write_to(out, err, b"standard output", text)
 }
 
 // The same to standard error.
-pub fn write_to_error<E: Write>(err: &mut E, text: &[u8], n: usize) -> Result<(), Stopped>
-    ensures { OnOk result (n ≤ length text.now × Appends (E.contents err.old) (E.contents err.new) (take n text.now)) }
+pub fn write_to_error<E: Write>(err: &mut E, text: &[u8]) -> Result<(), Stopped>
+    ensures { OnOk result (Appends (E.contents err.old) (E.contents err.new) text.now) }
 {
-    match write_first(err, text, n) {
-        Ok(()) => Ok(()),
-        Err(failure) => Err(stop(err, b"standard error", failure)),
-    }
+    let written = err.write_all(text);
+    told_if_open(err, b"standard error", written)
 }
 
-// Writes what stands at the start of one text to standard output, and of the other to standard error.
+// Writes one text to standard output, and the other to standard error.
 pub fn write_both<W: Write, E: Write>(
     out: &mut W,
     err: &mut E,
     text: &[u8],
-    n: usize,
     told: &[u8],
-    m: usize,
 ) -> Result<(), Stopped>
-    ensures written { OnOk result (n ≤ length text.now × Appends (W.contents out.old) (W.contents out.new) (take n text.now)) }
-    ensures told { OnOk result (m ≤ length told.now × Appends (E.contents err.old) (E.contents err.new) (take m told.now)) }
+    ensures written { OnOk result (Appends (W.contents out.old) (W.contents out.new) text.now) }
+    ensures told { OnOk result (Appends (E.contents err.old) (E.contents err.new) told.now) }
 {
-    write_to_output(out, err, text, n)?;
-    write_to_error(err, told, m)
+    write_to_output(out, err, text)?;
+    write_to_error(err, told)
 }
 
 // Linux's number of the error that a call on a closed descriptor ends with.
 const BAD_DESCRIPTOR: i32 = 9;
 
-// Whether a stream is open; else that is told under a name. The descriptor of an open one can be doubled.
-fn is_open<S: AsFd, E: Write>(stream: &S, err: &mut E, name: &[u8]) -> bool
-    ensures quiet { IsTrue result → err.new ≡ err.old }
+// A stream is open; else that is told under a name. The descriptor of an open one can be doubled.
+fn must_be_open<S: AsFd, E: Write>(stream: &S, err: &mut E, name: &[u8]) -> Result<(), Stopped>
+    ensures quiet { OnOk result (err.new ≡ err.old) }
 {
     match stream.as_fd().try_clone_to_owned() {
-        Ok(_) => true,
-        Err(failure) => {
-            if failure.raw_os_error() != Some(BAD_DESCRIPTOR) {
-                return true;
-            }
-            tell_failure(err, name, failure);
-            false
+        Err(failure) if failure.raw_os_error() == Some(BAD_DESCRIPTOR) => {
+            told(err, name, Err(failure))
         }
+        _ => Ok(()),
     }
 }
 
-// Whether standard input and output are open. A program that opens a file asks before, since the file would take the number of a closed one.
-pub fn streams_open<R: AsFd, W: AsFd, E: Write>(input: &R, out: &W, err: &mut E) -> bool
-    ensures quiet { IsTrue result → err.new ≡ err.old }
+// Standard input and output are open. A program that opens a file asks before, since the file would take the number of a closed one.
+pub fn streams_open<R: AsFd, W: AsFd, E: Write>(
+    input: &R,
+    out: &W,
+    err: &mut E,
+) -> Result<(), Stopped>
+    ensures quiet { OnOk result (err.new ≡ err.old) }
 {
-    if !is_open(input, err, b"standard input") {
-        return false;
-    }
-    is_open(out, err, b"standard output")
+    must_be_open(input, err, b"standard input")?;
+    must_be_open(out, err, b"standard output")
 }
 
 // Whether the program was started with no argument; else that is told, under the program's name.

@@ -3,11 +3,12 @@ use Prim.Native.Nat.{ℕ}
 use mathlib.Core.List.{List}
 use mathlib.Core.Path.{◌≡◌, refl, ◌∙◌}
 use lib.Ieee.{Float, Format}
+use Rattle.std.proofs.Common.{Result, Ok, Err}
 use Rattle.model.specs.declared.Sweep.{Sweep}
 use Rattle.model.specs.declared.SweepTask.{SweepTask}
 use Rattle.model.specs.declared.SweepAnswer.TheVariants.{Refused}
 use Rattle.model.specs.declared.Swept.{Swept}
-use Rattle.model.specs.declared.Checked.{Checked}
+use Rattle.model.specs.declared.Refusal.{Refusal}
 use Rattle.model.specs.Domain.{pair_refusal, sweeps_refusal, fraction_refusal, slop_refusal, or_else, checked, refusal}
 use Rattle.model.specs.SweepToi.{sweep_task, sweep_by, sweep_time_of_impact}
 use Rattle.model.specs.Corners.{no_search, last_of, swept, advanced, searches_or_none, sweep}
@@ -27,12 +28,12 @@ module _ (f : Format) (a : List Float) (ra : Float) (wa : Sweep) (b : List Float
   abbrev before : ℕ → ℕ → Swept
   before m k = by (or_else k m)
 
-  module _ (m k : ℕ) (x : Checked) (is : x ≡ checked k) where
-    goes_on : x ≡ Checked.Passed → by m ≡ before m k
+  module _ (m k : ℕ) (x : Result Unit Refusal) (is : x ≡ checked k) where
+    goes_on : x ≡ Ok tt → by m ≡ before m k
     unfolding last_of
     goes_on = passed (before m) no (λ n. refl) k x is
 
-    stops : (n : ℕ) → x ≡ Checked.Refused n → (j : ℕ) → j ≡ refusal x → no j ≡ before m k
+    stops : (r : Refusal) → x ≡ Err r → (j : ℕ) → j ≡ refusal x → no j ≡ before m k
     unfolding last_of
     stops = refused (before m) no (λ n. refl) k x is
 
@@ -43,34 +44,34 @@ module _ (f : Format) (a : List Float) (ra : Float) (wa : Sweep) (b : List Float
   abbrev second : ℕ
   second = or_else (sweeps_refusal f wa wb) third
 
-  module _ (x : Checked) (ex : x ≡ checked (pair_refusal f a b ra rb)) where
-    pub pair-refused : (n : ℕ) → x ≡ Checked.Refused n → (j : ℕ) → j ≡ refusal x → no j ≡ answer
+  module _ (x : Result Unit Refusal) (ex : x ≡ checked (pair_refusal f a b ra rb)) where
+    pub pair-refused : (r : Refusal) → x ≡ Err r → (j : ℕ) → j ≡ refusal x → no j ≡ answer
     unfolding sweep sweep_time_of_impact
     pair-refused = stops second (pair_refusal f a b ra rb) x ex
 
-    module _ (gx : x ≡ Checked.Passed) (y : Checked) (ey : y ≡ checked (sweeps_refusal f wa wb)) where
+    module _ (gx : x ≡ Ok tt) (y : Result Unit Refusal) (ey : y ≡ checked (sweeps_refusal f wa wb)) where
       after-pair : by second ≡ answer
       unfolding sweep sweep_time_of_impact
       after-pair = goes_on second (pair_refusal f a b ra rb) x ex gx
 
-      pub sweeps-refused : (n : ℕ) → y ≡ Checked.Refused n → (j : ℕ) → j ≡ refusal y → no j ≡ answer
+      pub sweeps-refused : (r : Refusal) → y ≡ Err r → (j : ℕ) → j ≡ refusal y → no j ≡ answer
       sweeps-refused n g j ej = stops third (sweeps_refusal f wa wb) y ey n g j ej ∙ after-pair
 
-      module _ (gy : y ≡ Checked.Passed) (z : Checked) (ez : z ≡ checked (fraction_refusal f tmax)) where
+      module _ (gy : y ≡ Ok tt) (z : Result Unit Refusal) (ez : z ≡ checked (fraction_refusal f tmax)) where
         after-sweeps : by third ≡ answer
         after-sweeps = goes_on third (sweeps_refusal f wa wb) y ey gy ∙ after-pair
 
-        pub fraction-refused : (n : ℕ) → z ≡ Checked.Refused n → (j : ℕ) → j ≡ refusal z → no j ≡ answer
+        pub fraction-refused : (r : Refusal) → z ≡ Err r → (j : ℕ) → j ≡ refusal z → no j ≡ answer
         fraction-refused n g j ej = stops (slop_refusal f slop) (fraction_refusal f tmax) z ez n g j ej ∙ after-sweeps
 
-        module _ (gz : z ≡ Checked.Passed) (o : Checked) (eo : o ≡ checked (slop_refusal f slop)) where
+        module _ (gz : z ≡ Ok tt) (o : Result Unit Refusal) (eo : o ≡ checked (slop_refusal f slop)) where
           after-fraction : by (slop_refusal f slop) ≡ answer
           after-fraction = goes_on (slop_refusal f slop) (fraction_refusal f tmax) z ez gz ∙ after-sweeps
 
-          pub slop-refused : (n : ℕ) → o ≡ Checked.Refused n → (j : ℕ) → j ≡ refusal o → no j ≡ answer
+          pub slop-refused : (r : Refusal) → o ≡ Err r → (j : ℕ) → j ≡ refusal o → no j ≡ answer
           unfolding last_of
           slop-refused n g j ej = refused by no (λ n. refl) (slop_refusal f slop) o eo n g j ej ∙ after-fraction
 
-          pub all-passed : o ≡ Checked.Passed → (w : SweepTask) → w ≡ sweep_task f ra wa rb wb tmax slop → advanced f w a b ≡ answer
+          pub all-passed : o ≡ Ok tt → (w : SweepTask) → w ≡ sweep_task f ra wa rb wb tmax slop → advanced f w a b ≡ answer
           unfolding last_of advanced
           all-passed g w ew = rw ew (passed by no (λ n. refl) (slop_refusal f slop) o eo g ∙ after-fraction)

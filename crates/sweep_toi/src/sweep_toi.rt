@@ -10,8 +10,8 @@ use crate::trail::{called, called_on, pushed_on, searched, stepped};
 use domain::{check_fraction, check_pair, check_slop, check_sweeps, refusal};
 use ground::{abs, max};
 use model::{
-    Checked, Closest, Contact, Corners, Counts, NO_CORNER, SimplexCache, SupportPair, Sweep,
-    SweepAnswer, SweepTask, Swept, Vector,
+    Closest, Contact, Corners, Counts, NO_CORNER, SimplexCache, SupportPair, Sweep, SweepAnswer,
+    SweepTask, Swept, Vector,
 };
 use separation::{end_a, end_b, evaluate, find_min_separation, new_separation, shifted};
 
@@ -179,6 +179,7 @@ pub fn advance(task: SweepTask, points_a: &[f32], points_b: &[f32]) -> Swept
         },
         corners: no_search(),
     };
+    // the product's form of these loops: left by label, and the root search breaks with its value
     'advance: loop {
         let m1 = reached.m1;
         let closest = closest_at(task, points_a, points_b, m1, reached.cache);
@@ -318,7 +319,7 @@ fn sweep_task(
 }
 
 // When the outlines, each within its radius and on its way, come within the target distance, with the corners of the last search; or the number of
-// the first refusal.
+// the first refusal. The parameters are the published call's own, in its order.
 pub fn sweep_time_of_impact(
     points_a: &[f32],
     radius_a: f32,
@@ -333,19 +334,19 @@ pub fn sweep_time_of_impact(
         points_b.now radius_b sweep_b max_fraction linear_slop }
 {
     let pair = check_pair(points_a, points_b, radius_a, radius_b);
-    let Checked::Passed = pair else {
+    let Ok(()) = pair else {
         return refused(refusal(pair));
     };
     let sweeps = check_sweeps(sweep_a, sweep_b);
-    let Checked::Passed = sweeps else {
+    let Ok(()) = sweeps else {
         return refused(refusal(sweeps));
     };
     let fraction = check_fraction(max_fraction);
-    let Checked::Passed = fraction else {
+    let Ok(()) = fraction else {
         return refused(refusal(fraction));
     };
     let slop = check_slop(linear_slop);
-    let Checked::Passed = slop else {
+    let Ok(()) = slop else {
         return refused(refusal(slop));
     };
     let task = sweep_task(

@@ -1,15 +1,17 @@
 -- The decimal digits of `io` are those of the sheet, and at most twenty; hexadecimal digits in two halves. Assumes nothing.
 use mathlib.Core.Path.{◌≡◌, refl, sym, ap, ◌∙◌}
-use mathlib.Core.Bool.{Bool, true, false, cond}
+use mathlib.Core.Bool.{Bool, true, false}
 use mathlib.Core.List.{List, [], ◌∷◌, ◌++◌, append_assoc, append-nil}
 use Prim.Native.Nat.{ℕ, zero, suc, ◌+◌, ◌*◌, ◌-◌, ◌/◌, ◌%◌, ◌^◌, ◌≤◌, ◌<◌}
 use native.Mathlib.Omega.{arith}
 use native.Mathlib.Nat.{mul_assoc, pow-suc, one-le-pow, pow-le-pow_right}
 use borrow.Author.Tests.{lt-ltb, le-ltb, leb-true, leb-false}
-use lib.Dec.{ltb, leb}
-use lib.ListN.{length, take, length-append}
+use lib.Dec.{leb}
+use native.Mathlib.Numerals.{add-one}
+use lib.ListN.{length, take, drop, set}
+use Rattle.std.proofs.lemmas.List.{drop-set}
 use Rattle.text.specs.Put.{hex, wide_hex}
-use Rattle.io.specs.Digits.{last_digits, hex_digit_ascii, IsDigitCount}
+use Rattle.io.specs.Digits.{last_digits, IsDigitCount}
 use Rattle.model.specs.Text.{decimal_by, decimal, capital, hex_by}
 
 -- k + 1 digits, the fewest, of a number that may have j + 1
@@ -68,3 +70,8 @@ unfolding hex_by
 halves n end =
     ap (λ (l : List ℕ). l ++ (end ∷ [])) (parts 8 8 n (n / 4294967296) (n % 4294967296) (omega arith) (omega arith))
     ∙ append_assoc (hex_by 8 (n / 4294967296)) (hex_by 8 (n % 4294967296)) (end ∷ [])
+
+-- a digit more in place k, before those that stand behind it
+pub hex-step : (l : List ℕ) (k n x : ℕ) → k < length l → x ≡ capital (n % 16) → hex_by k (n / 16) ++ drop k (set l k x) ≡ hex_by (suc k) n ++ drop (suc k) l
+unfolding hex_by
+hex-step l k n x h e = rw (drop-set l k x h, e, add-one) (sym (append_assoc (hex_by k (n / 16)) (capital (n % 16) ∷ []) (drop (suc k) l)))

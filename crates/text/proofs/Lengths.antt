@@ -8,7 +8,7 @@ use borrow.Author.Tests.{le-ltb}
 use lib.Dec.{ltb}
 use lib.ListN.{length, length-append}
 use Rattle.model.specs.Text.{decimal_by, hex_by}
-use Rattle.text.specs.Put.{Put, where_room, number, hex}
+use Rattle.text.specs.Put.{Put, where_room, number, hex, wide_hex}
 
 one_digit_more : (k n : ℕ) (l : List ℕ) (short : Bool) → length l ≤ k → length (cond short ((48 + n) ∷ []) (l ++ ((48 + n % 10) ∷ []))) ≤ suc k
 one_digit_more k n l true h = omega arith
@@ -33,3 +33,7 @@ ends p short = omega (arith, p.place)
 -- where there is room the piece is there
 pub roomy : {d d' s : List ℕ} {k e : ℕ} (m : ℕ) → Put d k (where_room (k + m) (length d) s) d' e → k + m ≤ length d → Put d k s d' e
 roomy {d} {k = k} m p room = rw (le-ltb (length d) (k + m) room) at p
+
+pub length-wide-hex : (n end : ℕ) → length (wide_hex n end) ≡ 17
+unfolding hex_by
+length-wide-hex n end = refl

@@ -1,5 +1,7 @@
 pub mod Pasted
+pub mod Written
 mod Digits
 pub mod ReadBack
 pub mod Lengths
+pub mod Ends
 mod Slips

@@ -1,22 +1,18 @@
 -- What a pasted text does to a list: its length stays, a byte more is one store, and two texts one after the other are one. Assumes nothing.
 use mathlib.Core.Path.{◌≡◌, refl, sym, ap, ◌∙◌}
 use mathlib.Core.List.{List, [], ◌∷◌, ◌++◌, append_assoc}
-use Prim.Native.Nat.{ℕ, suc, ◌+◌, ◌≤◌, ◌<◌}
+use Prim.Native.Nat.{ℕ, ◌+◌, ◌≤◌, ◌<◌}
 use native.Mathlib.Omega.{arith}
 use native.Mathlib.Nat.{le_refl}
 use native.Mathlib.Numerals.{add-one}
-use lib.ListN.{length, take, drop, set, get_or, length-append}
-use lib.Seq.{paste, paste-zero, paste-suc, length-paste, length_paste_head, length-take-le, take-length, take_at, drop_at, drop-drop, set_split}
+use lib.ListN.{length, take, drop, set, length-append}
+use lib.Seq.{paste, paste-zero, length-paste, length-take-le, take-length, take_at, drop_at, drop-drop, set_split}
 use Rattle.text.specs.Put.{pasted, Put}
 
 -- the whole of a text, copied byte by byte
 pub whole-paste : (d : List ℕ) (k : ℕ) (s : List ℕ) → paste d k s (length s) ≡ pasted d k s
 unfolding pasted
 whole-paste d k s = rw (take-length s)
-
-pub paste_more : (d : List ℕ) (k : ℕ) (s : List ℕ) (i : ℕ) → k + length s ≤ length d → i < length s →
-    set (paste d k s i) (k + i) (get_or s i 0) ≡ paste d k s (i + 1)
-paste_more d k s i fits more = rw add-one (paste-suc d k s i 0 (omega arith) more)
 
 pub length-pasted : (d : List ℕ) (k : ℕ) (s : List ℕ) → k + length s ≤ length d → length (pasted d k s) ≡ length d
 length-pasted d k s fits = rw (← whole-paste d k s) (length-paste d k s (length s) fits (le_refl (length s)))

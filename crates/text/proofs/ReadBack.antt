@@ -1,16 +1,15 @@
 -- A line read byte by byte, and that digits read back are the number that they were printed for. Assumes nothing.
-use mathlib.Core.Path.{◌≡◌, refl, sym, ap, ◌∙◌}
+use mathlib.Core.Path.{◌≡◌, refl, ◌∙◌}
 use mathlib.Core.Bool.{Bool, true, false, cond}
-use mathlib.Core.List.{List, [], ◌∷◌, ◌++◌, append_assoc}
+use mathlib.Core.List.{List, [], ◌∷◌, ◌++◌}
 use Prim.Native.Nat.{ℕ, zero, suc, ◌+◌, ◌-◌, ◌*◌, ◌/◌, ◌%◌, ◌^◌, ◌≤◌, ◌<◌}
 use native.Mathlib.Omega.{arith}
-use native.Mathlib.Nat.{mod-eq_of_lt}
 use native.Mathlib.Numerals.{add-one}
 use borrow.Author.Tests.{lt-ltb, le-ltb, ltb-true, ltb-false}
 use lib.Dec.{ltb}
 use lib.ListN.{length, drop, get_or, set}
-use lib.Seq.{drop-cons, drop-length, sets}
-use Rattle.model.specs.Text.{decimal_by, decimal, capital, hex_by}
+use lib.Seq.{drop-cons}
+use Rattle.model.specs.Text.{decimal_by, capital, hex_by}
 use Rattle.text.specs.Read.{hex_digit, base_at, next_count, next_value, next_words, stored}
 
 -- ---- the loop's turn and its end

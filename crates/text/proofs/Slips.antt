@@ -1,6 +1,6 @@
 -- Slips that look harmless, each with what the definition says where it would show, computed. Assumes nothing.
 use mathlib.Core.Path.{◌≡◌, refl}
-use mathlib.Core.List.{List, [], ◌∷◌}
+use mathlib.Core.List.{[], ◌∷◌}
 use Rattle.model.specs.Text.{decimal_by, capital, hex_by}
 use Rattle.text.specs.Put.{number, wide_hex}
 use Rattle.text.specs.Read.{hex_digit, stored}

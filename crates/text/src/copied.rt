@@ -1,5 +1,5 @@
 // Texts copied to where there is room for them; the answer is the place after.
-ghost use Rattle.std.specs.Prelude.{◌≡◌, ◌+◌, ◌≤◌, ◌<◌, cond, [], ◌∷◌, ◌++◌, ltb, length};
+ghost use Rattle.std.specs.Prelude.{◌≡◌, ◌+◌, ◌≤◌, ◌<◌, [], ◌∷◌, ◌++◌, ltb, length};
 ghost use Rattle.model.specs.Text.{capital, hex_by};
 ghost use Rattle.text.specs.Put.{Put, number};
 
@@ -18,14 +18,9 @@ pub fn copy(out: &mut [u8], at: usize, text: &[u8]) -> usize
     requires { at + length text.now ≤ length out.old }
     ensures { Put out.old at text.now out.new result }
 {
-    let mut to = at;
-    let mut i: usize = 0;
-    while i < text.len() {
-        out[to] = text[i];
-        to += 1;
-        i += 1;
-    }
-    to
+    let end = at + text.len();
+    out[at..end].copy_from_slice(text);
+    end
 }
 
 // A digit, and a byte after it.
@@ -33,7 +28,7 @@ fn copy_digit(out: &mut [u8], at: usize, d: u64, end: u8) -> usize
     requires { (at + 2 ≤ length out.old) × (d < 10) }
     ensures { Put out.old at (number d end) out.new result }
 {
-    out[at] = 48 + d as u8;
+    out[at] = b'0' + d as u8;
     let last = at + 1;
     out[last] = end;
     last + 1
@@ -54,41 +49,27 @@ pub fn copy_number(out: &mut [u8], at: usize, n: u64, end: u8) -> usize
     e + 1
 }
 
-// How many codes stand between 9 and A, for a digit past 9.
-fn skipped(d: u32) -> u32
-    ensures { result ≡ cond (ltb d 10) 0 7 }
-{
-    if d < 10 { 0 } else { 7 }
-}
-
 // 0 to 9, then A to F.
 fn capital_digit(d: u32) -> u8
     requires { d < 16 }
     ensures { result ≡ capital d }
 {
-    (48 + d + skipped(d)) as u8
+    if d < 10 {
+        b'0' + d as u8
+    } else {
+        b'A' - 10 + d as u8
+    }
 }
 
 // The eight digits of a word, and a byte after them.
 pub fn hex_digits(n: u32, end: u8) -> [u8; 9]
     ensures { result ≡ hex_by 8 n ++ (end ∷ []) }
 {
-    let n1 = n / 16;
-    let n2 = n1 / 16;
-    let n3 = n2 / 16;
-    let n4 = n3 / 16;
-    let n5 = n4 / 16;
-    let n6 = n5 / 16;
-    let n7 = n6 / 16;
-    [
-        capital_digit(n7 % 16),
-        capital_digit(n6 % 16),
-        capital_digit(n5 % 16),
-        capital_digit(n4 % 16),
-        capital_digit(n3 % 16),
-        capital_digit(n2 % 16),
-        capital_digit(n1 % 16),
-        capital_digit(n % 16),
-        end,
-    ]
+    let mut digits = [end; 9];
+    let mut rest = n;
+    for i in 0..8 {
+        digits[7 - i] = capital_digit(rest % 16);
+        rest /= 16;
+    }
+    digits
 }

@@ -6,19 +6,11 @@ ghost use Rattle.text.specs.Read.{hex_digit, base_at, next_count, next_value, ne
 pub fn hex_digit(x: u8) -> u64
     ensures { result ≡ hex_digit x }
 {
-    if x < 48 {
-        return 16;
+    match x {
+        b'0'..=b'9' => (x - b'0') as u64,
+        b'A'..=b'F' => (x - b'A') as u64 + 10,
+        _ => 16,
     }
-    if x < 58 {
-        return x as u64 - 48;
-    }
-    if x < 65 {
-        return 16;
-    }
-    if x < 71 {
-        return x as u64 - 55;
-    }
-    16
 }
 
 // The first numbers are decimal, the others hexadecimal.
@@ -64,12 +56,9 @@ pub fn read_numbers(line: &[u8], decimals: usize, words: &mut [u32])
 {
     let mut k: usize = 0;
     let mut value: u32 = 0;
-    let mut i: usize = 0;
-    while i < line.len() {
-        let x = line[i];
-        store(words, x, k, value);
-        value = next_value(decimals, x, k, value);
-        k = next_count(x, k);
-        i += 1;
+    for x in line {
+        store(words, *x, k, value);
+        value = next_value(decimals, *x, k, value);
+        k = next_count(*x, k);
     }
 }

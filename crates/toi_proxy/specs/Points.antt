@@ -1,13 +1,13 @@
 -- A list of point records: its flat list, and how `support_points` takes one point after another.
-use Rattle.std.specs.Prelude.{ℕ, ◌%◌, ◌^◌, Bool, ◌||◌, cond, List, [], ◌∷◌, eqb, ltb, get_or, Float}
+use Rattle.std.specs.Prelude.{ℕ, ◌%◌, ◌^◌, Bool, ◌||◌, cond, List, [], ◌∷◌, eqb, ltb, get_or, Float, Result, Ok, Err}
 use Rattle.std.specs.Float.{nan, Format}
 use Rattle.std.specs.Float.Ieee.{lt, eq}
 use Rattle.model.specs.declared.Vector.{Vector}
-use Rattle.model.specs.declared.SupportAnswer.{SupportAnswer}
-use Rattle.model.specs.declared.SupportAnswer.TheVariants.{At, Refused}
+use Rattle.model.specs.declared.Refusal.{Refusal}
+use Rattle.model.specs.declared.SupportPair.{SupportPair}
 use Rattle.model.specs.Ground.{vector, minus, dot}
 use Rattle.model.specs.Ground as Ground
-use Rattle.model.specs.Domain.{bad_vector}
+use Rattle.model.specs.Domain.{bad_vector, numbered}
 use Rattle.model.specs.Second.{pair}
 use Rattle.toi_proxy.specs.declared.point_list.Farthest.{Farthest}
 
@@ -34,5 +34,5 @@ taken f d s i p =
     (farthest s.x s.y b (cond (lt s.value v) i s.best) (cond (lt s.value v) i (cond (eq v s.value) i s.second))
     (cond (lt s.value v) v s.value))
 
-abbrev pub answer_of : Farthest → ℕ → SupportAnswer
-answer_of s n = cond (eqb n 0 || ltb 64 n) (Refused 1) (cond s.bad (Refused 3) (At (pair (s.best % 2 ^ 32) (s.second % 2 ^ 32))))
+abbrev pub answer_of : Farthest → ℕ → Result SupportPair Refusal
+answer_of s n = cond (eqb n 0 || ltb 64 n) (Err (numbered 1)) (cond s.bad (Err (numbered 3)) (Ok (pair (s.best % 2 ^ 32) (s.second % 2 ^ 32))))

@@ -9,7 +9,7 @@ ghost use Rattle.model.specs.Distance.{proxy_distance};
 ghost use Rattle.model.specs.Second.{support_answer};
 ghost use Rattle.model.specs.Corners.{sweep};
 
-use model::{Distance, Pose, SimplexCache, SupportAnswer, Sweep, Swept, Vector};
+use model::{Distance, Pose, Refusal, SimplexCache, SupportPair, Sweep, Swept, Vector};
 pub use point_list::support_points;
 
 // An outline by its list x0 y0 x1 y1 .., and the radius around it.
@@ -41,7 +41,7 @@ pub fn radius<'a>(proxy: ToiProxy<'a>) -> f32
 }
 
 // Which points of a proxy lie farthest along a direction, the first and the second; or the number of its refusal.
-pub fn support<'a>(proxy: ToiProxy<'a>, direction: Vector) -> SupportAnswer
+pub fn support<'a>(proxy: ToiProxy<'a>, direction: Vector) -> Result<SupportPair, Refusal>
     ensures { result ≡ support_answer binary32 proxy.entry.points.now direction }
 {
     outline::support(proxy.points, direction)

@@ -10,11 +10,12 @@ use lib.Dec.{T, eqb, ltb, eqb-suc-zero, eqb→eq, eqb_refl, ltb→lt, lt→ltb}
 use lib.ListN.{drop, length, drop_of_length-le}
 use lib.Seq.{drop-cons}
 use lib.Ieee.{Float, Format, lt, eq}
+use Rattle.std.proofs.Common.{Ok, Err}
 use Rattle.model64.specs.declared.Vector.{Vector}
 use Rattle.model.specs.declared.SupportPair.{SupportPair}
-use Rattle.model.specs.declared.SupportAnswer.TheVariants.{At, Refused}
 use Rattle.model64.specs.Ground.{vector, minus, dot}
 use Rattle.model64.specs.Ground as Ground
+use Rattle.model.specs.Domain.{numbered}
 use Rattle.model64.specs.Domain.{bad_part, bad_vector, bad_parts}
 use Rattle.model64.specs.Support.{support_from}
 use Rattle.model.specs.Second.{support_by}
@@ -157,13 +158,13 @@ second-all f d p ps =
     ∙ second-from f d ps (farthest p.x p.y (bad_vector f p) 0 0 (Ground.zero f)) 1 refl
 
 -- the answer by the three tests
-by_cases : (none bad : Bool) (p : SupportPair) → cond none (Refused 1) (cond bad (Refused 3) (At p)) ≡ support_by (cond none 1 (cond bad 3 0)) p
+by_cases : (none bad : Bool) (p : SupportPair) → cond none (Err (numbered 1)) (cond bad (Err (numbered 3)) (Ok p)) ≡ support_by (cond none 1 (cond bad 3 0)) p
 by_cases true bad p = refl
 by_cases false true p = refl
 by_cases false false p = refl
 
 by_tests : (none none' bad bad' : Bool) (i j k l : ℕ) → none' ≡ none → bad ≡ bad' → i ≡ j → k ≡ l →
-    cond none (Refused 1) (cond bad (Refused 3) (At (pair (i % 2 ^ 32) (k % 2 ^ 32))))
+    cond none (Err (numbered 1)) (cond bad (Err (numbered 3)) (Ok (pair (i % 2 ^ 32) (k % 2 ^ 32))))
     ≡ support_by (cond none' 1 (cond bad' 3 0)) (pair (j % 2 ^ 32) (l % 2 ^ 32))
 by_tests none none' bad bad' i j k l n b first second = rw (n, b, first, second) (by_cases none bad' (pair (j % 2 ^ 32) (l % 2 ^ 32)))
 
@@ -174,8 +175,6 @@ answers f d (p ∷ ps) =
     by_tests _ _ _ _ _ _ _ _ (outline-tests _ _ (length-flat (p ∷ ps))) (bad-from f d (p ∷ ps) (start f) 0) (best-all f d p ps) (second-all f d p ps)
 
 -- where all points are taken
-pub finishes : (f : Format) (d : Vector) (ps : List Vector) (i : ℕ) (s : Farthest) → i ≤ length ps → length ps ≤ i → taken_from f d s i (drop i ps)
-    ≡ taken_from f d (start f) 0 ps → answer_of s i ≡ support_answer f (flat ps) d
-finishes f d ps i s below above e =
-    let all : i ≡ length ps = omega (arith, below, above) in
-    ap (λ (t : Farthest). answer_of t i) (sym (ends f d ps i s above) ∙ e) ∙ (ap (answer_of (taken_from f d (start f) 0 ps)) all ∙ answers f d ps)
+pub finishes : (f : Format) (d : Vector) (ps : List Vector) (i : ℕ) (s : Farthest) → length ps ≤ i → taken_from f d s i (drop i ps)
+    ≡ taken_from f d (start f) 0 ps → answer_of s (length ps) ≡ support_answer f (flat ps) d
+finishes f d ps i s above e = ap (λ (t : Farthest). answer_of t (length ps)) (sym (ends f d ps i s above) ∙ e) ∙ answers f d ps

@@ -10,7 +10,7 @@ ghost use Rattle.model64.specs.Distance.{proxy_distance};
 ghost use Rattle.model64.specs.Second.{support_answer};
 ghost use Rattle.model64.specs.Corners.{sweep};
 
-use model::{SimplexCache, SupportAnswer};
+use model::{Refusal, SimplexCache, SupportPair};
 use model64::{Distance, Pose, Sweep, Swept, Vector};
 pub use point_list::support_points;
 
@@ -43,7 +43,7 @@ pub fn radius<'a>(proxy: ToiProxy<'a>) -> f64
 }
 
 // Which points of a proxy lie farthest along a direction, the first and the second; or the number of its refusal.
-pub fn support<'a>(proxy: ToiProxy<'a>, direction: Vector) -> SupportAnswer
+pub fn support<'a>(proxy: ToiProxy<'a>, direction: Vector) -> Result<SupportPair, Refusal>
     ensures { result ≡ support_answer binary64 proxy.entry.points.now direction }
 {
     outline64::support(proxy.points, direction)

@@ -1,15 +1,16 @@
 // Written by tests/written/wide.py from toi_proxy, in f64.
 // The support of a lent list of point records: that of the flat list of their parts.
-ghost use Rattle.std.specs.Prelude.{◌<◌, ◌≡◌, length};
+ghost use Rattle.std.specs.Prelude.{◌≡◌};
 ghost use Rattle.std.specs.Float.{binary64};
 ghost use Rattle.model64.specs.Second.{support_answer};
-ghost use Rattle.toi_proxy64.specs.Points.{point_of, flat, taken, answer_of};
+ghost use Rattle.toi_proxy64.specs.Points.{flat, taken, answer_of};
 
 use domain64::bad_vector;
-use model::{SupportAnswer, SupportPair};
+use model::{BAD_OUTLINE_A, BAD_PART, Refusal, SupportPair};
 use model64::Vector;
 
-// What is known of the points so far: the first one's parts, whether any has a bad part, and the best with its value, the first and the second.
+// What is known of the points so far: the first one's parts, whether any has a bad part, and the best with its value, the first and the second. The walk goes on
+// behind a bad part, so that several points are looked at as one: no Result.
 #[derive(Clone, Copy)]
 struct Farthest {
     x: f64,
@@ -18,13 +19,6 @@ struct Farthest {
     best: usize,
     second: usize,
     value: f64,
-}
-
-fn point_at(points: &[Vector], i: usize) -> Vector
-    requires { i < length points.now }
-    ensures { result ≡ point_of points.now i }
-{
-    points[i]
 }
 
 // Takes point i: the first is the origin of all values, and a later one is better where its value is above the best, and the second where
@@ -46,52 +40,41 @@ fn take(s: Farthest, i: usize, p: Vector, direction: Vector) -> Farthest
     let value = direction.x * (p.x - s.x) + direction.y * (p.y - s.y);
     if value > s.value {
         Farthest {
-            x: s.x,
-            y: s.y,
             bad,
             best: i,
             second: i,
             value,
+            ..s
         }
     } else if value == s.value {
         Farthest {
-            x: s.x,
-            y: s.y,
             bad,
-            best: s.best,
             second: i,
-            value: s.value,
+            ..s
         }
     } else {
-        Farthest {
-            x: s.x,
-            y: s.y,
-            bad,
-            best: s.best,
-            second: s.second,
-            value: s.value,
-        }
+        Farthest { bad, ..s }
     }
 }
 
 // The answer, once all points are taken.
-fn answer(s: Farthest, count: usize) -> SupportAnswer
+fn answer(s: Farthest, count: usize) -> Result<SupportPair, Refusal>
     ensures { result ≡ answer_of s count }
 {
     if (count == 0) | (count > 64) {
-        return SupportAnswer::Refused(1);
+        return Err(BAD_OUTLINE_A);
     }
     if s.bad {
-        return SupportAnswer::Refused(3);
+        return Err(BAD_PART);
     }
-    SupportAnswer::At(SupportPair {
+    Ok(SupportPair {
         first: (s.best % 0x1_0000_0000) as u32,
         second: (s.second % 0x1_0000_0000) as u32,
     })
 }
 
 // Which points of a list of records lie farthest along a direction, the first and the second; or the number of its refusal: the answer of the flat list.
-pub fn support_points(points: &[Vector], direction: Vector) -> SupportAnswer
+pub fn support_points(points: &[Vector], direction: Vector) -> Result<SupportPair, Refusal>
     ensures { result ≡ support_answer binary64 (flat points.now) direction }
 {
     let mut s = Farthest {
@@ -102,11 +85,8 @@ pub fn support_points(points: &[Vector], direction: Vector) -> SupportAnswer
         second: 0,
         value: 0.0,
     };
-    let mut i: usize = 0;
-    while i < points.len() {
-        let p = point_at(points, i);
-        s = take(s, i, p, direction);
-        i += 1;
+    for (i, p) in points.iter().enumerate() {
+        s = take(s, i, *p, direction);
     }
-    answer(s, i)
+    answer(s, points.len())
 }

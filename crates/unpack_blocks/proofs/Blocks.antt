@@ -1,14 +1,16 @@
 -- Lines and refusals of blocks, one block more. Assumes nothing.
+use Rattle.std.proofs.Common.{Result, Ok, Err}
 use mathlib.Core.Path.{◌≡◌, refl, sym, ap, ◌∙◌}
 use mathlib.Core.List.{List, [], ◌∷◌, ◌++◌, append_assoc, append-nil}
-use Prim.Native.Nat.{ℕ, suc, ◌+◌, ◌*◌, ◌≤◌}
+use Prim.Native.Nat.{ℕ, suc, ◌+◌, ◌-◌, ◌*◌, ◌≤◌}
 use native.Mathlib.Omega.{arith}
 use native.Mathlib.Numerals.{add-one}
 use borrow.Author.Tests.{eq-eqb, le-ltb}
 use lib.ListN.{length, take, drop, length-drop}
 use lib.Seq.{length-take-le}
-use Rattle.model.specs.declared.CheckedBlock.{CheckedBlock}
-use Rattle.model.specs.declared.CheckedBlock.TheVariants.{Good, Refused}
+use Rattle.std.proofs.lemmas.List.{drop-take, take-take}
+use Rattle.model.specs.declared.Block.{Block}
+use Rattle.model.specs.declared.BlockRefusal.{BlockRefusal}
 use Rattle.text.specs.Put.{Put}
 use Rattle.text.proofs.Pasted.{put_then}
 use Rattle.model.specs.Wire.{byte}
@@ -33,16 +35,24 @@ refusals-append n (x ∷ xs) ys =
     let e : n + 1 + length xs ≡ n + suc (length xs) = omega arith in
     rw (refusals-append (n + 1) xs ys, e) (sym (append_assoc (refusal_by (n + 1) x) _ _))
 
--- block i, of so many bytes
-module _ (b : List ℕ) (i n : ℕ) (whole : n ≡ 512) (inside : 512 * i + 512 ≤ length b) where
+-- a block of the first bytes is one of all
+pub front_block : (b : List ℕ) (i m : ℕ) → 512 * i + 512 ≤ m → take 512 (drop (512 * i) (take m b)) ≡ take 512 (drop (512 * i) b)
+front_block b i m h =
+    let rest = m - 512 * i in
+    let e : 512 * i + rest ≡ m = omega (arith, h) in
+    ap (λ (k : ℕ). take 512 (drop (512 * i) (take k b))) (sym e) ∙ ap (take 512) (drop-take (512 * i) rest b)
+    ∙ take-take 512 rest (drop (512 * i) b) (omega (arith, h))
+
+-- block i
+module _ (b : List ℕ) (i : ℕ) (inside : 512 * i + 512 ≤ length b) where
   abbrev x : List ℕ
-  x = take n (drop (512 * i) b)
+  x = take 512 (drop (512 * i) b)
 
   size : length x ≡ 512
-  size = length-take-le n (drop (512 * i) b) (rw (length-drop (512 * i) b) (omega (arith, whole, inside))) ∙ whole
+  size = length-take-le 512 (drop (512 * i) b) (rw (length-drop (512 * i) b) (omega (arith, inside)))
 
   more : whole_blocks (i + 1) b ≡ whole_blocks i b ++ (x ∷ [])
-  more = rw (add-one i, whole) (blocks_more i b)
+  more = rw (add-one i) (blocks_more i b)
 
   one_line : lines_of (whole_blocks (i + 1) b) ≡ lines_of (whole_blocks i b) ++ unpacked x
   unfolding lines_of
@@ -70,14 +80,14 @@ pub length-unpacked : (b : List ℕ) → length (unpacked b) ≤ longest_line
 unfolding unpacked
 length-unpacked b = go (plain_block b) refl
   where
-    go : (k : CheckedBlock) → plain_block b ≡ k → length (line_or b k) ≤ longest_line
-    go (Good k) e = let p = what-passed b (ap is_good e) in length-job b p.count-a p.count-b
-    go (Refused job number) e = omega arith
+    go : (k : Result Block BlockRefusal) → plain_block b ≡ k → length (line_or b k) ≤ longest_line
+    go (Ok k) e = let p = what-passed b (ap is_good e) in length-job b p.count-a p.count-b
+    go (Err r) e = omega arith
 
 pub length-refused : (n : ℕ) (b : List ℕ) → length (refused n b) ≤ refusal_room
 unfolding refused
 length-refused n b = go (plain_block b)
   where
-    go : (k : CheckedBlock) → length (refusal_or n k) ≤ refusal_room
-    go (Good k) = omega arith
-    go (Refused job number) = length-refusal n number
+    go : (k : Result Block BlockRefusal) → length (refusal_or n k) ≤ refusal_room
+    go (Ok k) = omega arith
+    go (Err r) = length-refusal n r.number

@@ -4,6 +4,7 @@ use mathlib.Core.Bool.{Bool, true, false, cond}
 use mathlib.Core.List.{List, [], ◌∷◌, ◌++◌, append-nil}
 use Prim.Native.Nat.{ℕ, ◌+◌, ◌/◌, ◌%◌, ◌≤◌, ◌<◌}
 use native.Mathlib.Omega.{arith}
+use Rattle.std.proofs.Math.Nat.{min-eq_left}
 use borrow.Author.Tests.{eqb-true, eqb-false, lt-ltb, le-ltb}
 use lib.Dec.{eqb}
 use lib.ListN.{length, length-append}
@@ -62,7 +63,7 @@ module _ (size room err_room : ℕ) (whole : size % 512 ≡ 0) (lines : size / 5
   all-used n p inside small =
       let most : length p / 512 ≤ room / longest_line = omega (arith, inside, lines) in
       let told : length p / 512 ≤ err_room / refusal_room = omega (arith, inside, refusals) in
-      rw (lt-ltb n count_limit small, le-ltb (room / longest_line) (length p / 512) most, le-ltb (err_room / refusal_room) (length p / 512) told)
+      rw (lt-ltb n count_limit small, min-eq_left most, min-eq_left told)
 
   module _ (n : ℕ) (p : List ℕ) (can : Can n p) (short : length p < size) where
     used-last : used_blocks n p room err_room ≡ length p / 512

@@ -1,20 +1,20 @@
 -- Blocks to lines: what each block adds to both texts.
-use Rattle.std.specs.Prelude.{ℕ, ◌+◌, ◌/◌, ◌%◌, Bool, cond, List, [], ◌∷◌, ◌++◌, eqb, ltb, length}
-use Rattle.model.specs.declared.CheckedBlock.{CheckedBlock}
-use Rattle.model.specs.declared.CheckedBlock.TheVariants.{Good, Refused}
+use Rattle.std.specs.Prelude.{ℕ, ◌+◌, ◌/◌, ◌%◌, Bool, cond, List, [], ◌∷◌, ◌++◌, eqb, ltb, length, Result, Ok, Err}
+use Rattle.model.specs.declared.Block.{Block}
+use Rattle.model.specs.declared.BlockRefusal.{BlockRefusal}
 use Rattle.model.specs.Block.{block_size}
 use Rattle.model.specs.Blocks.{whole_blocks, blocks}
 use Rattle.runs.specs.Run.{text_run}
 use Rattle.job_text.specs.Job.{longest_line, plain_block, job_line}
 use Rattle.job_text.specs.Room.{refusal, told_for, used_of}
 
-abbrev pub line_or : List ℕ → CheckedBlock → List ℕ
-line_or b (Good k) = job_line b
-line_or b (Refused job number) = []
+abbrev pub line_or : List ℕ → Result Block BlockRefusal → List ℕ
+line_or b (Ok k) = job_line b
+line_or b (Err r) = []
 
-abbrev pub refusal_or : ℕ → CheckedBlock → List ℕ
-refusal_or n (Good k) = []
-refusal_or n (Refused job number) = refusal n number
+abbrev pub refusal_or : ℕ → Result Block BlockRefusal → List ℕ
+refusal_or n (Ok k) = []
+refusal_or n (Err r) = refusal n r.number
 
 -- a block's line, and as block n its refusal
 unfoldable pub unpacked : List ℕ → List ℕ

@@ -7,8 +7,6 @@ ghost use Rattle.job_text.specs.Job.{longest_line};
 ghost use Rattle.job_text.specs.Room.{refusal_room};
 ghost use Rattle.unpack_blocks.specs.Unpack.{unpacked, refused, lines_of, refusals_of, rest_for, used_blocks, blocks_in};
 
-use model::CheckedBlock;
-
 // How many blocks have passed, and the places after both texts.
 #[derive(Clone, Copy)]
 pub struct Unpacked {
@@ -17,6 +15,7 @@ pub struct Unpacked {
     pub told: usize,
 }
 
+// The places after both texts.
 #[derive(Clone, Copy)]
 struct Places {
     at: usize,
@@ -24,19 +23,19 @@ struct Places {
 }
 
 // A block's line, or as block n its refusal.
-fn put_block(block: &[u8], n: u64, out: &mut [u8], at: usize, err: &mut [u8], told: usize) -> Places
-    requires { (at + longest_line ≤ length out.old) × (told + refusal_room ≤ length err.old) }
-    ensures { Put out.old at (unpacked block.now) out.new result.at
-        × Put err.old told (refused n block.now) err.new result.told }
+fn put_block(block: &[u8], n: u64, out: &mut [u8], err: &mut [u8], places: Places) -> Places
+    requires { (places.at + longest_line ≤ length out.old) × (places.told + refusal_room ≤ length err.old) }
+    ensures { Put out.old places.at (unpacked block.now) out.new result.at
+        × Put err.old places.told (refused n block.now) err.new result.told }
 {
     match job_text::check_plain(block) {
-        CheckedBlock::Good(_) => Places {
-            at: job_text::put_job(out, at, block),
-            told,
+        Ok(_) => Places {
+            at: job_text::put_job(out, places.at, block),
+            told: places.told,
         },
-        CheckedBlock::Refused(_, number) => Places {
-            at,
-            told: job_text::put_refusal(err, told, n, number as u64),
+        Err(refusal) => Places {
+            at: places.at,
+            told: job_text::put_refusal(err, places.told, n, refusal.number as u64),
         },
     }
 }
@@ -51,21 +50,17 @@ pub fn unpack_part(part: &[u8], before: u64, out: &mut [u8], err: &mut [u8]) -> 
         × (result.blocks ≡ before + used_blocks before part.now (length out.old) (length err.old)) }
 {
     let n = job_text::used_of(part.len() / 512, out.len() / 855, err.len(), before);
-    let mut at: usize = 0;
-    let mut told: usize = 0;
-    let mut i: usize = 0;
-    while i < n {
-        let from = 512 * i;
-        let end = from + 512;
-        let places = put_block(&part[from..end], before + i as u64 + 1, out, at, err, told);
-        at = places.at;
-        told = places.told;
-        i += 1;
+    let used = 512 * n;
+    let mut blocks = before;
+    let mut places = Places { at: 0, told: 0 };
+    for block in part[..used].chunks_exact(512) {
+        places = put_block(block, blocks + 1, out, err, places);
+        blocks += 1;
     }
     Unpacked {
-        blocks: before + n as u64,
-        at,
-        told,
+        blocks,
+        at: places.at,
+        told: places.told,
     }
 }
 

@@ -1,6 +1,6 @@
 -- Slips that look harmless, each with what the definition says where it would show, computed. Assumes nothing.
 use mathlib.Core.Path.{◌≡◌, refl}
-use mathlib.Core.List.{List, [], ◌∷◌}
+use mathlib.Core.List.{[], ◌∷◌}
 use Rattle.model.specs.Wire.{byte}
 use Rattle.wire.specs.Bytes.{word_bytes}
 

@@ -7,18 +7,17 @@ ghost use Rattle.model.specs.Work as Work;
 ghost use Rattle.model.specs.Block.{most_points};
 ghost use Rattle.work.specs.Refusal.{refusal_by};
 
-use model::{Block, BlockAnswer, CheckedBlock, Outcome, Swept};
+use model::{Block, BlockAnswer, BlockRefusal, Refusal, Swept, Verdict, Worked};
 
 // The 32 floats from a place on: as many as sixteen points have. A number that is fixed lets several be read as one; who asks for fewer lends the first.
+// Not `block_floats`' loop: this crate is there in both widths, of which the wider takes each float over from a block's; a loop of both would be two crates more.
 fn floats_at(bytes: &[u8], from: usize) -> [f32; 32]
     requires { from ≤ 512 }
     ensures { (length result ≡ 32) × ((n : ℕ) → n ≤ 32 → take n result ≡ Work.floats_at bytes.now from n) }
 {
     let mut floats = [0.0f32; 32];
-    let mut i: usize = 0;
-    while i < 32 {
-        floats[i] = ground::from_bits(wire::word(bytes, from + 4 * i));
-        i += 1;
+    for (i, x) in floats.iter_mut().enumerate() {
+        *x = ground::from_bits(wire::word(bytes, from + 4 * i));
     }
     floats
 }
@@ -37,21 +36,27 @@ fn work_block(bytes: &[u8], k: Block) -> Swept
 }
 
 // What a sweep comes to, as the answer of a block with that job.
-fn of_job(job: u32, outcome: Outcome) -> BlockAnswer
+fn of_job(job: u32, outcome: Result<Verdict, Refusal>) -> BlockAnswer
     ensures { result ≡ Work.of_job job outcome }
 {
     match outcome {
-        Outcome::Found(verdict) => BlockAnswer::Worked(job, verdict),
-        Outcome::Refused(number) => BlockAnswer::Refused(job, number),
+        Ok(verdict) => Ok(Worked { job, verdict }),
+        Err(refusal) => Err(BlockRefusal {
+            job,
+            number: refusal.number,
+        }),
     }
 }
 
-fn refusal(checked: CheckedBlock) -> BlockAnswer
+fn refusal(checked: Result<Block, BlockRefusal>) -> BlockAnswer
     ensures { result ≡ refusal_by checked }
 {
     match checked {
-        CheckedBlock::Good(k) => BlockAnswer::Refused(k.job, 0),
-        CheckedBlock::Refused(job, number) => BlockAnswer::Refused(job, number),
+        Ok(k) => Err(BlockRefusal {
+            job: k.job,
+            number: 0,
+        }),
+        Err(refusal) => Err(refusal),
     }
 }
 
@@ -60,7 +65,7 @@ pub fn answer_block(bytes: &[u8]) -> BlockAnswer
     ensures { result ≡ Work.block_answer binary32 bytes.now }
 {
     let checked = block::check_block(bytes);
-    let CheckedBlock::Good(k) = checked else {
+    let Ok(k) = checked else {
         return refusal(checked);
     };
     let swept = work_block(bytes, k);

@@ -1,10 +1,11 @@
 -- Written by tests/written/wide.py from work, in f64.
 -- The answer that a refused block comes to; a block that passed has number 0 here.
-use Rattle.model.specs.declared.CheckedBlock.{CheckedBlock}
-use Rattle.model.specs.declared.CheckedBlock.TheVariants as Checked
-use Rattle.model64.specs.declared.BlockAnswer.{BlockAnswer}
-use Rattle.model64.specs.declared.BlockAnswer.TheVariants.{Refused}
+use Rattle.std.specs.Prelude.{Result, Ok, Err}
+use Rattle.model.specs.declared.Block.{Block}
+use Rattle.model.specs.declared.BlockRefusal.{BlockRefusal}
+use Rattle.model.specs.Block.{refused}
+use Rattle.model64.specs.Work.{BlockAnswer}
 
-abbrev pub refusal_by : CheckedBlock → BlockAnswer
-refusal_by (Checked.Good k) = Refused k.job 0
-refusal_by (Checked.Refused job number) = Refused job number
+abbrev pub refusal_by : Result Block BlockRefusal → BlockAnswer
+refusal_by (Ok k) = refused k.job 0
+refusal_by (Err r) = Err r

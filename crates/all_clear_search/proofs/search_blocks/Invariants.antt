@@ -1,13 +1,10 @@
--- `all_clear_search::search_blocks` meets its contract: what is found among the blocks left is found among all, and the blocks left fall. Assumes nothing.
-use Prim.Native.Nat.{◌≤◌, ◌+◌, ◌*◌, ◌-◌}
-use mathlib.Core.Path.{◌≡◌, sym, ◌∙◌}
-use borrow.Author.Rules.{rules}
-use native.Mathlib.Omega.{arith}
-use Rattle.all_clear_search.proofs.First.{LeftFrom, from_start, none_left, stopped, passed}
+-- `all_clear_search::search_blocks` meets its contract: what is found among the blocks left is found among all. Assumes nothing.
+use Rattle.std.proofs.Common.{◌≡◌, ◌+◌, ◌/◌, length}
+use Rattle.runs.proofs.Walked.{Walked}
+use Rattle.all_clear_search.proofs.First.{LeftFrom}
 use Rattle.all_clear_search.proofs.search_blocks.Given as goal
 
-abbrev pub invariant-loop-i : goal.invariant-loop-i
-invariant-loop-i l = (l.i ≤ l.k) × (l.n ≡ l.before + l.i) × LeftFrom l.part l.k l.before l.n l.i
-
-abbrev pub decreases-loop-i : goal.decreases-loop-i
-decreases-loop-i l = l.k - l.i
+abbrev pub invariant-loop-block : goal.invariant-loop-block
+invariant-loop-block l =
+    let i = length l.yielded in
+    Walked l.part i l.block-iterator × (l.n ≡ l.before + i) × LeftFrom l.part (length l.part / 512) l.before l.n i

@@ -1,6 +1,5 @@
 -- `all_clear_search::write_found` meets its contract: nothing where there is no room, else the number, nothing or `none`. Assumes nothing.
 use Prim.Native.Nat.{◌≤◌}
-use borrow.Author.Rules.{rules}
 use borrow.Author.Tests.{lt-ltb, le-ltb, eq-eqb, ne_eqb}
 use native.Mathlib.Omega.{arith}
 use lib.ListN.{length}
@@ -11,19 +10,15 @@ pub returns-then-out-lt-LONGEST_TEXT : goal.returns-then-out-lt-LONGEST_TEXT
 returns-then-out-lt-LONGEST_TEXT c = simp (lt-ltb _ _ c.if-out-lt-LONGEST_TEXT.true) (put-nothing _ _)
 
 pub returns-then-found-gt0 : goal.returns-then-found-gt0
-returns-then-found-gt0 c = let start = c.before.before.before.before.before in
-    let room : 21 ≤ length start.args.out.now = start.if-out-lt-LONGEST_TEXT.false in
+returns-then-found-gt0 c = let room : 21 ≤ length c.args.out.now = c.if-out-lt-LONGEST_TEXT.false in
     simp (le-ltb _ _ room, lt-ltb _ _ c.if-found-gt0.true) (rw (le-ltb _ _ room) at c.put_number.ensures)
 
 pub returns-then-blocks-eq0 : goal.returns-then-blocks-eq0
-returns-then-blocks-eq0 c = let start = c.before.before in
-    let room : 21 ≤ length start.args.out.now = start.if-out-lt-LONGEST_TEXT.false in
+returns-then-blocks-eq0 c = let room : 21 ≤ length c.args.out.now = c.if-out-lt-LONGEST_TEXT.false in
     simp (le-ltb _ _ room, le-ltb _ _ c.if-found-gt0.false, eq-eqb _ _ c.if-blocks-eq0.true) (put-nothing _ _)
 
 pub returns : goal.returns
-returns c = let middle = c.before.before.before.before.before in
-    let start = middle.before.before in
-    let room : 21 ≤ length start.args.out.now = start.if-out-lt-LONGEST_TEXT.false in
-    let enough : 5 ≤ length start.args.out.now = omega arith in
-    simp (le-ltb _ _ room, le-ltb _ _ middle.if-found-gt0.false, ne_eqb _ _ middle.if-blocks-eq0.false)
+returns c = let room : 21 ≤ length c.args.out.now = c.if-out-lt-LONGEST_TEXT.false in
+    let enough : 5 ≤ length c.args.out.now = omega arith in
+    simp (le-ltb _ _ room, le-ltb _ _ c.if-found-gt0.false, ne_eqb _ _ c.if-blocks-eq0.false)
     (rw (le-ltb _ _ enough) at c.put_text.ensures)

@@ -1,16 +1,14 @@
--- `any_contact_search::search_blocks` meets its contract: what is left to search tells what the whole does, and the blocks left fall. Assumes nothing.
-use Prim.Native.Nat.{◌≤◌, ◌+◌, ◌*◌, ◌-◌}
-use mathlib.Core.Path.{◌≡◌, sym, ◌∙◌}
-use borrow.Author.Rules.{rules}
-use native.Mathlib.Omega.{arith}
-use lib.Ieee.{binary32}
+-- `any_contact_search::search_blocks` meets its contract: what is left to search tells what the whole does. Assumes nothing.
+use Rattle.std.proofs.Common.{◌≡◌, ◌+◌, ◌/◌, length}
+use Rattle.std.specs.Float.{binary32}
 use Rattle.model.specs.Sheet.{whole_answers}
+use Rattle.runs.proofs.Walked.{Walked}
 use Rattle.any_contact_search.specs.First.{first_from}
-use Rattle.any_contact_search.proofs.Blocks.{left_from, from_start, none_left, found_here, passed_over}
+use Rattle.any_contact_search.proofs.Blocks.{left_from}
 use Rattle.any_contact_search.proofs.search_blocks.Given as goal
 
-abbrev pub invariant-loop-i : goal.invariant-loop-i
-invariant-loop-i l = (l.i ≤ l.k) × (l.n ≡ l.before + l.i) × (left_from l.part l.k l.n l.i ≡ first_from l.before (whole_answers binary32 l.k l.part))
-
-abbrev pub decreases-loop-i : goal.decreases-loop-i
-decreases-loop-i l = l.k - l.i
+abbrev pub invariant-loop-block : goal.invariant-loop-block
+invariant-loop-block l =
+    let i = length l.yielded in
+    let k = length l.part / 512 in
+    Walked l.part i l.block-iterator × (l.n ≡ l.before + i) × (left_from l.part k l.n i ≡ first_from l.before (whole_answers binary32 k l.part))

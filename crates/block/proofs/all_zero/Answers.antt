@@ -1,20 +1,29 @@
--- `block::all_zero` meets its contract: as where bytes may be missing, and the words of a whole block are all there. Assumes nothing.
-use Rattle.std.proofs.Common.{◌≡◌, ℕ, ◌-◌, ◌*◌, ◌≤◌, refl, ap, ◌∙◌, le_antisymm, rules}
+-- `block::all_zero` meets its contract: the bytes passed so far are all zero or not. Assumes nothing.
+use Rattle.std.proofs.Common.{◌≡◌, ℕ, ◌-◌, ◌<◌, ◌∙◌, drop, refl, arith, get_or-drop, get_or-take}
+use Rattle.std.proofs.lemmas.List.{length-take, length-drop}
 use Rattle.model.specs.Block.{all_zero}
-use Rattle.block.proofs.Laws.{zero-step}
+use Rattle.block.proofs.Laws.{both-zero, zero-step, zero-rest}
 use Rattle.block.proofs.all_zero.Goals as goal
 
-pub returns-then-bytes-lt512 : goal.returns-then-bytes-lt512
-returns-then-bytes-lt512 c = c.all_zero_short.ensures
-
-pub loop-i-init : goal.loop-i-init
+pub loop-x-init : goal.loop-x-init
 unfolding all_zero
-loop-i-init c = (search rules, refl)
+loop-x-init c = refl
 
-pub loop-i-preserved : goal.loop-i-preserved
-loop-i-preserved c = (search rules, simp (c.loop-i.invariant.1, c.word_in.ensures) (zero-step _ _ _))
+pub loop-x-preserved : goal.loop-x-preserved
+loop-x-preserved c =
+    let l = c.loop-x in
+    let a = c.args in
+    let size = c.min-end.result - a.from in
+    let here : l.x-index < size = omega (arith, length-take {A = ℕ}, c.loop-x-test.true) in
+    rw (get_or-take size (drop a.from a.bytes.now) l.x-index 0 here, get_or-drop a.from a.bytes.now l.x-index 0, both-zero, l.invariant) (zero-step a.bytes.now a.from l.x-index)
 
 pub returns : goal.returns
-returns c = let l = c.loop-i in
+returns c =
+    let l = c.loop-x in
     let a = c.args in
-    l.invariant.1 ∙ ap (λ (k : ℕ). all_zero a.bytes.now a.from (4 * k)) (le_antisymm l.invariant.0 c.loop-i-test.false)
+    let all : l.x-index ≡ c.min-end.result - a.from = omega (arith, length-take {A = ℕ}, length-drop {A = ℕ}, c.loop-x-test.false, l.auto.x-index-end) in
+    l.invariant ∙ zero-rest a.bytes.now a.from l.x-index a.n (omega arith) (λ h. omega arith)
+
+pub returns-then-end-from : goal.returns-then-end-from
+unfolding all_zero
+returns-then-end-from c = zero-rest c.args.bytes.now c.args.from 0 c.args.n (omega arith) (λ h. omega arith)

@@ -1,5 +1,5 @@
 -- `block::check_block` meets its contract: the form comes first, then the check, then the fields. Assumes nothing.
-use Rattle.std.proofs.Common.{sym, ap, ◌∙◌, rules}
+use Rattle.std.proofs.Common.{sym, ap, ◌∙◌}
 use Rattle.model.specs.Block.{known_form}
 use Rattle.block.proofs.Laws.{unknown-form, wrong-check, wrong-fields, all_right}
 use Rattle.block.proofs.check_block.Goals as goal
@@ -17,7 +17,7 @@ returns-then-bad_fields c = let sum = c.before.before.before in
     let form = sum.before.before in
     let known = ap known_form (sym form.byte.ensures) ∙ sym form.known_form.ensures ∙ form.if-not-known_form.false in
     let holds = sym sum.check_holds.ensures ∙ sum.if-not-check_holds.false in
-    rw c.word.ensures (wrong-fields _ known holds (sym c.bad_fields.ensures ∙ c.if-bad_fields.true))
+    rw c.word-job.ensures (wrong-fields _ known holds (sym c.bad_fields.ensures ∙ c.if-bad_fields.true))
 
 pub returns : goal.returns
 returns c = let sum = c.before.before.before in

@@ -1,11 +1,17 @@
--- `block_floats::floats_at` meets its contract: what lies too far or is too many asks nothing. Assumes nothing.
-use mathlib.Core.Path.{refl}
-use native.Mathlib.Omega.{arith}
+-- `block_floats::floats_at` meets its contract: the floats so far stand at the start. Assumes nothing.
 use borrow.Author.Rules.{rules}
+use mathlib.Core.Path.{refl, ap, ◌∙◌}
+use lib.Ieee.{binary32, of_bits}
+use Rattle.model.specs.Work.{floats_at}
+use Rattle.block_floats.proofs.Laws.{floats-set}
 use Rattle.block_floats.proofs.floats_at.Goals as goal
 
-pub returns-then-from-gt512 : goal.returns-then-from-gt512
-returns-then-from-gt512 c = (refl, λ near few. absurd (omega (arith, near, c.if-from-gt512.true)))
+pub loop-i-init : goal.loop-i-init
+unfolding floats_at
+loop-i-init c = (refl, refl)
 
-pub returns-then-n-gt32 : goal.returns-then-n-gt32
-returns-then-n-gt32 c = (refl, λ near few. absurd (omega (arith, few, c.if-n-gt32.true)))
+pub loop-i-preserved : goal.loop-i-preserved
+loop-i-preserved c = (
+  search rules,
+  floats-set _ _ _ _ _ (search rules) c.loop-i.invariant.1 (c.from_bits.ensures ∙ ap (of_bits binary32) c.word.ensures),
+)

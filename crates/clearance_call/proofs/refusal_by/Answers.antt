@@ -11,28 +11,28 @@ returns-in_default c = let f = c.args in
 pub returns-in_default-sweeps : goal.returns-in_default-sweeps
 returns-in_default-sweeps c = let f = c.args in
     sweeps-refused f.points_a.now f.points_b.now f.radii f.limits f.move_a f.move_b f.from
-    _ c.check_pair-pair.ensures c.in-Passed.is
+    _ c.check_pair-pair.ensures c.in-Ok.is
     _ c.check_sweeps-sweeps.ensures _ c.in_default-sweeps.is _ c.refusal-in_default-sweeps.ensures
 
 pub returns-in_default-fraction : goal.returns-in_default-fraction
 returns-in_default-fraction c = let f = c.args in
     fraction-refused f.points_a.now f.points_b.now f.radii f.limits f.move_a f.move_b f.from
-    _ c.check_pair-pair.ensures c.in-Passed.is
-    _ c.check_sweeps-sweeps.ensures c.in-Passed-sweeps.is
+    _ c.check_pair-pair.ensures c.in-Ok.is
+    _ c.check_sweeps-sweeps.ensures c.in-Ok-sweeps.is
     _ c.check_fraction-fraction.ensures _ c.in_default-fraction.is _ c.refusal-in_default-fraction.ensures
 
 pub returns-in_default-start : goal.returns-in_default-start
 returns-in_default-start c = let f = c.args in
     start-refused f.points_a.now f.points_b.now f.radii f.limits f.move_a f.move_b f.from
-    _ c.check_pair-pair.ensures c.in-Passed.is
-    _ c.check_sweeps-sweeps.ensures c.in-Passed-sweeps.is
-    _ c.check_fraction-fraction.ensures c.in-Passed-fraction.is
+    _ c.check_pair-pair.ensures c.in-Ok.is
+    _ c.check_sweeps-sweeps.ensures c.in-Ok-sweeps.is
+    _ c.check_fraction-fraction.ensures c.in-Ok-fraction.is
     _ c.check_from-start.ensures _ c.in_default-start.is _ c.refusal-in_default-start.ensures
 
 pub returns : goal.returns
 returns c = let f = c.args in
     last-told f.points_a.now f.points_b.now f.radii f.limits f.move_a f.move_b f.from
-    _ c.check_pair-pair.ensures c.in-Passed.is
-    _ c.check_sweeps-sweeps.ensures c.in-Passed-sweeps.is
-    _ c.check_fraction-fraction.ensures c.in-Passed-fraction.is
-    _ c.check_from-start.ensures c.in-Passed-start.is _ c.check_slop.ensures _ c.refusal-2.ensures
+    _ c.check_pair-pair.ensures c.in-Ok.is
+    _ c.check_sweeps-sweeps.ensures c.in-Ok-sweeps.is
+    _ c.check_fraction-fraction.ensures c.in-Ok-fraction.is
+    _ c.check_from-start.ensures c.in-Ok-start.is _ c.check_slop.ensures _ c.refusal-2.ensures

@@ -1,13 +1,6 @@
-use native.Mathlib.Omega.{arith}
-use Prim.Native.Nat.{◌≤◌, ◌-◌}
-use borrow.Author.Rules.{rules}
-use Rattle.clearance_verdict.proofs.look_near.Reads as reads
-use Rattle.clearance_verdict.proofs.look_near.Lts as lts
-use Rattle.clearance_verdict.proofs.look_at.Reads as look-at-reads
+-- What is stepped on by is doubled only while it is within the move. Assumes nothing.
+use Rattle.std.proofs.Common.{◌≤◌}
 use Rattle.clearance_verdict.proofs.look_near.Given as goal
 
-abbrev pub invariant-loop-i : goal.invariant-loop-i
-invariant-loop-i l = (l.d ≤ 33554432) × (l.i ≤ 25)
-
-abbrev pub decreases-loop-i : goal.decreases-loop-i
-decreases-loop-i l = 25 - l.i
+abbrev pub invariant-loop-doubling : goal.invariant-loop-doubling
+invariant-loop-doubling l = l.d ≤ 33554432

@@ -1,14 +1,7 @@
 -- `grid_job::largest` meets its contract. Assumes nothing.
-use mathlib.Core.Logic.{⊎_elim}
-use Rattle.grid_job.proofs.Laws.{pattern-more}
-use native.Mathlib.Omega.{arith}
-use borrow.Author.Rules.{rules}
-use Prim.Native.Nat.{ℕ, ◌-◌, ◌≤◌}
+use Prim.Native.Nat.{ℕ, ◌≤◌}
 use Rattle.grid_job.specs.Placing.{UpTo}
 use Rattle.grid_job.proofs.largest.Given as goal
 
 abbrev pub invariant-loop-i : goal.invariant-loop-i
-invariant-loop-i l = (l.least ≤ l.best) × UpTo l.list l.from l.i l.best × (l.from ≤ l.i) × ((m : ℕ) → l.least ≤ m → UpTo l.list l.from l.to m → l.best ≤ m)
-
-abbrev pub decreases-loop-i : goal.decreases-loop-i
-decreases-loop-i l = l.to - l.i
+invariant-loop-i l = (l.least ≤ l.best) × UpTo l.list l.from l.i l.best × ((m : ℕ) → l.least ≤ m → UpTo l.list l.from l.to m → l.best ≤ m)

@@ -4,7 +4,7 @@ use Rattle.outline.proofs.Laws.{outline-refused, outline-passed}
 use Rattle.outline.proofs.support.Goals as goal
 
 pub returns-in_default : goal.returns-in_default
-returns-in_default c = outline-refused binary32 _ _ _ c.check_outline-outline.ensures _ c.in_default.is _ c.refusal.ensures
+returns-in_default c = outline-refused binary32 _ _ _ c.check_outline-outline.ensures _ c.in_default.is _ c.refusal-number.ensures
 
 pub returns : goal.returns
-returns c = outline-passed binary32 _ _ _ c.check_outline-outline.ensures c.in-Passed.is _ c.support_pair.ensures
+returns c = outline-passed binary32 _ _ _ c.check_outline-outline.ensures c.in-Ok.is _ c.support_pair.ensures

@@ -1,12 +1,11 @@
--- `report_lines::put_label` meets its contract: the row's name stands in the text at its place. Assumes nothing.
-use native.Mathlib.Omega.{arith}
-use Rattle.report_lines.proofs.Labels.{label-put, length_label}
+-- `report_lines::put_label` meets its contract: there is room for the name. Assumes nothing.
+use Rattle.std.proofs.Common.{length, get_or, [], arith}
+use Rattle.text.proofs.Written.{there, wrote-most}
+use Rattle.report_lines.specs.Text.{labels}
+use Rattle.report_lines.proofs.Labels.{length_label}
 use Rattle.report_lines.proofs.put_label.Goals as goal
 
-pub put_piece-requires : goal.put_piece-requires
-put_piece-requires c = let size = c.label_size-size.ensures in
-    (omega (arith, c.requires, size, length_label c.args.row), omega (arith, c.requires, size, length_label c.args.row))
-
 pub returns : goal.returns
-returns c = let size = c.label_size-size.ensures in
-    label-put c.args.row _ c.requires.1 size c.put_piece.ensures
+returns c = let row = c.args.row in
+    wrote-most (length_label row)
+    (there (length (get_or labels row [])) (rw c.label.ensures at c.put.ensures) (omega (arith, c.requires.0, length_label row)))

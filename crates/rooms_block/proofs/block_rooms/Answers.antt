@@ -6,7 +6,7 @@ use Rattle.rooms_block.proofs.block_rooms.Goals as goal
 
 pub returns-then-part-ne512 : goal.returns-then-part-ne512
 unfolding AnswerOf
-returns-then-part-ne512 c = rw (ne_eqb _ _ c.if-part-ne512.true) c.refused.ensures
+returns-then-part-ne512 c = rw (ne_eqb _ _ c.if-part-ne512.true)
 
 pub returns : goal.returns
 unfolding AnswerOf

@@ -10,6 +10,3 @@ use Rattle.route_clearance_legs.proofs.start_of.Given as goal
 
 abbrev pub invariant-loop-i : goal.invariant-loop-i
 invariant-loop-i l = (l.i ≤ l.j) × (l.start ≡ start_of l.lengths l.i) × (l.start ≤ 0x1_0000_0000 * l.i)
-
-abbrev pub decreases-loop-i : goal.decreases-loop-i
-decreases-loop-i l = l.j - l.i

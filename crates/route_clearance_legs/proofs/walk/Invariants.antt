@@ -10,6 +10,3 @@ use Rattle.route_clearance_legs.proofs.walk.Given as goal
 abbrev pub invariant-loop-k : goal.invariant-loop-k
 invariant-loop-k l =
     (l.k ≤ l.pairs) × (l.pieces ≤ 4096 * l.k) × Passed l.cart l.waypoints l.stills l.lengths l.slop l.k l.pieces
-
-abbrev pub decreases-loop-k : goal.decreases-loop-k
-decreases-loop-k l = l.pairs - l.k

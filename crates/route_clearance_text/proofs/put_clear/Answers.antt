@@ -1,14 +1,8 @@
 -- `route_clearance_text::put_clear` meets its contract: a text and a number. Assumes nothing.
 use native.Mathlib.Omega.{arith}
-use Rattle.text.proofs.Pasted.{put_then}
-use Rattle.text.proofs.Lengths.{roomy}
+use Rattle.text.proofs.Written.{there, wrote-then, wrote-most}
 use Rattle.route_clearance_text.proofs.Lines.{clear-is}
-use borrow.Author.Rules.{rules}
 use Rattle.route_clearance_text.proofs.put_clear.Goals as goal
 
 pub returns : goal.returns
-returns c = let a = c.before.before.before.before.before.before.before.before.before.before in
-    let p = c.put_text-e in
-    let first = roomy 8 p.ensures (omega (arith, a.requires)) in
-    let second = roomy 21 c.put_number.ensures (omega (arith, first.place, p.auto.out, a.requires)) in
-    rw clear-is (put_then (omega arith) first second)
+returns c = rw clear-is (wrote-most (omega arith) (wrote-then (omega arith) (there 8 c.put.ensures (omega arith)) (there 21 c.put_number.ensures (omega arith))))

@@ -1,9 +1,6 @@
 -- `route_clearance_text::put_place` meets its contract: the digits of the place's pattern. Assumes nothing.
-use native.Mathlib.Omega.{arith}
-use Rattle.text.proofs.Lengths.{roomy}
-use borrow.Author.Rules.{rules}
+use Rattle.text.proofs.Written.{there}
 use Rattle.route_clearance_text.proofs.put_place.Goals as goal
 
 pub returns : goal.returns
-returns c = let at-start = c.before.before.before in
-    rw (← at-start.place_bits.ensures) (roomy 9 c.put_hex.ensures (omega (arith, at-start.requires)))
+returns c = rw c.place_bits.ensures at (there 9 c.put_hex.ensures c.requires)

@@ -1,11 +1,7 @@
--- `route_legs::start_of` meets its contract: the lengths so far add up, and those left fall. Assumes nothing.
-use mathlib.Core.Path.{◌≡◌}
-use Prim.Native.Nat.{◌≤◌, ◌-◌, ◌*◌}
+-- `route_legs::start_of` meets its contract: the lengths so far add up. Assumes nothing.
+use Rattle.std.proofs.Common.{◌≡◌, ◌*◌, ◌≤◌}
 use Rattle.route_legs.specs.Route.{start_of}
 use Rattle.route_legs.proofs.start_of.Given as goal
 
-abbrev pub invariant-loop-i : goal.invariant-loop-i
-invariant-loop-i l = (l.i ≤ l.j) × (l.start ≡ start_of l.lengths l.i) × (l.start ≤ 0x1_0000_0000 * l.i)
-
-abbrev pub decreases-loop-i : goal.decreases-loop-i
-decreases-loop-i l = l.j - l.i
+abbrev pub invariant-loop-n : goal.invariant-loop-n
+invariant-loop-n l = (l.start ≡ start_of l.lengths l.n-index) × (l.start ≤ 0x1_0000_0000 * l.n-index)

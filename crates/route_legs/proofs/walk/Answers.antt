@@ -1,4 +1,4 @@
--- `route_legs::walk` meets its contract: what is left to sweep comes to what the whole does, and the sweeps left fall. Assumes nothing.
+-- `route_legs::walk` meets its contract: what is left to sweep comes to what the whole does. Assumes nothing.
 use Rattle.route_legs.proofs.Walks.{at_first, leg-few, outline-few, few-calls-of, swept-in-order, stopped-in-order, ends-here, goes_on, all-passed}
 use mathlib.Core.Path.{ap, ◌∙◌}
 use mathlib.Core.Bool.{not}
@@ -9,7 +9,7 @@ use Rattle.route_legs.proofs.walk.Goals as goal
 
 pub loop-k-init : goal.loop-k-init
 loop-k-init c = let a = c.args in
-    (search rules, search rules, at_first binary32 a.cart.now a.waypoints.now a.stills.now a.lengths.now a.slop a.sweeps)
+    (omega arith, at_first binary32 a.lists.cart.now a.lists.waypoints.now a.lists.stills.now a.lists.lengths.now a.lists.slop a.sweeps)
 
 pub sweep_at-answer-requires : goal.sweep_at-answer-requires
 sweep_at-answer-requires c = let k = c.loop-k.k in
@@ -17,7 +17,7 @@ sweep_at-answer-requires c = let k = c.loop-k.k in
     let p = c.requires.outlines_value in
     let inside = outline-few k a.outlines c.outline_of-outline.ensures p.1 in record {
       i_bound = (
-        leg-few k a.outlines 1024 c.leg_of-leg.ensures (omega (arith, c.loop-k-test.true, p.3)),
+        leg-few k a.outlines 1024 c.leg_of-leg.ensures (omega (arith, p.3)),
         omega (arith, inside, p.0),
         omega (arith, p.0, p.2),
       );
@@ -27,13 +27,12 @@ sweep_at-answer-requires c = let k = c.loop-k.k in
 pub overflow_add-calls : goal.overflow_add-calls
 overflow_add-calls c = let l = c.loop-k in
     let a = c.args in
-    let few = few-calls-of binary32 a.cart.now a.waypoints.now a.stills.now a.lengths.now a.slop _ _ c.calls_of-calls.result _
+    let few = few-calls-of binary32 a.lists.cart.now a.lists.waypoints.now a.lists.stills.now a.lists.lengths.now a.lists.slop _ _ c.calls_of-calls.result _
     c.sweep_at-answer.ensures c.calls_of-calls.ensures in
     omega (
       arith,
       few,
-      l.invariant.1,
-      c.loop-k-test.true,
+      l.invariant.0,
       c.requires.outlines_value.3,
     )
 
@@ -42,7 +41,7 @@ stop_at-requires c = let k = c.loop-k.k in
     let a = c.args in
     let p = c.requires.outlines_value in
     let leg = leg-few k a.outlines 1024 c.leg_of-leg.ensures
-    (omega (arith, c.loop-k-test.true, p.3)) in
+    (omega (arith, p.3)) in
     (leg, omega (arith, outline-few k a.outlines c.outline_of-outline.ensures p.1, p.2))
 
 pub returns-then-not-is_separated : goal.returns-then-not-is_separated
@@ -51,37 +50,36 @@ returns-then-not-is_separated c = let l = c.loop-k in
     let all = c.requires.outlines_value.0 in
     let leg = c.leg_of-leg.ensures in
     let past = c.outline_of-outline.ensures in
-    let swept = swept-in-order binary32 a.cart.now a.waypoints.now a.stills.now a.lengths.now a.slop l.k a.outlines all leg past
+    let swept = swept-in-order binary32 a.lists.cart.now a.lists.waypoints.now a.lists.stills.now a.lists.lengths.now a.lists.slop l.k a.outlines all leg past
     c.sweep_at-answer.ensures in
-    let stopped = stopped-in-order binary32 a.cart.now a.waypoints.now a.stills.now a.lengths.now a.slop l.k
+    let stopped = stopped-in-order binary32 a.lists.cart.now a.lists.waypoints.now a.lists.stills.now a.lists.lengths.now a.lists.slop l.k
     a.outlines all leg past _ c.stop_at.ensures in
-    ends-here binary32 a.cart.now a.waypoints.now a.stills.now a.lengths.now a.slop a.sweeps l.k l.calls _ _
-    c.loop-k-test.true swept c.calls_of-calls.ensures _
+    ends-here binary32 a.lists.cart.now a.lists.waypoints.now a.lists.stills.now a.lists.lengths.now a.lists.slop a.sweeps l.k l.calls _ _
+    (omega arith) swept c.calls_of-calls.ensures _
     c.is_separated.ensures (ap not c.if-not-is_separated.true) _ stopped _ c.ended_by.ensures
-    ∙ l.invariant.2
+    ∙ l.invariant.1
 
 pub loop-k-preserved : goal.loop-k-preserved
 loop-k-preserved c = let l = c.loop-k in
     let a = c.args in
     let calls = c.calls_of-calls in
     let answer = c.sweep_at-answer.ensures in
-    let swept = swept-in-order binary32 a.cart.now a.waypoints.now a.stills.now a.lengths.now a.slop l.k a.outlines
+    let swept = swept-in-order binary32 a.lists.cart.now a.lists.waypoints.now a.lists.stills.now a.lists.lengths.now a.lists.slop l.k a.outlines
     c.requires.outlines_value.0
     c.leg_of-leg.ensures c.outline_of-outline.ensures answer in (
-      search rules,
       omega (
         arith,
-        few-calls-of binary32 a.cart.now a.waypoints.now a.stills.now a.lengths.now a.slop _ _ calls.result _ answer
+        few-calls-of binary32 a.lists.cart.now a.lists.waypoints.now a.lists.stills.now a.lists.lengths.now a.lists.slop _ _ calls.result _ answer
             calls.ensures,
-        l.invariant.1,
+        l.invariant.0,
       ),
-      goes_on binary32 a.cart.now a.waypoints.now a.stills.now a.lengths.now a.slop a.sweeps l.k l.calls _ _
-          c.loop-k-test.true swept calls.ensures _ c.is_separated.ensures (ap not c.if-not-is_separated.false)
-          ∙ l.invariant.2,
+      goes_on binary32 a.lists.cart.now a.lists.waypoints.now a.lists.stills.now a.lists.lengths.now a.lists.slop a.sweeps l.k l.calls _ _
+          (omega arith) swept calls.ensures _ c.is_separated.ensures (ap not c.if-not-is_separated.false)
+          ∙ l.invariant.1,
     )
 
 pub returns : goal.returns
 returns c = let l = c.loop-k in
     let a = c.args in
-    all-passed binary32 a.cart.now a.waypoints.now a.stills.now a.lengths.now a.slop a.sweeps l.k l.calls c.loop-k-test.false
-    ∙ l.invariant.2
+    all-passed binary32 a.lists.cart.now a.lists.waypoints.now a.lists.stills.now a.lists.lengths.now a.lists.slop a.sweeps l.k l.calls (omega arith)
+    ∙ l.invariant.1

@@ -1,4 +1,4 @@
--- `route_legs::walk` meets its contract: what is left to sweep comes to what the whole does, and the sweeps left fall. Assumes nothing.
+-- `route_legs::walk` meets its contract: what is left to sweep comes to what the whole does. Assumes nothing.
 use mathlib.Core.Path.{◌≡◌}
 use Prim.Native.Nat.{◌≤◌, ◌-◌, ◌*◌}
 use lib.Ieee.{binary32}
@@ -7,8 +7,5 @@ use Rattle.route_legs.proofs.walk.Given as goal
 
 abbrev pub invariant-loop-k : goal.invariant-loop-k
 invariant-loop-k l =
-    (l.k ≤ l.sweeps) × (l.calls ≤ 20 * l.k)
-    × (walk_from binary32 l.cart l.waypoints l.stills l.lengths l.slop (l.sweeps - l.k) l.k l.calls ≡ walk_from binary32 l.cart l.waypoints l.stills l.lengths l.slop l.sweeps 0 0)
-
-abbrev pub decreases-loop-k : goal.decreases-loop-k
-decreases-loop-k l = l.sweeps - l.k
+    (l.calls ≤ 20 * l.k)
+    × (walk_from binary32 l.lists.cart.now l.lists.waypoints.now l.lists.stills.now l.lists.lengths.now l.lists.slop (l.sweeps - l.k) l.k l.calls ≡ walk_from binary32 l.lists.cart.now l.lists.waypoints.now l.lists.stills.now l.lists.lengths.now l.lists.slop l.sweeps 0 0)

@@ -1,4 +1,4 @@
--- `route_read::read_part` meets its contract: what is left to read comes to what the whole does, and the bytes left fall. Assumes nothing.
+-- `route_read::read_part` meets its contract: what is left to read comes to what the whole does. Assumes nothing.
 use borrow.Author.Rules.{rules}
 use mathlib.Core.Path.{◌≡◌, refl, ◌∙◌}
 use Prim.Native.Nat.{◌≤◌, ◌-◌}
@@ -7,10 +7,7 @@ use Rattle.route_read.specs.Read.{run, run_over}
 use Rattle.route_read.proofs.Runs.{read-on, read_whole}
 use Rattle.route_read.proofs.read_part.Given as goal
 
-abbrev pub invariant-loop-i : goal.invariant-loop-i
-invariant-loop-i l =
-    (l.i ≤ length l.part) × (length l.floats ≡ length l.initial.floats) × (length l.lengths ≡ length l.initial.lengths)
-    × (run_over (run l.after l.floats l.lengths) (drop l.i l.part) ≡ run_over (run l.initial.after l.initial.floats l.initial.lengths) l.part)
-
-abbrev pub decreases-loop-i : goal.decreases-loop-i
-decreases-loop-i l = length l.part - l.i
+abbrev pub invariant-loop-x : goal.invariant-loop-x
+invariant-loop-x l =
+    (length l.floats ≡ length l.initial.floats) × (length l.lengths ≡ length l.initial.lengths)
+    × (run_over (run l.after l.floats l.lengths) (drop l.x-index l.part) ≡ run_over (run l.initial.after l.initial.floats l.initial.lengths) l.part)

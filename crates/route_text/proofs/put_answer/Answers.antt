@@ -1,8 +1,7 @@
 -- `route_text::put_answer` meets its contract, case by case. Assumes nothing.
 use native.Mathlib.Omega.{arith}
-use Rattle.text.proofs.Lengths.{roomy}
+use Rattle.text.proofs.Written.{there, wrote-most}
 use Rattle.route_text.proofs.Lines.{wrong-is}
-use borrow.Author.Rules.{rules}
 use Rattle.route_text.proofs.put_answer.Goals as goal
 
 pub returns-in-Clear : goal.returns-in-Clear
@@ -15,4 +14,4 @@ pub returns-in-Refused : goal.returns-in-Refused
 returns-in-Refused c = rw c.in-Refused.is c.put_refused.ensures
 
 pub returns-in-Wrong : goal.returns-in-Wrong
-returns-in-Wrong c = rw (c.in-Wrong.is, wrong-is) (roomy 21 c.put_number.ensures (omega (arith, c.requires)))
+returns-in-Wrong c = rw (c.in-Wrong.is, wrong-is) (wrote-most (omega arith) (there 21 c.put_number.ensures (omega arith)))

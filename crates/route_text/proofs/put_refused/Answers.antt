@@ -1,15 +1,8 @@
 -- `route_text::put_refused` meets its contract: four numbers, two by two. Assumes nothing.
 use native.Mathlib.Omega.{arith}
-use Rattle.text.proofs.Pasted.{put_then}
-use Rattle.text.proofs.Lengths.{ends}
-use Rattle.route_text.proofs.Lines.{length_two, refused-is}
-use borrow.Author.Rules.{rules}
+use Rattle.text.proofs.Written.{wrote-then, wrote-most}
+use Rattle.route_text.proofs.Lines.{refused-is}
 use Rattle.route_text.proofs.put_refused.Goals as goal
 
-pub put_pair-requires : goal.put_pair-requires
-put_pair-requires c = let first = c.before.before.before.before.before in
-    omega (arith, ends first.put_pair-e.ensures (length_two _ _ _), first.put_pair-e.auto.out, first.requires)
-
 pub returns : goal.returns
-returns c = rw refused-is (put_then (omega arith) c.put_pair-e.ensures
-    c.put_pair.ensures)
+returns c = rw refused-is (wrote-most (omega arith) (wrote-then (omega arith) c.put_pair.ensures c.put_pair-2.ensures))

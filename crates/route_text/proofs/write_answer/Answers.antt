@@ -3,6 +3,7 @@ use mathlib.Core.Bool.{not}
 use mathlib.Core.Path.{ap}
 use borrow.Author.Tests.{lt-ltb}
 use Rattle.text.proofs.Pasted.{put-nothing}
+use Rattle.text.proofs.Written.{left}
 use Rattle.route_text.proofs.Lines.{told-no-route, told-route}
 use borrow.Author.Rules.{rules}
 use Rattle.route_text.proofs.write_answer.Goals as goal
@@ -13,9 +14,9 @@ returns-then-out-lt-LONGEST_LINE c = rw (lt-ltb _ _ c.if-out-lt-LONGEST_LINE.tru
 pub returns-then-not-is_route : goal.returns-then-not-is_route
 returns-then-not-is_route c = let a = c.args in
     told-no-route a.reader a.floats.now a.lengths.now c.if-out-lt-LONGEST_LINE.false _ _ c.is_route.ensures (ap not c.if-not-is_route.true)
-    c.next_line.ensures c.put_pair.ensures
+    c.next_line.ensures (left c.put_pair.ensures (search rules))
 
 pub returns : goal.returns
 returns c = let a = c.args in
     told-route a.reader a.floats.now a.lengths.now c.if-out-lt-LONGEST_LINE.false _ _ c.is_route.ensures (ap not c.if-not-is_route.false)
-    c.route_of.ensures c.put_answer.ensures
+    c.route_of.ensures (left c.put_answer.ensures (search rules))

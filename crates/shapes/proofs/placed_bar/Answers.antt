@@ -1,10 +1,24 @@
--- `placed_bar` meets its contract, by what its callees ensure. Assumes nothing.
+-- `placed_bar` meets its contract: its check refuses, or that of the pose, or it is built. Assumes nothing.
+use mathlib.Core.Path.{refl, ◌∙◌}
+use lib.Ieee.{binary32}
+use Rattle.model.specs.Domain.{pose_refusal, or_else}
+use Rattle.shapes.proofs.Endings.{check-refused, check-passed, pose-refused, pose-passed}
 use Rattle.shapes.proofs.placed_bar.Goals as goal
 
+pub returns-in_err-check_bar : goal.returns-in_err-check_bar
+returns-in_err-check_bar c =
+    check-refused _ _ (λ k. or_else k (pose_refusal binary32 c.args.pose)) (λ j. refl)
+    _ _ c.check_bar.ensures _ c.in_err-check_bar.was _ c.from_residual.ensures.1
+
+pub returns-in_default : goal.returns-in_default
+returns-in_default c =
+    let first = check-passed _ _ (λ k. or_else k (pose_refusal binary32 c.args.pose)) (λ j. refl) _ _ c.check_bar.ensures c.in_ok-check_bar.was in
+    let no = pose-refused _ _ _ _ _ c.check_pose-posed.ensures _ c.in_default.is _ c.pose_refusal-number.ensures in
+    (no.0 ∙ first.0, no.1 ∙ first.1)
+
 pub returns : goal.returns
-returns c = rw (
-  c.placed_refusal-refused.ensures,
-  c.bar_refusal.ensures,
-  c.transform_point-q0.ensures,
-  c.transform_point-q1.ensures,
-) at c.build_two.ensures
+returns c =
+    let first = check-passed _ _ (λ k. or_else k (pose_refusal binary32 c.args.pose)) (λ j. refl) _ _ c.check_bar.ensures c.in_ok-check_bar.was in
+    let (told, left, same) = pose-passed _ _ _ _ _ c.check_pose-posed.ensures _ c.in-Ok.is in
+    let built = rw (c.place.ensures, same) at c.build.ensures in
+    (built.0 ∙ told ∙ first.0, built.1 ∙ left ∙ first.1)

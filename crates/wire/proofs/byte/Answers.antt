@@ -1,7 +1,6 @@
 -- `wire::byte` meets its contract: past the end the list has 0. Assumes nothing.
 use mathlib.Core.Path.{sym}
 use lib.ListN.{get_or-eq_default}
-use borrow.Author.Rules.{rules}
 use Rattle.wire.proofs.byte.Goals as goal
 
 pub returns-else-k-bytes : goal.returns-else-k-bytes

@@ -9,13 +9,13 @@ unfolding block_answer
 returns-in_default c = simp (c.refusal.ensures, sym c.check_block-checked.ensures, c.in_default.is)
 
 pub work_block-swept-requires : goal.work_block-swept-requires
-work_block-swept-requires c = good-counts _ _ (sym c.check_block-checked.ensures ∙ c.in-Good.is)
+work_block-swept-requires c = good-counts _ _ (sym c.check_block-checked.ensures ∙ c.in-Ok.is)
 
 pub returns : goal.returns
 unfolding block_answer
 returns c = simp (
   c.of_job.ensures,
   c.told.ensures,
-  sym c.check_block-checked.ensures ∙ c.in-Good.is,
+  sym c.check_block-checked.ensures ∙ c.in-Ok.is,
   c.work_block-swept.ensures,
 )

@@ -1,5 +1,4 @@
 -- `clearance_lines::part::fits` meets its contract, by what its callee ensures. Assumes nothing.
-use borrow.Author.Rules.{rules}
 use Rattle.clearance_lines.proofs.part.fits.Goals as goal
 
 pub returns : goal.returns

@@ -1,19 +1,10 @@
 -- `clearance_lines::part::write_rest` meets its contract, by whether bytes are left over. Assumes nothing.
-use Prim.Native.Nat.{◌+◌}
-use native.Mathlib.Omega.{arith}
-use Rattle.text.proofs.Lengths.{ends}
-use Rattle.clearance_lines.proofs.Pieces.{length-line}
 use Rattle.clearance_lines.proofs.Parts.{no-rest, rest-worked}
-use borrow.Author.Rules.{rules}
 use Rattle.clearance_lines.proofs.part.write_rest.Goals as goal
 
 pub returns-then-part-eq0 : goal.returns-then-part-eq0
-returns-then-part-eq0 c = (no-rest _ _ _ c.args.part.now c.if-part-eq0.true, omega arith)
+returns-then-part-eq0 c = no-rest _ _ _ c.args.part.now c.if-part-eq0.true
 
 pub returns : goal.returns
-returns c = let w = c.write_answer in
-    let x = c.clear_block-answer in
-    let a = c.args in (
-      rest-worked a.part.now x.result c.if-part-eq0.false x.ensures w.ensures.0 w.ensures.1,
-      ends w.ensures.0 (length-line (a.t.blocks + 1) x.result),
-    )
+returns c = let w = c.write_answer.ensures in
+    rest-worked c.args.part.now c.clear_block-answer.result c.if-part-eq0.false c.clear_block-answer.ensures w.line w.totals_value

@@ -1,15 +1,8 @@
 -- `clearance_lines::write::put_answer` meets its contract: the block and its job, then the answer. Assumes nothing.
 use native.Mathlib.Omega.{arith}
-use Rattle.text.proofs.Pasted.{put_then}
-use Rattle.text.proofs.Lengths.{ends}
-use Rattle.clearance_lines.proofs.Pieces.{length_two, line-is}
-use borrow.Author.Rules.{rules}
+use Rattle.text.proofs.Written.{wrote-then, wrote-most}
+use Rattle.clearance_lines.proofs.Pieces.{line-is}
 use Rattle.clearance_lines.proofs.write.put_answer.Goals as goal
 
-pub put_told-requires : goal.put_told-requires
-put_told-requires c = let p = c.before.before.before in omega (arith, ends p.put_two-e1.ensures (length_two _ _), p.put_two-e1.auto.out)
-
 pub returns : goal.returns
-returns c = let q = c.before.before in
-    let p = q.before.before.before.before in
-    rw line-is (put_then (search rules) p.put_two-e1.ensures q.put_told.ensures)
+returns c = rw line-is (wrote-most (omega arith) (wrote-then (omega arith) c.put_two.ensures c.put_told.ensures))

@@ -1,9 +1,10 @@
 -- `clearance_lines::write::put_told` meets its contract, case by case. Assumes nothing.
-use borrow.Author.Rules.{rules}
+use native.Mathlib.Omega.{arith}
+use Rattle.text.proofs.Written.{there, wrote-most}
 use Rattle.clearance_lines.proofs.write.put_told.Goals as goal
 
 pub returns-in-Refused : goal.returns-in-Refused
-returns-in-Refused c = rw c.in-Refused.is c.put_number.ensures
+returns-in-Refused c = rw c.in-Refused.is (wrote-most (omega arith) (there 21 c.put_number.ensures (omega arith)))
 
 pub returns-in-Clear : goal.returns-in-Clear
 returns-in-Clear c = rw c.in-Clear.is c.put_clear.ensures

@@ -7,26 +7,14 @@ use Rattle.distance.proofs.cache.all_below.Goals as goal
 
 pub loop-i-init : goal.loop-i-init
 unfolding all_below
-loop-i-init c = (omega arith, refl)
-
-pub offset_bounds-indices-i : goal.offset_bounds-indices-i
-offset_bounds-indices-i c = omega arith
-
-pub bounds-indices-i : goal.bounds-indices-i
-bounds-indices-i c = omega arith
-
-pub overflow_add-i : goal.overflow_add-i
-overflow_add-i c = omega arith
-
-pub loop-i-smaller : goal.loop-i-smaller
-loop-i-smaller c = omega arith
+loop-i-init c = refl
 
 pub loop-i-preserved : goal.loop-i-preserved
 loop-i-preserved c = let l = c.loop-i in
     let a = c.args in
-    (omega arith, rw (below_step a.limit a.indices l.i, l.invariant.1, c.below-all.ensures))
+    rw (below_step a.limit a.indices l.i, l.invariant, c.below-all.ensures)
 
 pub returns : goal.returns
 returns c = let l = c.loop-i in
     let e : l.i ≡ c.args.count = omega arith in
-    rw (← e) l.invariant.1
+    rw (← e) l.invariant

@@ -10,19 +10,19 @@ returns-in_default c =
 pub returns-in_default-pose : goal.returns-in_default-pose
 returns-in_default-pose c =
     pose-refused binary32 _ _ _ _ _ _ _ _
-    _ c.check_pair-outlines.ensures c.in-Passed.is
+    _ c.check_pair-outlines.ensures c.in-Ok.is
     _ c.check_pose-pose.ensures _ c.in_default-pose.is _ c.pose_refusal-number.ensures
 
 pub returns-in_default-owned : goal.returns-in_default-owned
 returns-in_default-owned c =
     cache-refused binary32 _ _ _ _ _ _ _ _
-    _ c.check_pair-outlines.ensures c.in-Passed.is
-    _ c.check_pose-pose.ensures _ c.in-Good.is
+    _ c.check_pair-outlines.ensures c.in-Ok.is
+    _ c.check_pose-pose.ensures _ c.in-Ok-pose.is
     _ c.check_cache-owned.ensures _ c.in_default-owned.is _ c.refusal-number-in_default-owned.ensures
 
 pub returns : goal.returns
 returns c =
     all-passed binary32 _ _ _ _ _ _ _ _
-    _ c.check_pair-outlines.ensures c.in-Passed.is
-    _ c.check_pose-pose.ensures _ c.in-Good.is
-    _ c.check_cache-owned.ensures c.in-Passed-owned.is _ c.measure-measured.ensures
+    _ c.check_pair-outlines.ensures c.in-Ok.is
+    _ c.check_pose-pose.ensures _ c.in-Ok-pose.is
+    _ c.check_cache-owned.ensures c.in-Ok-owned.is _ c.measure-measured.ensures

@@ -6,9 +6,6 @@ use Rattle.model.specs.Distance.{rounds_from}
 use Rattle.distance.proofs.proxy_distance.rounds.Given as goal
 
 abbrev pub invariant-loop-iterations : goal.invariant-loop-iterations
-invariant-loop-iterations l = (l.count ≤ 3) × (l.iterations ≤ 20)
+invariant-loop-iterations l = (l.count ≤ 3)
     × (rounds_from binary32 l.points_a l.points_b l.pos12 (20 - l.iterations) l.simplex l.count l.direction l.iterations
     ≡ rounds_from binary32 l.points_a l.points_b l.pos12 20 l.initial.simplex l.initial.count l.initial.direction 0)
-
-abbrev pub decreases-loop-iterations : goal.decreases-loop-iterations
-decreases-loop-iterations l = 20 - l.iterations

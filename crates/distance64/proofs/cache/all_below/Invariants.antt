@@ -1,12 +1,8 @@
 -- Written by tests/written/wide.py from distance, in f64.
 -- `cache::all_below` meets its contract. The invariant: the flag tells of the first i indices. Assumes nothing.
-use Prim.Native.Nat.{◌≤◌, ◌-◌}
 use mathlib.Core.Path.{◌≡◌}
 use Rattle.model.specs.Distance.{all_below}
 use Rattle.distance64.proofs.cache.all_below.Given as goal
 
 abbrev pub invariant-loop-i : goal.invariant-loop-i
-invariant-loop-i l = (l.i ≤ l.count) × (l.all ≡ all_below l.limit l.indices l.i)
-
-abbrev pub decreases-loop-i : goal.decreases-loop-i
-decreases-loop-i l = l.count - l.i
+invariant-loop-i l = l.all ≡ all_below l.limit l.indices l.i

@@ -9,22 +9,19 @@ use Rattle.distance64.proofs.proxy_distance.rounds.Goals as goal
 
 pub loop-iterations-init : goal.loop-iterations-init
 loop-iterations-init c = let cache = c.args.cache in
-    (rw c.start-begin.ensures.count_value (start-count-most cache _ _), omega arith, refl)
+    (rw c.start-begin.ensures.count_value (start-count-most cache _ _), refl)
 
 pub returns-then-kept-dot : goal.returns-then-kept-dot
 returns-then-kept-dot c = let l = c.loop-iterations in
     touching binary64 _ _ _ _ _ _ _ _ c.loop-iterations-test.true
     c.solve-solved.ensures (rw c.dot.ensures at c.if-kept-dot.true) _
-    c.zero-direction-then-kept-dot.ensures ∙ l.invariant.2 ∙ begun binary64 _ _ _ c.args.cache _ _ _ c.start-begin.ensures.simplex_value c.start-begin.ensures.count_value c.zero-direction.ensures
+    c.zero-direction-then-kept-dot.ensures ∙ l.invariant.1 ∙ begun binary64 _ _ _ c.args.cache _ _ _ c.start-begin.ensures.simplex_value c.start-begin.ensures.count_value c.zero-direction.ensures
 
 pub held-again-requires : goal.held-again-requires
 held-again-requires c = c.loop-iterations.invariant.0
 
 pub grown-simplex-requires : goal.grown-simplex-requires
 grown-simplex-requires c = one-or-two binary64 _ _ _ _ c.solve-solved.ensures c.if-kept-dot.false
-
-pub overflow_add-result : goal.overflow_add-result
-overflow_add-result c = omega (arith, c.loop-iterations.invariant.1)
 
 pub returns-then-again : goal.returns-then-again
 returns-then-again c =
@@ -39,20 +36,14 @@ returns-then-again c =
       second = rw (c.inv_rotate_vec.ensures, c.neg.ensures) at c.support_index-index_b.ensures;
       known = c.held-again.ensures;
     } in
-    settled binary64 _ _ _ _ _ _ _ m _ c.grown-simplex.ensures c.if-again.true ∙ c.loop-iterations.invariant.2
+    settled binary64 _ _ _ _ _ _ _ m _ c.grown-simplex.ensures c.if-again.true ∙ c.loop-iterations.invariant.1
     ∙ begun binary64 _ _ _ c.args.cache _ _ _ c.start-begin.ensures.simplex_value c.start-begin.ensures.count_value c.zero-direction.ensures
 
 pub grown-simplex-requires-in-loop-iterations : goal.grown-simplex-requires-in-loop-iterations
 grown-simplex-requires-in-loop-iterations c = one-or-two binary64 _ _ _ _ c.solve-solved.ensures c.if-kept-dot.false
 
-pub overflow_add-iterations : goal.overflow_add-iterations
-overflow_add-iterations c = omega (arith, c.loop-iterations.invariant.1)
-
 pub overflow_add-count : goal.overflow_add-count
 overflow_add-count c = let h = one-or-two binary64 _ _ _ _ c.solve-solved.ensures c.if-kept-dot.false in omega (arith, h)
-
-pub loop-iterations-smaller : goal.loop-iterations-smaller
-loop-iterations-smaller c = omega (arith, c.loop-iterations-test.true)
 
 pub loop-iterations-preserved : goal.loop-iterations-preserved
 loop-iterations-preserved c =
@@ -69,10 +60,9 @@ loop-iterations-preserved c =
     } in
     let h = one-or-two binary64 _ _ _ _ c.solve-solved.ensures c.if-kept-dot.false in (
       omega (arith, h),
-      omega (arith, c.loop-iterations-test.true),
-      another binary64 _ _ _ _ _ _ _ m _ c.grown-simplex-in-loop-iterations.ensures c.if-again.false ∙ c.loop-iterations.invariant.2,
+      another binary64 _ _ _ _ _ _ _ m _ c.grown-simplex-in-loop-iterations.ensures c.if-again.false ∙ c.loop-iterations.invariant.1,
     )
 
 pub returns : goal.returns
 returns c = let l = c.loop-iterations in
-    limit binary64 _ _ _ _ _ _ _ l.invariant.1 c.loop-iterations-test.false ∙ l.invariant.2 ∙ begun binary64 _ _ _ c.args.cache _ _ _ c.start-begin.ensures.simplex_value c.start-begin.ensures.count_value c.zero-direction.ensures
+    limit binary64 _ _ _ _ _ _ _ (omega arith) c.loop-iterations-test.false ∙ l.invariant.1 ∙ begun binary64 _ _ _ c.args.cache _ _ _ c.start-begin.ensures.simplex_value c.start-begin.ensures.count_value c.zero-direction.ensures

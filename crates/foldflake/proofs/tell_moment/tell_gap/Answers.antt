@@ -2,5 +2,5 @@
 use borrow.Author.Rules.{rules}
 use Rattle.foldflake.proofs.tell_moment.tell_gap.Goals as goal
 
-pub returns-in-Apart : goal.returns-in-Apart
-returns-in-Apart c = simp c.in-Apart.is c.put_gap.ensures
+pub returns-in-Ok : goal.returns-in-Ok
+returns-in-Ok c = simp c.in-Ok.is c.put_gap.ensures

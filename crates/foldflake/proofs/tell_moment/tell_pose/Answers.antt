@@ -2,5 +2,5 @@
 use borrow.Author.Rules.{rules}
 use Rattle.foldflake.proofs.tell_moment.tell_pose.Goals as goal
 
-pub returns-in-Good : goal.returns-in-Good
-returns-in-Good c = simp c.in-Good.is c.put_pose.ensures
+pub returns-in-Ok : goal.returns-in-Ok
+returns-in-Ok c = simp c.in-Ok.is c.put_pose.ensures

@@ -5,4 +5,4 @@ use Rattle.gaps_lines.proofs.fractions.put_gap.Goals as goal
 
 pub returns : goal.returns
 unfolding gap_text gap_at
-returns c = rw (c.gap-apart.ensures, c.fraction_at.ensures) at c.put_float.ensures
+returns c = rw (c.gap-apart.ensures, c.fraction_at-fraction.ensures) at c.put_float.ensures

@@ -1,31 +1,22 @@
--- `gaps_lines::fractions::put_gaps` meets its contract: the gaps so far stand from the place on, and those left fall. Assumes nothing.
-use mathlib.Core.Path.{◌≡◌, refl, ◌∙◌}
+-- `gaps_lines::fractions::put_gaps` meets its contract: the gaps so far are written. Assumes nothing.
+use mathlib.Core.Path.{◌≡◌}
 use native.Mathlib.Omega.{arith}
-use native.Mathlib.Nat.{le_antisymm}
-use Rattle.text.proofs.Pasted.{put-nothing, put_then}
+use Rattle.text.proofs.Written.{wrote-nothing, wrote-then, wrote-most}
 use Rattle.gaps_lines.specs.Pieces.{gap_texts}
-use Rattle.gaps_lines.proofs.Pieces.{length-gap, gaps-more, gaps-are}
-use borrow.Author.Rules.{rules}
+use Rattle.gaps_lines.proofs.Pieces.{gaps-more, gaps-are}
 use Rattle.gaps_lines.proofs.fractions.put_gaps.Goals as goal
 
 pub loop-k-init : goal.loop-k-init
 unfolding gap_texts
-loop-k-init c = (search rules, refl, omega arith, put-nothing _ _)
+loop-k-init c = wrote-nothing _ _
 
 pub loop-k-preserved : goal.loop-k-preserved
-loop-k-preserved c = let p = c.put_gap-to in
-    let l = c.loop-k in
-    let a = c.args in (
-      search rules,
-      p.auto.out ∙ l.invariant.1,
-      omega (arith, p.ensures.place, length-gap a.points_a.now a.sweep_a a.points_b.now a.sweep_b a.most l.k 32, l.invariant.2),
-      rw (gaps-more a.points_a.now a.sweep_a a.points_b.now a.sweep_b a.most l.k) (put_then (search rules) l.invariant.3 p.ensures),
-    )
-
-pub shape_of-out : goal.shape_of-out
-shape_of-out c = c.put_gap.auto.out ∙ c.loop-k.invariant.1
+loop-k-preserved c = let l = c.loop-k in
+    let m = c.args.moves in
+    rw (gaps-more m.points_a.now m.sweep_a m.points_b.now m.sweep_b m.most l.k)
+    (wrote-most (omega arith) (wrote-then (omega arith) l.invariant c.put_gap.ensures))
 
 pub returns : goal.returns
 returns c = let l = c.loop-k in
-    let done : l.k ≡ 256 = le_antisymm l.invariant.0 c.loop-k-test.false in
-    rw gaps-are (put_then (search rules) (rw done at l.invariant.3) c.put_gap.ensures)
+    let done : l.k ≡ 256 = omega arith in
+    rw gaps-are (wrote-most (omega arith) (wrote-then (omega arith) (rw done at l.invariant) c.put_gap-2.ensures))

@@ -1,14 +1,9 @@
--- `gaps_lines::fractions::put_gaps` meets its contract: the gaps so far stand from the place on, and those left fall. Assumes nothing.
-use Prim.Native.Nat.{◌≤◌, ◌+◌, ◌*◌, ◌-◌}
-use mathlib.Core.Path.{◌≡◌}
-use lib.ListN.{length}
-use Rattle.text.specs.Put.{Put}
-use Rattle.gaps_lines.specs.Pieces.{gap_texts}
+-- `gaps_lines::fractions::put_gaps` meets its contract: the gaps so far are written. Assumes nothing.
+use Prim.Native.Nat.{◌*◌}
+use Rattle.text.specs.Written.{Wrote}
+use Rattle.gaps_lines.specs.Pieces.{gap_room, gap_texts}
 use Rattle.gaps_lines.proofs.fractions.put_gaps.Given as goal
 
 abbrev pub invariant-loop-k : goal.invariant-loop-k
 invariant-loop-k l =
-    (l.k ≤ 256) × (length l.out ≡ length l.initial.out) × (l.to ≡ l.at + 9 * l.k) × Put l.initial.out l.at (gap_texts l.points_a l.sweep_a l.points_b l.sweep_b l.most 0 l.k) l.out l.to
-
-abbrev pub decreases-loop-k : goal.decreases-loop-k
-decreases-loop-k l = 256 - l.k
+    Wrote (gap_room * l.k) l.initial.draft (gap_texts l.moves.points_a.now l.moves.sweep_a l.moves.points_b.now l.moves.sweep_b l.moves.most 0 l.k) l.draft

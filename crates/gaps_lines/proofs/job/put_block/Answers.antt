@@ -6,11 +6,11 @@ use Rattle.gaps_lines.specs.Pieces.{block_text}
 use borrow.Author.Rules.{rules}
 use Rattle.gaps_lines.proofs.job.put_block.Goals as goal
 
-pub slice_bounds-put_gaps-end : goal.slice_bounds-put_gaps-end
-slice_bounds-put_gaps-end c = sym (length-take-le _ _ (search rules))
+pub slice_bounds-moves-end : goal.slice_bounds-moves-end
+slice_bounds-moves-end c = sym (length-take-le _ _ (search rules))
 
-pub slice_bounds-put_gaps-end-2 : goal.slice_bounds-put_gaps-end-2
-slice_bounds-put_gaps-end-2 c = sym (length-take-le _ _ (search rules))
+pub slice_bounds-moves-end-2 : goal.slice_bounds-moves-end-2
+slice_bounds-moves-end-2 c = sym (length-take-le _ _ (search rules))
 
 pub returns : goal.returns
 unfolding block_text

@@ -3,12 +3,13 @@ use mathlib.Core.Path.{refl, sym, ◌∙◌}
 use Rattle.gaps_lines.proofs.Parts.{worked-counts}
 use Rattle.gaps_lines.proofs.part.write_block.Goals as goal
 
-pub put_worked-end-requires : goal.put_worked-end-requires
-put_worked-end-requires c = let worked = worked-counts _ (sym c.answer_block-answer.ensures ∙ c.in-Worked.is) in
+pub put_worked-requires : goal.put_worked-requires
+put_worked-requires c = let worked = worked-counts _ (sym c.answer_block-answer.ensures ∙ c.in-Ok.is) in
     (c.requires.0, worked.0, worked.1)
 
-pub returns-in-Worked : goal.returns-in-Worked
-returns-in-Worked c = rw (sym c.answer_block-answer.ensures ∙ c.in-Worked.is) (c.put_worked-end.ensures, refl)
+pub returns-in-Ok : goal.returns-in-Ok
+returns-in-Ok c = rw (sym c.answer_block-answer.ensures ∙ c.in-Ok.is) (record { line = c.put_worked.ensures; tally_value = refl })
 
-pub returns-in-Refused : goal.returns-in-Refused
-returns-in-Refused c = rw (sym c.answer_block-answer.ensures ∙ c.in-Refused.is) c.write_refused.ensures
+pub returns-in-Err : goal.returns-in-Err
+returns-in-Err c = rw (sym c.answer_block-answer.ensures ∙ c.in-Err.is)
+    (record { line = c.write_refused.ensures.line; tally_value = c.write_refused.ensures.tally_value })

@@ -1,53 +1,49 @@
--- `gaps_lines::part::write_blocks` meets its contract: the lines of the blocks so far stand at the start, the tally is theirs, and the blocks left fall.
--- Assumes nothing.
-use Prim.Native.Nat.{◌≤◌, ◌+◌, ◌*◌, ◌-◌}
-use mathlib.Core.Path.{◌≡◌, refl, ◌∙◌}
-use native.Mathlib.Omega.{arith}
-use native.Mathlib.Nat.{le_antisymm}
-use lib.ListN.{length, take, drop}
-use lib.Ieee.{binary32}
+-- `gaps_lines::part::write_blocks` meets its contract: the lines of the blocks so far are written, and the tally is theirs. Assumes nothing.
+use Rattle.std.proofs.Common.{refl, ◌+◌, [], ◌∷◌, length, arith}
+use Rattle.std.proofs.Math.ListN.{length-append}
+use Rattle.std.specs.Float.{binary32}
 use Rattle.model.specs.Blocks.{whole_blocks}
 use Rattle.model.specs.Parts.{count_limit}
 use Rattle.model.specs.Work.{block_answer}
-use Rattle.text.proofs.Pasted.{put-nothing}
-use Rattle.text.proofs.Lengths.{ends}
+use Rattle.runs.proofs.Walked.{walk_begins, block_here, block_inside, walk-on, all_walked}
+use Rattle.text.proofs.Written.{wrote-nothing, wrote-most}
 use Rattle.gaps_lines.specs.Gaps.{lines_from, tally_from}
-use Rattle.gaps_lines.proofs.Pieces.{length-line}
 use Rattle.gaps_lines.proofs.Parts.{below_less, below_more, line_step, tally-step}
-use borrow.Author.Rules.{rules}
 use Rattle.gaps_lines.proofs.part.write_blocks.Goals as goal
 
-pub loop-i-init : goal.loop-i-init
+pub loop-block-init : goal.loop-block-init
 unfolding whole_blocks lines_from tally_from
-loop-i-init c = (search rules, refl, search rules, below_less (omega arith) c.requires.1, put-nothing _ _, refl)
+loop-block-init c = let made = c.chunks_exact-block-items.ensures in
+    record {
+      walked = walk_begins c.into_iter-block-iterator.ensures.into_iter_gives made.rest made.size;
+      lines = wrote-nothing _ _;
+      tally_value = refl;
+      bound = below_less (omega arith) c.requires.1;
+    }
 
-pub write_block-written-requires : goal.write_block-written-requires
-write_block-written-requires c = let l = c.loop-i in
-    let more = c.loop-i-test.true in (
-      omega (arith, c.requires.0, l.invariant.2, l.invariant.1, more),
-      below_less (omega (arith, c.well_formed, more)) l.invariant.3,
-    )
+pub write_block-tally-requires : goal.write_block-tally-requires
+write_block-tally-requires c = let l = c.loop-block.invariant in
+    let inside = block_inside l.walked c.in-Some.block c.next.new.self c.in-Some.ensures.steps in
+    (omega (arith, c.requires.0, l.lines.most, l.lines.size, inside), below_less (omega (arith, c.well_formed, inside)) l.bound)
 
-pub loop-i-preserved : goal.loop-i-preserved
-loop-i-preserved c = let w = c.write_block-written in
-    let l = c.loop-i in
-    let a = c.args in
-    let i = l.i in
-    let x = take (512 * i + 512 - 512 * i) (drop (512 * i) a.part.now) in
-    let whole : 512 * i + 512 - 512 * i ≡ 512 = omega arith in
-    let inside : 512 * i + 512 ≤ length a.part.now = omega (arith, c.loop-i-test.true) in (
-      search rules,
-      w.auto.out ∙ l.invariant.1,
-      omega (arith, ends w.ensures.0 (length-line (l.tally.blocks + 1) x (block_answer binary32 x)), l.invariant.2),
-      rw w.ensures.1 (below_less (omega arith) (below_more (count_limit + i) l.tally (block_answer binary32 x) l.invariant.3)),
-      line_step _ _ _ _ _ whole inside l.invariant.5 l.invariant.4 w.ensures.0,
-      tally-step _ _ _ _ _ whole inside l.invariant.5 w.ensures.1,
-    )
-
-pub shape_of-out : goal.shape_of-out
-shape_of-out c = c.loop-i.invariant.1
+pub loop-block-preserved : goal.loop-block-preserved
+loop-block-preserved c =
+    let l = c.loop-block in
+    let so_far = l.invariant in
+    let i = length l.yielded in
+    let b = c.in-Some.block in
+    let s = c.in-Some.ensures.steps in
+    let here = block_here so_far.walked b c.next.new.self s in
+    let inside = block_inside so_far.walked b c.next.new.self s in
+    let written = rw here at c.write_block-tally.ensures in
+    rw (length-append l.yielded (b ∷ [])) (record {
+      walked = walk-on so_far.walked b c.next.new.self s;
+      lines = wrote-most (omega arith) (line_step _ _ _ _ inside so_far.tally_value (omega arith) so_far.lines written.line);
+      tally_value = tally-step _ _ _ _ inside so_far.tally_value written.tally_value;
+      bound = rw c.write_block-tally.ensures.tally_value (below_less (omega arith) (below_more (count_limit + i) l.tally (block_answer binary32 b.now) so_far.bound));
+    })
 
 pub returns : goal.returns
-returns c = let l = c.loop-i in
-    let done = le_antisymm c.loop-i-test.false l.invariant.0 in
-    record { put = rw done l.invariant.4; tally_value = rw done l.invariant.5; at_bound = (rw done l.invariant.2, rw done l.invariant.3) }
+returns c = let l = c.loop-block.invariant in
+    let done = all_walked l.walked c.in-None.ensures.steps in
+    record { lines = rw done at l.lines; tally_value = rw done at l.tally_value; bound = rw done at l.bound }

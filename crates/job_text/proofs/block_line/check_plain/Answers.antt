@@ -10,7 +10,7 @@ returns-then-byte-eq0 c = simp (c.check_block.ensures, ← c.byte.ensures, eq-eq
 pub returns-then-sum_of_words-eq4294967295 : goal.returns-then-sum_of_words-eq4294967295
 unfolding plain_block
 returns-then-sum_of_words-eq4294967295 c = simp (
-  c.word.ensures,
+  c.word-job.ensures,
   ← c.byte.ensures,
   ne_eqb _ _ c.if-byte-eq0.false,
   ← c.sum_of_words.ensures,

@@ -1,12 +1,9 @@
--- `job_text::block_line::put_fields` meets its contract: the words so far stand one after the other, and those left fall. Assumes nothing.
-use Rattle.std.proofs.Common.{◌≡◌, ◌+◌, ◌-◌, ◌*◌, ◌≤◌, length}
-use Rattle.text.specs.Put.{Put}
+-- `job_text::block_line::put_fields` meets its contract: the words so far are written, one after the other. Assumes nothing.
+use Rattle.std.proofs.Common.{◌*◌}
+use Rattle.text.specs.Written.{Wrote}
 use Rattle.job_text.specs.Job.{words_of}
 use Rattle.job_text.specs.Pieces.{spaced}
 use Rattle.job_text.proofs.block_line.put_fields.Given as goal
 
 abbrev pub invariant-loop-j : goal.invariant-loop-j
-invariant-loop-j l = (l.j ≤ l.n) × (length l.out ≡ length l.initial.out) × (l.to ≡ l.at + 9 * l.j) × Put l.initial.out l.at (spaced (words_of l.block l.j)) l.out l.to
-
-abbrev pub decreases-loop-j : goal.decreases-loop-j
-decreases-loop-j l = l.n - l.j
+invariant-loop-j l = Wrote (9 * l.j) l.initial.draft (spaced (words_of l.block l.j)) l.draft

@@ -1,7 +1,8 @@
 -- `job_text::block_line::put_job` meets its contract: nothing where a count is none of an outline or there is no room, else the line. Assumes nothing.
-use Rattle.std.proofs.Common.{◌+◌, ◌<◌, ◌≤◌, length, arith, le-ltb, lt-ltb}
+use Rattle.std.proofs.Common.{◌+◌, ◌<◌, ◌≤◌, length, arith, le-ltb, lt-ltb, rules}
 use Rattle.model.specs.Wire.{byte}
 use Rattle.text.proofs.Pasted.{put-nothing}
+use Rattle.text.proofs.Written.{left}
 use Rattle.job_text.proofs.block_line.put_job.Goals as goal
 
 pub returns-then-byte-gt16 : goal.returns-then-byte-gt16
@@ -45,4 +46,4 @@ returns c = let a = c.args in
     let a-most : byte b 4 ≤ 16 = omega (arith, c.if-byte-gt16.false, c.byte.ensures) in
     let b-most : byte b 5 ≤ 16 = omega (arith, c.if-byte-gt16-2.false, c.byte-2.ensures) in
     let fits : a.at + 855 ≤ length a.out.now = omega (arith, c.if-out-at.false, c.if-out-lt-LONGEST_LINE.false) in
-    rw (le-ltb 16 (byte b 4) a-most, le-ltb 16 (byte b 5) b-most, le-ltb (length a.out.now) (a.at + 855) fits) c.put_line.ensures
+    rw (le-ltb 16 (byte b 4) a-most, le-ltb 16 (byte b 5) b-most, le-ltb (length a.out.now) (a.at + 855) fits) (left c.put_line.ensures (search rules))

@@ -1,6 +1,7 @@
 -- `job_text::room::put_refusal` meets its contract: nothing where there is no room, else the refusal. Assumes nothing.
-use Rattle.std.proofs.Common.{◌+◌, ◌<◌, ◌≤◌, length, arith, le-ltb, lt-ltb}
+use Rattle.std.proofs.Common.{◌+◌, ◌<◌, ◌≤◌, length, arith, le-ltb, lt-ltb, rules}
 use Rattle.text.proofs.Pasted.{put-nothing}
+use Rattle.text.proofs.Written.{left}
 use Rattle.job_text.proofs.room.put_refusal.Goals as goal
 
 pub returns-then-err-lt-REFUSAL_ROOM : goal.returns-then-err-lt-REFUSAL_ROOM
@@ -19,4 +20,4 @@ put_both-requires c = omega (arith, c.if-err-at.false, c.if-err-lt-REFUSAL_ROOM.
 pub returns : goal.returns
 returns c = let a = c.args in
     let room : a.at + 42 ≤ length a.err.now = omega (arith, c.if-err-at.false, c.if-err-lt-REFUSAL_ROOM.false) in
-    rw (le-ltb (length a.err.now) (a.at + 42) room) c.put_both.ensures
+    rw (le-ltb (length a.err.now) (a.at + 42) room) (left c.put_both.ensures (search rules))

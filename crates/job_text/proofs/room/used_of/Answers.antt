@@ -3,7 +3,7 @@ use Rattle.std.proofs.Common.{le-ltb, lt-ltb}
 use Rattle.job_text.proofs.room.used_of.Goals as goal
 
 pub returns-then-before-lt-COUNT_LIMIT : goal.returns-then-before-lt-COUNT_LIMIT
-returns-then-before-lt-COUNT_LIMIT c = simp (c.least-then-before-lt-COUNT_LIMIT.ensures, c.least.ensures, lt-ltb _ _ c.if-before-lt-COUNT_LIMIT.true)
+returns-then-before-lt-COUNT_LIMIT c = simp (c.min-then-before-lt-COUNT_LIMIT.ensures, c.min.ensures, lt-ltb _ _ c.if-before-lt-COUNT_LIMIT.true)
 
 pub returns : goal.returns
 returns c = simp (le-ltb _ _ c.if-before-lt-COUNT_LIMIT.false)

@@ -4,7 +4,7 @@ use Rattle.list_calls64.proofs.tell.tell_distance.Goals as goal
 
 pub put_measured-requires : goal.put_measured-requires
 put_measured-requires c = let p = c.requires in
-    (p.0, p.1, simp c.in-Measured.is at p.2)
+    (p.0, p.1, simp c.in-Ok.is at p.2)
 
-pub returns-in-Measured : goal.returns-in-Measured
-returns-in-Measured c = simp c.in-Measured.is c.put_measured.ensures
+pub returns-in-Ok : goal.returns-in-Ok
+returns-in-Ok c = simp c.in-Ok.is c.put_measured.ensures

@@ -1,47 +1,19 @@
--- `apart::four_apart` meets its contract. Assumes nothing.
-use mathlib.Core.Path.{sym}
-use mathlib.Core.Bool.{true≢false}
-use borrow.Author.Rules.{rules}
-use Rattle.piece_check.proofs.Forms.{away-law, bounds0, bounds1, bounds2, bounds3}
+-- `apart::four_apart` meets its contract: each of the four forms says its part. Assumes nothing.
+use Rattle.piece_check.proofs.Forms.{away-law}
 use Rattle.piece_check.proofs.apart.four_apart.Goals as goal
+use Rattle.piece_check.proofs.apart.four_apart.Goals.{then-form_apart, else-form_apart, then-form_apart-2, else-form_apart-2}
 
-pub form_apart-f0-requires : goal.form_apart-f0-requires
-form_apart-f0-requires c = let s = c.before.before.before.before.before.before.before.before.before.before.before.before.before.before.before.before in
-    let a = s.args in
-    bounds0 a.n0 a.n1 a.a a.b a.d0 a.d2 a.k a.axs.now a.ays.now a.bxs.now a.bys.now s.requires
-
-pub returns-then-not-f0 : goal.returns-then-not-f0
-returns-then-not-f0 c = λ h. absurd (true≢false (sym h))
-
-pub form_apart-f1-requires : goal.form_apart-f1-requires
-form_apart-f1-requires c = let s = c.before.before.before.before.before.before.before.before.before.before.before.before.before.before.before.before.before.before in
-    let a = s.args in
-    bounds1 a.n0 a.n1 a.a a.b a.d0 a.d2 a.k a.axs.now a.ays.now a.bxs.now a.bys.now s.requires
-
-pub returns-then-not-f1 : goal.returns-then-not-f1
-returns-then-not-f1 c = λ h. absurd (true≢false (sym h))
-
-pub form_apart-f2-requires : goal.form_apart-f2-requires
-form_apart-f2-requires c = let s = c.before.before.before.before.before.before.before.before.before.before.before.before.before.before.before.before.before.before.before.before in
-    let a = s.args in
-    bounds2 a.n0 a.n1 a.a a.b a.d0 a.d2 a.k a.axs.now a.ays.now a.bxs.now a.bys.now s.requires
-
-pub returns-then-not-f2 : goal.returns-then-not-f2
-returns-then-not-f2 c = λ h. absurd (true≢false (sym h))
-
-pub form_apart-requires : goal.form_apart-requires
-form_apart-requires c = let s = c.before.before.before.before.before.before.before.before.before.before.before.before.before.before.before.before.before.before.before.before.before.before in
-    let a = s.args in
-    bounds3 a.n0 a.n1 a.a a.b a.d0 a.d2 a.k a.axs.now a.ays.now a.bxs.now a.bys.now s.requires
-
-pub returns : goal.returns
-returns c = λ h.
+pub returns-then-form_apart-3 : goal.returns-then-form_apart-3
+returns-then-form_apart-3 c =
     let a = c.args in
-    let e3 = c.before in
-    let e2 = e3.before.before in
-    let e1 = e2.before.before in
-    away-law a.n0 a.n1 a.a a.b a.d0 a.d2 a.k a.axs.now a.ays.now a.bxs.now a.bys.now
-    (e1.form_apart-f0.ensures e1.if-not-f0.false)
-    (e2.form_apart-f1.ensures e2.if-not-f1.false)
-    (e3.form_apart-f2.ensures e3.if-not-f2.false)
-    (c.form_apart.ensures h)
+    elim c.if-form_apart-2.branch [
+      | then-form_apart-2 v ↦ elim c.if-form_apart.branch [
+        | then-form_apart w ↦ λ h. away-law a.n0 a.n1 a.a a.b a.d0 a.d2 a.k a.on.a.xs.now a.on.a.ys.now a.on.b.xs.now a.on.b.ys.now
+            (c.form_apart.ensures w.if-form_apart.true)
+            (w.form_apart-then-form_apart.ensures cc)
+            (v.form_apart-then-form_apart-2.ensures cc)
+            (c.form_apart-then-form_apart-3.ensures h)
+        | else-form_apart w ↦ λ h. absurd cc
+      ]
+      | else-form_apart-2 v ↦ λ h. absurd cc
+    ]

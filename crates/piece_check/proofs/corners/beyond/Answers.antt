@@ -1,6 +1,5 @@
 -- `corners::beyond` meets its contract. Assumes nothing.
 use native.Mathlib.Omega.{arith}
-use borrow.Author.Rules.{rules}
 use borrow.Author.Tests.{ltb-true}
 use Rattle.piece_check.proofs.corners.beyond.Goals as goal
 

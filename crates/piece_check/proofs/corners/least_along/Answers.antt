@@ -1,6 +1,5 @@
 -- `corners::least_along` meets its contract. Assumes nothing.
 use native.Mathlib.Omega.{arith}
-use borrow.Author.Rules.{rules}
 use Rattle.integers.specs.Signed.{◌⊠◌}
 use Rattle.piece_check.proofs.corners.least_along.Goals as goal
 

@@ -1,7 +1,6 @@
 -- Both squares are compared as the numbers that they are. Assumes nothing.
 use native.Mathlib.Omega.{arith}
 use borrow.Author.Tests.{leb-true}
-use borrow.Author.Rules.{rules}
 use Rattle.piece_check.proofs.fits.corner_inside.Goals as goal
 
 pub returns : goal.returns

@@ -1,7 +1,6 @@
 -- The products are atoms; 2^29 times the weights comes to 2^57. Assumes nothing.
 use native.Mathlib.Omega.{arith}
 use Rattle.integers.specs.Signed.{◌⊠◌}
-use borrow.Author.Rules.{rules}
 use Rattle.piece_check.proofs.touch.weighted_part.Goals as goal
 
 pub returns-then-q-lt536870912 : goal.returns-then-q-lt536870912

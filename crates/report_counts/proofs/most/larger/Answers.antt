@@ -3,18 +3,18 @@ use Rattle.std.proofs.Common.{le-ltb, lt-ltb}
 use Rattle.report_counts.specs.Largest.{larger}
 use Rattle.report_counts.proofs.most.larger.Goals as goal
 
-pub returns-in-Nowhere : goal.returns-in-Nowhere
+pub returns-in-None : goal.returns-in-None
 unfolding larger
-returns-in-Nowhere c = simp c.in-Nowhere.is
+returns-in-None c = simp c.in-None.is
 
-pub returns-in-Nowhere-b : goal.returns-in-Nowhere-b
+pub returns-in-None-b : goal.returns-in-None-b
 unfolding larger
-returns-in-Nowhere-b c = simp (c.in-Nowhere-b.is, c.in-At.is)
+returns-in-None-b c = simp (c.in-None-b.is, c.in-Some.is)
 
-pub returns-then-n-m : goal.returns-then-n-m
+pub returns-then-s-t : goal.returns-then-s-t
 unfolding larger
-returns-then-n-m c = simp (c.in-At-b.is, c.in-At.is, lt-ltb _ _ c.if-n-m.true)
+returns-then-s-t c = simp (c.in-Some-b.is, c.in-Some.is, lt-ltb _ _ c.if-s-t.true)
 
-pub returns-else-n-m : goal.returns-else-n-m
+pub returns-else-s-t : goal.returns-else-s-t
 unfolding larger
-returns-else-n-m c = simp (c.in-At-b.is, c.in-At.is, le-ltb _ _ c.if-n-m.false)
+returns-else-s-t c = simp (c.in-Some-b.is, c.in-Some.is, le-ltb _ _ c.if-s-t.false)

@@ -2,10 +2,10 @@
 use Rattle.report_counts.specs.Largest.{moved}
 use Rattle.report_counts.proofs.most.moved.Goals as goal
 
-pub returns-in-Nowhere : goal.returns-in-Nowhere
+pub returns-in-None : goal.returns-in-None
 unfolding moved
-returns-in-Nowhere c = simp c.in-Nowhere.is
+returns-in-None c = simp c.in-None.is
 
-pub returns-in-At : goal.returns-in-At
+pub returns-in-Some : goal.returns-in-Some
 unfolding moved
-returns-in-At c = simp (c.wrapping_add_u64.ensures.value, c.in-At.is)
+returns-in-Some c = simp (c.seen_at.ensures, c.wrapping_add_u64.ensures.value, c.in-Some.is)

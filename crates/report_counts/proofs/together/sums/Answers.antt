@@ -7,10 +7,10 @@ pub loop-i-preserved : goal.loop-i-preserved
 loop-i-preserved c = let l = c.loop-i in
     let a = c.args in
     let same : length a.a ≡ length a.b = search rules in
-    (search rules, search rules, one_more a.a a.b same l.both l.i _ (search rules) l.invariant.2 c.wrapping_add_u64.ensures.value)
+    (search rules, one_more a.a a.b same l.both l.i _ (search rules) l.invariant.1 c.wrapping_add_u64.ensures.value)
 
 pub returns : goal.returns
 returns c = let l = c.loop-i in
     let a = c.args in
     let same : length a.a ≡ length a.b = search rules in
-    all-summed a.a a.b same l.both l.i (search rules) l.invariant.2
+    all-summed a.a a.b same l.both l.i (search rules) l.invariant.1

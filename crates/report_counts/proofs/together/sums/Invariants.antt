@@ -4,7 +4,4 @@ use Rattle.report_counts.specs.Report.{sums}
 use Rattle.report_counts.proofs.together.sums.Given as goal
 
 abbrev pub invariant-loop-i : goal.invariant-loop-i
-invariant-loop-i l = (l.i ≤ 28) × (length l.both ≡ 28) × (l.both ≡ take l.i (sums l.initial.both l.b) ++ drop l.i l.initial.both)
-
-abbrev pub decreases-loop-i : goal.decreases-loop-i
-decreases-loop-i l = 28 - l.i
+invariant-loop-i l = (length l.both ≡ 28) × (l.both ≡ take l.i (sums l.fn.a l.fn.b) ++ drop l.i l.fn.a)

@@ -1,8 +1,7 @@
 -- `rooms_block::room::keeps` meets its contract: where the answer is clear, the room is kept. Assumes nothing.
 use mathlib.Core.Path.{sym, ◌∙◌}
 use Rattle.rooms_block.proofs.Laws.{kept}
-use borrow.Author.Rules.{rules}
 use Rattle.rooms_block.proofs.room.keeps.Goals as goal
 
 pub returns : goal.returns
-returns c = λ e. kept _ _ _ _ c.look-answer.result c.look-answer.ensures (sym c.is_clear.ensures ∙ e)
+returns c = λ e. kept _ _ _ _ c.look.result c.look.ensures (sym c.is_clear.ensures ∙ e)

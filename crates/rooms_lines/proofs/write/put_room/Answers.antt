@@ -1,13 +1,11 @@
 -- `rooms_lines::write::put_room` meets its contract, by whether there is a room. Assumes nothing.
-use Rattle.text.proofs.Lengths.{roomy}
+use native.Mathlib.Omega.{arith}
+use Rattle.text.proofs.Written.{there, wrote-most}
 use Rattle.rooms_lines.proofs.Pieces.{room-is, no-room-is}
-use borrow.Author.Rules.{rules}
 use Rattle.rooms_lines.proofs.write.put_room.Goals as goal
 
-pub returns-then-clear : goal.returns-then-clear
-returns-then-clear c = let p = c.before.before in
-    let start = p.before.before.before in
-    rw (start.if-clear.true, room-is _) (rw p.to_bits.ensures at (roomy 9 p.put_hex.ensures start.requires))
+pub returns-in-Some : goal.returns-in-Some
+returns-in-Some c = rw (c.in-Some.is, room-is _) (rw c.to_bits.ensures at (there 9 c.put_hex.ensures c.requires))
 
-pub returns : goal.returns
-returns c = let p = c.before.before in rw (p.if-clear.false, no-room-is _) p.put.ensures
+pub returns-in-None : goal.returns-in-None
+returns-in-None c = rw (c.in-None.is, no-room-is) (wrote-most (omega arith) (there 2 c.put.ensures (omega arith)))

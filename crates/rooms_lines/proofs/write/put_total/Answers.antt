@@ -1,9 +1,8 @@
 -- `rooms_lines::write::put_total` meets its contract: its pieces, one after the other. Assumes nothing.
-use Rattle.text.proofs.Pasted.{put_then}
+use native.Mathlib.Omega.{arith}
+use Rattle.text.proofs.Written.{there, wrote-then, wrote-most}
 use Rattle.rooms_lines.proofs.Pieces.{total-is}
-use borrow.Author.Rules.{rules}
 use Rattle.rooms_lines.proofs.write.put_total.Goals as goal
 
 pub returns : goal.returns
-returns c = let q = c.before.before in
-    rw (total-is _) (put_then (search rules) q.put-e1.ensures q.put_two.ensures)
+returns c = rw (total-is _) (wrote-most (omega arith) (wrote-then (omega arith) (there 6 c.put.ensures (omega arith)) c.put_two.ensures))

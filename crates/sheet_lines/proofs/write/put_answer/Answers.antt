@@ -1,9 +1,11 @@
 -- `sheet_lines::write::put_answer` meets its contract, case by case. Assumes nothing.
+use native.Mathlib.Omega.{arith}
+use Rattle.text.proofs.Written.{wrote-most}
 use Rattle.sheet_lines.proofs.Pieces.{refused-is}
 use Rattle.sheet_lines.proofs.write.put_answer.Goals as goal
 
-pub returns-in-Worked : goal.returns-in-Worked
-returns-in-Worked c = rw c.in-Worked.is c.put_worked.ensures
+pub returns-in-Ok : goal.returns-in-Ok
+returns-in-Ok c = rw c.in-Ok.is c.put_worked.ensures
 
-pub returns-in-Refused : goal.returns-in-Refused
-returns-in-Refused c = rw (c.in-Refused.is, refused-is) c.put_three.ensures
+pub returns-in-Err : goal.returns-in-Err
+returns-in-Err c = rw (c.in-Err.is, refused-is) (wrote-most (omega arith) c.put_three.ensures)

@@ -1,48 +1,32 @@
 -- Written by tests/written/wide.py from sheet_lines, in f64.
--- `sheet_lines::part::write_blocks` meets its contract: the lines of the blocks so far stand at the start, the totals are theirs, and the blocks left fall. Assumes nothing.
-use borrow.Author.Rules.{rules}
+-- `sheet_lines::part::write_blocks` meets its contract: the lines of the blocks so far are written, and the totals are theirs. Assumes nothing.
+use mathlib.Core.Path.{◌≡◌, refl}
 use Prim.Native.Nat.{◌+◌, ◌*◌, ◌-◌}
-use mathlib.Core.Path.{◌≡◌, refl, ◌∙◌}
 use native.Mathlib.Omega.{arith}
-use native.Mathlib.Nat.{le_antisymm}
 use Rattle.model.specs.Blocks.{whole_blocks}
 use Rattle.model64.specs.Sheet.{lines_from, totals_from}
 use Rattle.model.specs.Parts.{count_limit}
-use Rattle.text.proofs.Pasted.{put-nothing}
-use Rattle.text.proofs.Lengths.{ends}
-use Rattle.sheet_lines64.proofs.Pieces.{length-line}
+use Rattle.text.proofs.Written.{wrote-nothing, wrote-most}
 use Rattle.sheet_lines64.proofs.Parts.{below_less, below_more, line_step, totals-step}
 use Rattle.sheet_lines64.proofs.part.write_blocks.Goals as goal
 
 pub loop-i-init : goal.loop-i-init
 unfolding whole_blocks lines_from totals_from
-loop-i-init c = (search rules, refl, search rules, below_less (omega arith) c.requires.1, put-nothing _ _, refl)
+loop-i-init c = record { lines = wrote-nothing _ _; totals_value = refl; bound = below_less (omega arith) c.requires.1 }
 
-pub write_answer-written-requires : goal.write_answer-written-requires
-write_answer-written-requires c = let l = c.loop-i in (
-  omega (arith, c.requires.0, l.invariant.2, l.invariant.1, c.loop-i-test.true),
-  below_less (omega (arith, c.well_formed, c.loop-i-test.true)) l.invariant.3,
-)
+pub write_answer-totals-requires : goal.write_answer-totals-requires
+write_answer-totals-requires c = let l = c.loop-i in
+    (omega (arith, c.requires.0, l.invariant.lines.most, l.invariant.lines.size), below_less (omega arith) l.invariant.bound)
 
 pub loop-i-preserved : goal.loop-i-preserved
-loop-i-preserved c = let w = c.write_answer-written in
+loop-i-preserved c =
     let l = c.loop-i in
-    let x = c.answer_block-answer.ensures in
-    let answer = c.answer_block-answer.result in
-    let i = l.i in
-    let whole : 512 * i + 512 - 512 * i ≡ 512 = omega arith in (
-      search rules,
-      w.auto.out ∙ l.invariant.1,
-      omega (arith, ends w.ensures.0 (length-line (l.totals.blocks + 1) answer), l.invariant.2),
-      rw w.ensures.1 (below_less (omega arith) (below_more (count_limit + i) l.totals answer l.invariant.3)),
-      line_step _ _ _ _ _ whole l.invariant.5 _ x l.invariant.4 w.ensures.0,
-      totals-step _ _ _ _ _ whole l.invariant.5 _ x w.ensures.1,
-    )
-
-pub shape_of-out : goal.shape_of-out
-shape_of-out c = c.loop-i.invariant.1
-
-pub returns : goal.returns
-returns c = let l = c.loop-i in
-    let done = le_antisymm c.loop-i-test.false l.invariant.0 in
-    record { put = rw done l.invariant.4; totals_value = rw done l.invariant.5; at_bound = (rw done l.invariant.2, rw done l.invariant.3) }
+    let w = c.write_answer-totals.ensures in
+    let x = c.answer_block-answer in
+    let whole : 512 * l.i + 512 - 512 * l.i ≡ 512 = omega arith in
+    let so_far = l.invariant.totals_value in
+    record {
+      lines = wrote-most (omega arith) (line_step _ _ _ _ _ whole so_far _ x.ensures (omega arith) l.invariant.lines w.line);
+      totals_value = totals-step _ _ _ _ _ whole so_far _ x.ensures w.totals_value;
+      bound = rw w.totals_value (below_less (omega arith) (below_more (count_limit + l.i) l.totals x.result l.invariant.bound));
+    }

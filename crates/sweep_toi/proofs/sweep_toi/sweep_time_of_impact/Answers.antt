@@ -13,32 +13,32 @@ pub returns-in_default-sweeps : goal.returns-in_default-sweeps
 returns-in_default-sweeps c =
     c.refused-in_default-sweeps.ensures
     ∙ sweeps-refused binary32 _ _ _ _ _ _ _ _
-    _ c.check_pair-pair.ensures c.in-Passed.is
+    _ c.check_pair-pair.ensures c.in-Ok.is
     _ c.check_sweeps-sweeps.ensures _ c.in_default-sweeps.is _ c.refusal-in_default-sweeps.ensures
 
 pub returns-in_default-fraction : goal.returns-in_default-fraction
 returns-in_default-fraction c =
     c.refused-in_default-fraction.ensures
     ∙ fraction-refused binary32 _ _ _ _ _ _ _ _
-    _ c.check_pair-pair.ensures c.in-Passed.is
-    _ c.check_sweeps-sweeps.ensures c.in-Passed-sweeps.is
+    _ c.check_pair-pair.ensures c.in-Ok.is
+    _ c.check_sweeps-sweeps.ensures c.in-Ok-sweeps.is
     _ c.check_fraction-fraction.ensures _ c.in_default-fraction.is _ c.refusal-in_default-fraction.ensures
 
 pub returns-in_default-slop : goal.returns-in_default-slop
 returns-in_default-slop c =
     c.refused-in_default-slop.ensures
     ∙ slop-refused binary32 _ _ _ _ _ _ _ _
-    _ c.check_pair-pair.ensures c.in-Passed.is
-    _ c.check_sweeps-sweeps.ensures c.in-Passed-sweeps.is
-    _ c.check_fraction-fraction.ensures c.in-Passed-fraction.is
+    _ c.check_pair-pair.ensures c.in-Ok.is
+    _ c.check_sweeps-sweeps.ensures c.in-Ok-sweeps.is
+    _ c.check_fraction-fraction.ensures c.in-Ok-fraction.is
     _ c.check_slop-slop.ensures _ c.in_default-slop.is _ c.refusal-in_default-slop.ensures
 
 pub returns : goal.returns
 returns c =
     c.advance.ensures
     ∙ all-passed binary32 _ _ _ _ _ _ _ _
-    _ c.check_pair-pair.ensures c.in-Passed.is
-    _ c.check_sweeps-sweeps.ensures c.in-Passed-sweeps.is
-    _ c.check_fraction-fraction.ensures c.in-Passed-fraction.is
-    _ c.check_slop-slop.ensures c.in-Passed-slop.is
+    _ c.check_pair-pair.ensures c.in-Ok.is
+    _ c.check_sweeps-sweeps.ensures c.in-Ok-sweeps.is
+    _ c.check_fraction-fraction.ensures c.in-Ok-fraction.is
+    _ c.check_slop-slop.ensures c.in-Ok-slop.is
     _ c.sweep_task-task.ensures

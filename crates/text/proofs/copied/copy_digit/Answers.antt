@@ -5,7 +5,6 @@ use mathlib.Core.List.{[], ◌∷◌}
 use lib.ListN.{length-set}
 use Rattle.text.proofs.Pasted.{put_then, put_byte}
 use Rattle.text.proofs.Digits.{one-digit}
-use borrow.Author.Rules.{rules}
 use Rattle.text.proofs.copied.copy_digit.Goals as goal
 
 pub bounds-out-last : goal.bounds-out-last

@@ -1,5 +1,5 @@
 -- `text::put::put_hex` meets its contract: nothing where there is no room, else the digits and their end. Assumes nothing.
-use mathlib.Core.Path.{◌≡◌, sym, ◌∙◌}
+use mathlib.Core.Path.{sym, ◌∙◌}
 use Prim.Native.Nat.{◌+◌}
 use lib.ListN.{length}
 use borrow.Author.Tests.{ltb-false}

@@ -1,8 +1,7 @@
 -- `text::put::put_text` meets its contract: nothing where there is no room, else the text. Assumes nothing.
-use mathlib.Core.Path.{◌≡◌, sym, ◌∙◌}
+use mathlib.Core.Path.{sym, ◌∙◌}
 use borrow.Author.Tests.{ltb-false}
 use Rattle.text.proofs.Pasted.{put-nothing}
-use borrow.Author.Rules.{rules}
 use Rattle.text.proofs.put.put_text.Goals as goal
 
 pub returns-then-lacks : goal.returns-then-lacks

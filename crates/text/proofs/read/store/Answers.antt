@@ -1,8 +1,7 @@
 -- `text::read::store` meets its contract: a place past the end stores nothing, in the list as in the code. Assumes nothing.
-use mathlib.Core.Path.{◌≡◌, sym, ◌∙◌}
+use mathlib.Core.Path.{sym}
 use borrow.Author.Tests.{lt-ltb, le-ltb}
 use lib.Seq.{set_out}
-use borrow.Author.Rules.{rules}
 use Rattle.text.proofs.read.store.Goals as goal
 
 pub returns-then-x-ge48 : goal.returns-then-x-ge48

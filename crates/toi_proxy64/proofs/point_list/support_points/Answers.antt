@@ -1,25 +1,19 @@
 -- Written by tests/written/wide.py from toi_proxy, in f64.
--- `support_points` meets its contract: `point_at` reads the points, `take` takes them, and `answer` ends. Assumes nothing.
+-- `support_points` meets its contract: `take` takes the points, and `answer` ends. Assumes nothing.
 use mathlib.Core.Path.{refl, sym, ◌∙◌}
-use native.Mathlib.Omega.{arith}
 use lib.Ieee.{binary64}
 use Rattle.toi_proxy64.proofs.PointLaws.{goes_on, finishes}
 use Rattle.toi_proxy64.proofs.point_list.support_points.Goals as goal
 
 pub loop-i-init : goal.loop-i-init
-loop-i-init c = (omega arith, refl)
+loop-i-init c = refl
 
 pub loop-i-preserved : goal.loop-i-preserved
 loop-i-preserved c =
-    let l = c.loop-i in (
-      omega arith,
-      rw (c.take-s.ensures, c.point_at-p.ensures) (
-          sym (goes_on binary64 c.args.direction c.args.points.now l.i l.s c.loop-i-test.true) ∙ l.invariant.1
-          ),
-    )
+    let l = c.loop-i in
+    rw c.take-s.ensures (sym (goes_on binary64 c.args.direction c.args.points.now l.i l.s c.loop-i-test.true) ∙ l.invariant)
 
 pub returns : goal.returns
 returns c =
     let l = c.loop-i in
-    c.answer.ensures
-    ∙ finishes binary64 c.args.direction c.args.points.now l.i l.s l.invariant.0 c.loop-i-test.false l.invariant.1
+    c.answer.ensures ∙ finishes binary64 c.args.direction c.args.points.now l.i l.s c.loop-i-test.false l.invariant

@@ -1,6 +1,0 @@
--- Written by tests/written/wide.py from domain, in f64.
--- `bad::bad_rotation` meets its contract, by what `abs` ensures. Assumes nothing.
-use Rattle.domain64.proofs.bad.bad_rotation.Goals as goal
-
-pub returns : goal.returns
-returns c = simp (c.abs-2.ensures, c.abs.ensures)

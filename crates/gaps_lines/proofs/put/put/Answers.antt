@@ -1,7 +1,0 @@
--- `gaps_lines::put::put` meets its contract: there is room. Assumes nothing.
-use lib.ListN.{length}
-use Rattle.text.proofs.Lengths.{roomy}
-use Rattle.gaps_lines.proofs.put.put.Goals as goal
-
-pub returns : goal.returns
-returns c = roomy (length c.args.text.now) c.put_text.ensures c.requires

@@ -1,9 +1,0 @@
--- `report_batches::least` meets its contract, case by case. Assumes nothing.
-use borrow.Author.Tests.{lt-ltb, le-ltb}
-use Rattle.report_batches.proofs.least.Goals as goal
-
-pub returns-then-a-b : goal.returns-then-a-b
-returns-then-a-b c = simp (lt-ltb _ _ c.if-a-b.true)
-
-pub returns-else-a-b : goal.returns-else-a-b
-returns-else-a-b c = simp (le-ltb _ _ c.if-a-b.false)

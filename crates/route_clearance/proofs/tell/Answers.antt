@@ -1,0 +1,10 @@
+-- What was written ends within the room for it.
+use Rattle.std.proofs.Common.{arith}
+use Rattle.text.proofs.Ends.{prefix}
+use Rattle.route_clearance.proofs.tell.Goals as goal
+
+pub slice_bounds-text-end : goal.slice_bounds-text-end
+slice_bounds-text-end g c = (prefix (c.write_answer-n.ensures.room (omega arith)).bytes c.write_answer-n.auto.out).0
+
+pub slice_bounds-write_to_output-end : goal.slice_bounds-write_to_output-end
+slice_bounds-write_to_output-end g c = (prefix (c.write_answer-n.ensures.room (omega arith)).bytes c.write_answer-n.auto.out).1

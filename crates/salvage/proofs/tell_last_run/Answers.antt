@@ -1,0 +1,9 @@
+-- What was written ends within the room for it.
+use Rattle.text.proofs.Ends.{prefix}
+use Rattle.salvage.proofs.tell_last_run.Goals as goal
+
+pub slice_bounds-text-end : goal.slice_bounds-text-end
+slice_bounds-text-end g c = (prefix c.tell_last_run-n.ensures c.tell_last_run-n.auto.text).0
+
+pub slice_bounds-write_to_output-end : goal.slice_bounds-write_to_output-end
+slice_bounds-write_to_output-end g c = (prefix c.tell_last_run-n.ensures c.tell_last_run-n.auto.text).1

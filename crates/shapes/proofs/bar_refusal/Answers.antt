@@ -1,8 +1,0 @@
--- `bar_refusal` meets its contract, by its test and what `bad_vector` ensures. Assumes nothing.
-use Rattle.shapes.proofs.bar_refusal.Goals as goal
-
-pub returns-then-bad_vector : goal.returns-then-bad_vector
-returns-then-bad_vector c = simp (rw (c.bad_vector-2.ensures, c.bad_vector.ensures) at c.if-bad_vector.true)
-
-pub returns-else-bad_vector : goal.returns-else-bad_vector
-returns-else-bad_vector c = simp (rw (c.bad_vector-2.ensures, c.bad_vector.ensures) at c.if-bad_vector.false)

@@ -1,8 +1,0 @@
--- `plate_refusal` meets its contract, by its test and what `bad_vector` ensures. Assumes nothing.
-use Rattle.shapes.proofs.plate_refusal.Goals as goal
-
-pub returns-then-bad_vector-half_x : goal.returns-then-bad_vector-half_x
-returns-then-bad_vector-half_x c = simp (rw c.bad_vector.ensures at c.if-bad_vector-half_x.true)
-
-pub returns-else-bad_vector-half_x : goal.returns-else-bad_vector-half_x
-returns-else-bad_vector-half_x c = simp (rw c.bad_vector.ensures at c.if-bad_vector-half_x.false)
