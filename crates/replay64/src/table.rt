@@ -6,7 +6,8 @@ use crate::{distances, operations, sweeps};
 use replay_rows::{Counts, RowShape, Width, Words};
 
 fn shape(size: usize, kind: usize, answer: usize, words: usize) -> RowShape
-    requires { (1 ≤ size) × (answer ≤ 65536) × (words ≤ 40) }
+    requires { 1 ≤ size }
+    ensures { 1 ≤ result.size }
 {
     RowShape {
         size,
@@ -18,7 +19,9 @@ fn shape(size: usize, kind: usize, answer: usize, words: usize) -> RowShape
 }
 
 // What the rows of a table are like. Of an unknown table no part has a row.
-fn shape_of(table: u32) -> RowShape {
+fn shape_of(table: u32) -> RowShape
+    ensures { 1 ≤ result.size }
+{
     match table {
         1 => shape(128, 0, 72, 4),
         2 => shape(160, 24, 24, 17),

@@ -5,7 +5,8 @@ use crate::{blocks, conversions, first_contacts, packed, reports, routes, salvag
 use replay_rows::{Counts, RowShape, Width, Words};
 
 fn shape(size: usize, kind: usize, answer: usize, words: usize) -> RowShape
-    requires { (1 ≤ size) × (answer ≤ 65536) × (words ≤ 40) }
+    requires { 1 ≤ size }
+    ensures { 1 ≤ result.size }
 {
     RowShape {
         size,
@@ -17,7 +18,9 @@ fn shape(size: usize, kind: usize, answer: usize, words: usize) -> RowShape
 }
 
 // What the rows of a table are like; those of a program's cases are all alike. Of an unknown table no part has a row.
-fn shape_of(table: u32) -> RowShape {
+fn shape_of(table: u32) -> RowShape
+    ensures { 1 ≤ result.size }
+{
     match table {
         4 => shape(672, 668, 512, 40),
         5 => shape(4644, 0, 12, 6),

@@ -27,9 +27,6 @@ pub struct RowShape {
     pub answer: usize,
     pub words: usize,
     pub width: Width,
-    ghost sized: { 1 ≤ size },
-    ghost within: { answer ≤ 65536 },
-    ghost fits: { words ≤ 40 },
 }
 
 // Floats stand by their patterns; unused words are 0.
@@ -83,7 +80,7 @@ pub fn long(bytes: &[u8], k: usize) -> u64 {
 
 // Word i of a row's stored answer.
 fn stored(row: &[u8], shape: RowShape, i: usize) -> u64
-    requires { i < 40 }
+    requires { (i < 40) × (shape.answer ≤ 65536) }
 {
     match shape.width {
         Width::Long => long(row, shape.answer + 8 * i),
@@ -93,6 +90,12 @@ fn stored(row: &[u8], shape: RowShape, i: usize) -> u64
 
 // Whether the words are not those of the row's stored answer, the first one of it changed by spoil.
 pub fn differ(words: &Words, shape: RowShape, row: &[u8], spoil: u64) -> bool {
+    if shape.words > 40 {
+        return true;
+    }
+    if shape.answer > 65536 {
+        return true;
+    }
     let mut same = stored(row, shape, 0).wrapping_add(spoil) == words[0];
     for i in 1..shape.words {
         same = same & (stored(row, shape, i) == words[i]);

@@ -62,8 +62,11 @@ fn next_part<R: Read, W: Write, E: Write, F: Write>(
     if left > buffer.len() {
         return Err(Stopped::Told);
     }
-    let read = streams::read_part(input, &mut buffer[left..]);
-    let count = left + streams::told(err, b"standard input", read)?.len();
+    let filled = streams::fill_from_input(input, err, &mut buffer[left..]);
+    if filled.failed.is_some() {
+        return Err(Stopped::Told);
+    }
+    let count = left + filled.count;
     write_part(out, err, name, to, buffer, count, turn.walk)
 }
 

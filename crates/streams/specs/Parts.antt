@@ -7,11 +7,13 @@ use Rattle.std.specs.declared.ops.ControlFlow.{ControlFlow}
 use Rattle.std.specs.declared.ops.ControlFlow.TheVariants.{Continue, Break}
 use denote.Ref.{Bor}
 
--- A part that was read into room for so many bytes: the next of the known ones, and less than there is room for only at their end. A failed read may lose some.
+-- A part that was read into room for so many bytes: the next of the known ones, and less than there is room for only at their end. A failed read may lose some, no
+-- more than there is room for.
 pub record IsNextPart {E : Type 0} (room : ℕ) (known known' : Option (List ℕ)) (part : Result (Bor (List ℕ)) E) : Type 0 where
   pub bytes : List ℕ
   pub consumed : Consumes known known' bytes
-  pub shown : MatchResult part (λ p. (p.now ≡ bytes) × (length bytes ≤ room) × (length bytes < room → IsAtEnd known')) (λ _. ⊤)
+  pub within : length bytes ≤ room
+  pub shown : MatchResult part (λ p. (p.now ≡ bytes) × (length bytes < room → IsAtEnd known')) (λ _. ⊤)
 
 module _ {F E B X : Type 0} (g : Mut F (Result (Bor (List ℕ)) E × Unit {0}) (Result (ControlFlow B Unit) X)) (room : ℕ) where
   -- a part was read, and the closure called at it gave r

@@ -53,6 +53,20 @@ pub fn fill<R: Read>(reader: &mut R, buf: &mut [u8]) -> Filled
     }
 }
 
+// The same from standard input, a failed read told; the bytes before it stand in the buffer.
+pub fn fill_from_input<R: Read, E: Write>(input: &mut R, err: &mut E, buf: &mut [u8]) -> Filled
+    ensures count { IsPrefixLen result.count buf.new }
+    ensures bytes { Consumes (R.remaining input.old) (R.remaining input.new) (take result.count buf.new) }
+    ensures end { IsNone result.failed → result.count < length buf.new → IsAtEnd (R.remaining input.new) }
+    ensures quiet { IsNone result.failed → err.new ≡ err.old }
+{
+    let filled = fill(input, buf);
+    if let Some(failure) = filled.failed {
+        tell_failure(err, b"standard input", failure);
+    }
+    filled
+}
+
 // Reads the next part into the buffer, as much as there is room for, or less at the input's end.
 pub fn read_part<'a, R: Read>(input: &mut R, buffer: &'a mut [u8]) -> std::io::Result<&'a [u8]>
     ensures { IsNextPart (length buffer.old) (R.remaining input.old) (R.remaining input.new) result }
